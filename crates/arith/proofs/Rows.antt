@@ -1,0 +1,51 @@
+-- Laws of upTo: its length, its elements, and a loop that fills a list from the front, one store a turn.
+-- Assumes nothing.
+use Prim.Native.Nat.{ℕ, zero, suc, _+_, _-_, _<_, _≤_}
+use native.Mathlib.Nat.{eq-or-lt-of-le, le-of-suc-le-suc, not-suc-le-zero, sub-zero, zero-sub, suc-sub-suc}
+use native.Mathlib.Numerals.{add-one}
+use mathlib.Core.Path.{_≡_, refl, sym, ap, subst, _∙_}
+use mathlib.Core.Logic.{⊎-elim}
+use mathlib.Core.List.{List, [], _∷_, _++_, append-assoc, append-nil}
+use lib.ListN.{length, getD, set, drop, replicate, length-append, List·getD-append, drop-of-length-le}
+use lib.Seq.{set-at, getD-at, drop-cons, ext-getD}
+use Rattle.arith.specs.Row.{upTo}
+
+module _ {A : Type 0} (f : ℕ → A) where
+  pub length-upTo : (k : ℕ) → length (upTo f k) ≡ k
+  length-upTo zero = refl
+  length-upTo (suc k) = length-append (upTo f k) (f k ∷ []) ∙ ap (λ (n : ℕ). n + 1) (length-upTo k) ∙ add-one k
+
+  pub getD-upTo : (k i : ℕ) (d : A) → i < k → getD (upTo f k) i d ≡ f i
+  getD-upTo zero i d h = absurd (not-suc-le-zero h)
+  getD-upTo (suc k) i d h =
+      ⊎-elim
+      (λ e. subst (λ (n : ℕ). getD (upTo f k ++ (f k ∷ [])) n d ≡ f n) (sym e) (getD-at (upTo f k) (f k) [] d k (length-upTo k)))
+      (λ l. List·getD-append (upTo f k) (f k ∷ []) d i (subst (λ (n : ℕ). i < n) (sym (length-upTo k)) l) ∙ getD-upTo k i d l)
+      (eq-or-lt-of-le (le-of-suc-le-suc h))
+
+  -- a store of f i at place i, where those before are stored: the loop's turn
+  pub fill-more : (xs : List A) (i : ℕ) (d : A) → i < length xs → set (upTo f i ++ drop i xs) i (f i) ≡ upTo f (i + 1) ++ drop (i + 1) xs
+  fill-more xs i d h =
+      rw (add-one i, drop-cons xs i d h, set-at (upTo f i) (getD xs i d) (drop (suc i) xs) (f i) i (length-upTo i))
+      (sym (append-assoc (upTo f i) (f i ∷ []) (drop (suc i) xs)))
+
+  -- a list whose elements are those of f is upTo f
+  pub is-upTo : (k : ℕ) (d : A) (xs : List A) → length xs ≡ k → ((i : ℕ) → i < k → getD xs i d ≡ f i) → xs ≡ upTo f k
+  is-upTo k d xs e h =
+      ext-getD d xs (upTo f k) (e ∙ sym (length-upTo k))
+      (λ i l. let b : i < k = subst (λ (n : ℕ). i < n) e l in h i b ∙ sym (getD-upTo k i d b))
+
+  -- the same as a loop's turn has it: the list so far is ys, and a is stored
+  pub fill-turn : (xs ys : List A) (i : ℕ) (a d : A) → ys ≡ upTo f i ++ drop i xs → a ≡ f i → i < length xs → set ys i a ≡ upTo f (i + 1) ++ drop (i + 1) xs
+  fill-turn xs ys i a d p q h = rw (p, q) (fill-more xs i d h)
+
+  -- after the last turn
+  pub fill-done : (xs ys : List A) (i k : ℕ) → ys ≡ upTo f i ++ drop i xs → i ≡ k → length xs ≤ k → ys ≡ upTo f k
+  fill-done xs ys i k p e h =
+      p ∙ ap (λ (n : ℕ). upTo f n ++ drop n xs) e ∙ ap (λ (l : List A). upTo f k ++ l) (drop-of-length-le xs h) ∙ append-nil (upTo f k)
+
+pub drop-replicate : {A : Type 0} (n k : ℕ) (a : A) → drop k (replicate n a) ≡ replicate (n - k) a
+drop-replicate zero zero a = refl
+drop-replicate zero (suc k) a = ap (λ (m : ℕ). replicate m a) (sym (zero-sub (suc k)))
+drop-replicate (suc n) zero a = ap (λ (m : ℕ). replicate m a) (sym (sub-zero (suc n)))
+drop-replicate (suc n) (suc k) a = drop-replicate n k a ∙ ap (λ (m : ℕ). replicate m a) (sym (suc-sub-suc n k))

@@ -1,0 +1,28 @@
+-- Tests on whole numbers. They are shut, so that a proof can name them.
+-- Assumes nothing.
+use mathlib.Core.Bool.{Bool, false}
+use Prim.Native.Nat.{ℕ}
+use lib.IntN.{ℤ, pos, negsuc}
+use lib.Dec.{eqb}
+use lib.Signed.{ltZ, leZ}
+
+-- the same whole number
+abbrev pub eqZ : ℤ → ℤ → Bool
+eqZ (pos m) (pos n) = eqb m n
+eqZ (pos m) (negsuc n) = false
+eqZ (negsuc m) (pos n) = false
+eqZ (negsuc m) (negsuc n) = eqb m n
+
+unfoldable pub lessZ : ℤ → ℤ → Bool
+lessZ a b = ltZ a b
+
+unfoldable pub mostZ : ℤ → ℤ → Bool
+mostZ a b = leZ a b
+
+unfoldable pub sameZ : ℤ → ℤ → Bool
+sameZ a b = eqZ a b
+
+-- n for n, and 0 for a negative number
+abbrev pub natural : ℤ → ℕ
+natural (pos n) = n
+natural (negsuc n) = 0

@@ -1,0 +1,33 @@
+use Prim.Native.Nat.{_/_}
+use native.Mathlib.Nat.{mod-lt}
+use native.Mathlib.Omega.{arith}
+use lib.Pow.{pow-pos}
+use borrow.Author.Needs.{needs}
+use Rattle.bits.proofs.join_bits.Statement.{statement}
+use Rattle.bits.proofs.join_bits.Tie as tie
+
+pow2-requires : tie.Need-pow2-requires
+pow2-requires c κs = search needs
+
+pow2-requires-2 : tie.Need-pow2-requires-2
+pow2-requires-2 c κs = search needs
+
+mul-result : tie.Need-mul-result
+mul-result c = rw (c .before .pow2 .ensures) (omega (arith, pow-pos (c .before .before .args .m)))
+
+div-result : tie.Need-div-result
+div-result c = rw (c .pow22 .ensures) (pow-pos (c .before .before .args .j))
+
+rem-result : tie.Need-rem-result
+rem-result c = rw (c .before .pow2 .ensures) (pow-pos (c .before .before .args .m))
+
+add-result : tie.Need-add-result
+add-result c =
+    let a = c .before .before .args in
+    rw (c .before .pow2 .ensures) (omega (arith, mod-lt (a .b / c .pow22 .result) (pow-pos (a .m))))
+
+returns : tie.Need-returns
+returns c = rw (c .before .pow2 .ensures, c .pow22 .ensures)
+
+pub join-bits-spec : {M : Type 1} → statement M
+join-bits-spec = tie.close (tie.spec pow2-requires pow2-requires-2 mul-result div-result rem-result add-result returns)

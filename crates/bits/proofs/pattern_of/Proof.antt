@@ -1,0 +1,28 @@
+use borrow.Author.Needs.{needs}
+use mathlib.Core.Path.{sym, _∙_}
+use native.Mathlib.Omega.{arith}
+use Rattle.bits.proofs.Sign.{mag-z, raw-flipped, raw-kept}
+use Rattle.bits.proofs.pattern_of.Statement.{statement}
+use Rattle.bits.proofs.pattern_of.Tie as tie
+
+magnitude-requires : tie.Need-magnitude-requires
+magnitude-requires c κs = search needs
+
+pow2-requires : tie.Need-pow2-requires
+pow2-requires c κs = search needs
+
+sub-result : tie.Need-sub-result
+sub-result c = search needs
+
+sub-result-2 : tie.Need-sub-result-2
+sub-result-2 c = let s = c .before .before .before in rw (c .before .before .magnitude .ensures ∙ mag-z (s .args .z) (s .fits .z), c .pow2 .ensures) (omega arith)
+
+returns : tie.Need-returns
+returns c = let s = c .before .before .before in rw (c .before .before .magnitude .ensures ∙ mag-z (s .args .z) (s .fits .z), c .pow2 .ensures, raw-flipped (s .args .z) (s .fits .z) (c .before .if1 .taken) (s .args .w)) (omega arith)
+
+returns-2 : tie.Need-returns-2
+returns-2 c = let s = c .before .before in c .before .magnitude .ensures ∙ mag-z (s .args .z) (s .fits .z) ∙ sym (raw-kept (s .args .z) (s .fits .z) (s .args .w) (c .if1 .left))
+
+pub pattern-of-spec : {M : Type 1} → statement M
+pattern-of-spec =
+    tie.close (tie.spec magnitude-requires pow2-requires sub-result sub-result-2 returns returns-2)

@@ -1,0 +1,82 @@
+use mathlib.Core.Path.{_∙_}
+use Prim.Native.Nat.{_-_}
+use native.Mathlib.Omega.{arith}
+use lib.ListN.{length}
+use borrow.Author.Needs.{needs}
+use Rattle.bits.proofs.Loop.{Reading, reading-starts, entry-read, reading-goes-on, reading-ends}
+use mir.Syntax.{w64}
+use mir.ValLaws.{toZ-ofZ}
+use Rattle.bits.proofs.read_all.Statement.{statement}
+use Rattle.bits.proofs.read_all.Tie as tie
+
+abbrev Inv-loop : tie.InvT-loop
+Inv-loop s p layout out₀ at₀ i₀ out at i = Reading s p layout out₀ out at i
+
+abbrev μ-loop : tie.MeasureT-loop
+μ-loop s p layout out₀ at₀ i₀ out at i = length layout - i
+
+loop-holds : tie.Need-loop-holds Inv-loop μ-loop
+loop-holds c = let a = c .before .before .args in reading-starts (a .s .now) (a .p) (a .layout .now) (a .out .now)
+
+mul-e : tie.Need-mul-e Inv-loop μ-loop
+mul-e c = search needs
+
+shared-slice-read-e : tie.Need-shared-slice-read-e Inv-loop μ-loop
+shared-slice-read-e c = omega arith
+
+read-value-requires : tie.Need-read-value-requires Inv-loop μ-loop
+read-value-requires c κs =
+    let a = c .before .before .before .before .before .args in
+    let l = c .before .before .loop in
+    let f = entry-read (a .s .now) (a .p) (a .layout .now) (a .out .now) (l .out) (l .at) (l .i) (l .inv) (omega arith) in
+    (omega arith, omega arith)
+
+mul-t8 : tie.Need-mul-t8 Inv-loop μ-loop
+mul-t8 c = search needs
+
+slice-set-from-out : tie.Need-slice-set-from-out Inv-loop μ-loop
+slice-set-from-out c = omega arith
+
+add-at : tie.Need-add-at Inv-loop μ-loop
+add-at c = omega arith
+
+add-i : tie.Need-add-i Inv-loop μ-loop
+add-i c = omega arith
+
+loop-less : tie.Need-loop-less Inv-loop μ-loop
+loop-less c = omega arith
+
+loop-again : tie.Need-loop-again Inv-loop μ-loop
+loop-again c =
+    let a = c .before .before .before .before .before .before .args in
+    let l = c .before .before .before .loop in
+    reading-goes-on (a .s .now) (a .p) (a .layout .now) (a .out .now) (l .out) (l .at) (l .i) (l .inv) _ (omega arith) (omega arith)
+    (toZ-ofZ w64 _ (record { sfits = c .read-value .ok }) ∙ c .read-value .ensures)
+
+same-length : tie.Need-same-length Inv-loop μ-loop
+same-length c = c .before .loop .inv .sized
+
+returns : tie.Need-returns Inv-loop μ-loop
+returns c =
+    let a = c .before .before .before .before .args in
+    let l = c .before .loop in
+    reading-ends (a .s .now) (a .p) (a .layout .now) (a .out .now) (l .out) (l .at) (l .i) (l .inv) (omega arith)
+
+pub read-all-spec : {M : Type 1} → statement M
+read-all-spec =
+    tie.close
+    (tie.spec
+    Inv-loop
+    μ-loop
+    loop-holds
+    mul-e
+    shared-slice-read-e
+    read-value-requires
+    mul-t8
+    slice-set-from-out
+    add-at
+    add-i
+    loop-less
+    loop-again
+    same-length
+    returns)

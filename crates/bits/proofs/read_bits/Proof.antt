@@ -1,0 +1,77 @@
+use Prim.Native.Nat.{ℕ, _≤_, _-_}
+use mathlib.Core.Path.{_≡_, refl, ap, _∙_}
+use native.Mathlib.Omega.{arith}
+use Rattle.bits.specs.Field.{field}
+use Rattle.bits.proofs.Bit.{field-step, field-room}
+use Rattle.bits.proofs.read_bits.Statement.{statement}
+use Rattle.bits.proofs.read_bits.Tie as tie
+
+abbrev Inv-loop : tie.InvT-loop
+Inv-loop s p w r₀ k₀ r k = (k ≤ w) × (r ≡ field s p k)
+
+abbrev μ-loop : tie.MeasureT-loop
+μ-loop s p w r₀ k₀ r k = w - k
+
+loop-holds : tie.Need-loop-holds Inv-loop μ-loop
+loop-holds c = (omega arith, unfold field in refl)
+
+add-at : tie.Need-add-at Inv-loop μ-loop
+add-at c = omega arith
+
+sub-free : tie.Need-sub-free Inv-loop μ-loop
+sub-free c = omega arith
+
+sub-lesser : tie.Need-sub-lesser Inv-loop μ-loop
+sub-lesser c = omega arith
+
+lesser-requires : tie.Need-lesser-requires Inv-loop μ-loop
+lesser-requires c κs = omega arith
+
+shared-slice-read-join-bits : tie.Need-shared-slice-read-join-bits Inv-loop μ-loop
+shared-slice-read-join-bits c = omega arith
+
+sub-join-bits : tie.Need-sub-join-bits Inv-loop μ-loop
+sub-join-bits c = omega arith
+
+join-bits-requires : tie.Need-join-bits-requires Inv-loop μ-loop
+join-bits-requires c κs =
+    let a = c .before .before .before .before .before .args in
+    let l = c .before .before .before .loop in
+    (omega arith, (omega arith, rw (l .inv .1) (field-room (a .s .now) (a .p) (l .k) (c .before .lesser .result) 64 (omega arith))))
+
+add-k : tie.Need-add-k Inv-loop μ-loop
+add-k c = omega arith
+
+loop-less : tie.Need-loop-less Inv-loop μ-loop
+loop-less c = omega arith
+
+loop-again : tie.Need-loop-again Inv-loop μ-loop
+loop-again c =
+    let a = c .before .before .before .before .before .before .args in
+    let l = c .before .before .before .before .loop in
+    (omega arith, (c .join-bits .ensures ∙ rw (l .inv .1) (field-step (a .s .now) (a .p) (l .k) (c .before .before .lesser .result) (omega arith))))
+
+returns : tie.Need-returns Inv-loop μ-loop
+returns c =
+    let a = c .before .before .before .args in
+    let l = c .before .loop in
+    l .inv .1 ∙ ap (λ (x : ℕ). field (a .s .now) (a .p) x) (omega arith)
+
+pub read-bits-spec : {M : Type 1} → statement M
+read-bits-spec =
+    tie.close
+    (tie.spec
+    Inv-loop
+    μ-loop
+    loop-holds
+    add-at
+    sub-free
+    sub-lesser
+    lesser-requires
+    shared-slice-read-join-bits
+    sub-join-bits
+    join-bits-requires
+    add-k
+    loop-less
+    loop-again
+    returns)

@@ -1,0 +1,60 @@
+use mathlib.Core.Path.{_≡_}
+use Prim.Native.Nat.{_+_, _-_, _≤_}
+use native.Mathlib.Omega.{arith}
+use lib.ListN.{length, drop}
+use borrow.Author.Needs.{needs}
+use Rattle.bits.specs.Layout.{total}
+use Rattle.bits.proofs.Loop.{total-most, head-room, total-left}
+use Rattle.bits.proofs.total_bits.Statement.{statement}
+use Rattle.bits.proofs.total_bits.Tie as tie
+
+abbrev Inv-loop : tie.InvT-loop
+Inv-loop layout n₀ i₀ n i = (i ≤ length layout) × (n + total (drop i layout) ≡ total layout)
+
+abbrev μ-loop : tie.MeasureT-loop
+μ-loop layout n₀ i₀ n i = length layout - i
+
+loop-holds : tie.Need-loop-holds Inv-loop μ-loop
+loop-holds c = omega arith
+
+mul-n : tie.Need-mul-n Inv-loop μ-loop
+mul-n c = search needs
+
+shared-slice-read-n : tie.Need-shared-slice-read-n Inv-loop μ-loop
+shared-slice-read-n c = omega arith
+
+add-n : tie.Need-add-n Inv-loop μ-loop
+add-n c = omega (arith, total-most (c .before .before .before .args .layout .now), head-room (c .before .before .before .args .layout .now) (c .before .before .loop .n) (c .before .before .loop .i) (total (c .before .before .before .args .layout .now)) (omega arith) (c .before .before .loop .inv .1))
+
+add-i : tie.Need-add-i Inv-loop μ-loop
+add-i c = omega arith
+
+loop-less : tie.Need-loop-less Inv-loop μ-loop
+loop-less c = omega arith
+
+loop-again : tie.Need-loop-again Inv-loop μ-loop
+loop-again c =
+    let a = c .before .before .before .args in
+    let l = c .before .before .loop in
+    (omega arith, head-room (a .layout .now) (l .n) (l .i) (total (a .layout .now)) (omega arith) (l .inv .1))
+
+returns : tie.Need-returns Inv-loop μ-loop
+returns c =
+    let a = c .before .before .args in
+    let l = c .before .loop in
+    omega (arith, l .inv .1, total-left (a .layout .now) (l .i) (omega arith))
+
+pub total-bits-spec : {M : Type 1} → statement M
+total-bits-spec =
+    tie.close
+    (tie.spec
+    Inv-loop
+    μ-loop
+    loop-holds
+    mul-n
+    shared-slice-read-n
+    add-n
+    add-i
+    loop-less
+    loop-again
+    returns)
