@@ -1,10 +1,13 @@
--- What an answer of 0 says of a list of tests: none of them holds.
+-- Laws of `first`: what an answer of 0 says of the tests, and one list of tests behind another.
 -- Assumes nothing.
-use Prim.Native.Nat.{ℕ, suc}
+use Prim.Native.Nat.{ℕ, zero, suc}
 use native.Mathlib.Nat.{lt-irrefl}
 use native.Mathlib.Omega.{arith}
 use mathlib.Core.Path.{_≡_, refl, sym}
-use mathlib.Core.Bool.{Bool, true, false, not, cond, _||_}
+use mathlib.Core.Bool.{Bool, true, false, not, cond, _&&_, _||_}
+use mathlib.Core.List.{List, [], _∷_, _++_}
+use lib.Dec.{T, eqb, eqb·suc-zero}
+use Rattle.arith.specs.First.{Test, first}
 
 -- a test that did not refuse, and those behind it
 pub passed : (n : ℕ) (b : Bool) (m : ℕ) → cond b (suc n) m ≡ 0 → (b ≡ false) × (m ≡ 0)
@@ -18,3 +21,20 @@ not-false false e = sym e
 pub or-false : (a b : Bool) → (a || b) ≡ false → (a ≡ false) × (b ≡ false)
 or-false true b e = let z : _≡_ {A = ℕ} 0 1 = cc in absurd (lt-irrefl 0 (omega arith))
 or-false false b e = (refl, e)
+
+-- no test has the number 0
+abbrev pub positive : List Test → Bool
+positive [] = true
+positive (t ∷ ts) = not (eqb (t .0) 0) && positive ts
+
+-- one list of tests behind another
+pub first-append : (a b : List Test) → T (positive a) → first (a ++ b) ≡ cond (eqb (first a) 0) (first b) (first a)
+first-append [] b p = refl
+first-append (t ∷ a) b p = by (t .0) (t .1) p (first-append a b)
+  where
+    by : (n : ℕ) (x : Bool) → T (not (eqb n 0) && positive a) → (T (positive a) → first (a ++ b) ≡ cond (eqb (first a) 0) (first b) (first a))
+        → cond x n (first (a ++ b)) ≡ cond (eqb (cond x n (first a)) 0) (first b) (cond x n (first a))
+    by zero true p h = absurd p
+    by zero false p h = absurd p
+    by (suc n) true p h = rw (eqb·suc-zero n)
+    by (suc n) false p h = h (rw (eqb·suc-zero n) at p)

@@ -2,22 +2,39 @@
 -- Assumes nothing.
 use mathlib.Core.Path.{_≡_, refl, sym, ap, _∙_}
 use mathlib.Core.List.{List, [], _∷_, _++_}
-use mathlib.Core.Bool.{Bool, true, false, cond}
-use Prim.Native.Nat.{ℕ, suc, _+_, _-_, _≤_, _<_}
-use lib.Dec.{eqb, eqb·suc-zero}
+use mathlib.Core.Bool.{_&&_, Bool, true, false, cond}
+use Prim.Native.Nat.{_*_, _^_, ℕ, suc, _+_, _-_, _≤_, _<_}
+use lib.Pow.{pow-pos}
+use lib.Dec.{leb, eqb, eqb·suc-zero}
 use lib.IntN.{ℤ, pos}
 use lib.ListN.{length, take, drop, replicate}
 use lib.Seq.{take-at}
-use borrow.Author.Tests.{lt-ltb, le-ltb, eq-eqb, ne-eqb}
+use borrow.Author.Tests.{le-leb, lt-ltb, le-ltb, eq-eqb, ne-eqb}
 use Rattle.arith.proofs.Rows.{drop-replicate}
 use Rattle.bits.specs.declared.Row.{Row}
 use Rattle.bits.specs.declared.Written.{Written}
-use Rattle.bits.specs.Layout.{allTake, total, size, decodeAll, zeroFrom, refusalOf, valuesOf, padded, decoded, writeRefusal, answered, stored}
+use Rattle.bits.proofs.Bit.{field-lt}
+use Rattle.bits.specs.Field.{field, fieldAt}
+use Rattle.bits.specs.Layout.{allTake, total, size, decodeAll, zeroFrom, refusalOf, valuesOf, decoded, writeRefusal, answered, stored}
+use Rattle.arith.specs.Row.{padded}
 
 pub length-decodeAll : (es : List ℕ) (p : ℕ) (s : List ℕ) → length (decodeAll es p s) ≡ length es
 unfolding decodeAll
 length-decodeAll [] p s = refl
 length-decodeAll (e ∷ es) p s = ap suc (length-decodeAll es _ s)
+
+-- a field that stands in the bytes
+pub field-inside : (s : List ℕ) (p w : ℕ) → w ≤ 63 → p ≤ 65535 → p + w ≤ 8 * length s → fieldAt s p w ≡ field s p w
+unfolding fieldAt
+field-inside s p w a b d = rw (le-leb w 63 a, le-leb p 65535 b, le-leb (p + w) (8 * length s) d)
+
+pub fieldAt-lt : (s : List ℕ) (p w : ℕ) → fieldAt s p w < 2 ^ w
+unfolding fieldAt
+fieldAt-lt s p w = by (leb w 63 && (leb p 65535 && leb (p + w) (8 * length s)))
+  where
+    by : (b : Bool) → cond b (field s p w) 0 < 2 ^ w
+    by true = field-lt s p w
+    by false = pow-pos w
 
 -- ---- decode
 

@@ -7,6 +7,7 @@ use lib.Dec.{ltb, leb, eqb}
 use lib.ListN.{length, drop, replicate}
 use lib.IntN.{ℤ, pos, negsuc}
 use Rattle.arith.specs.First.{Test, first}
+use Rattle.arith.specs.Row.{padded}
 use Rattle.bits.specs.Field.{field, setField, twos, raw}
 use Rattle.bits.specs.declared.Row.{Row}
 use Rattle.bits.specs.declared.Written.{Written}
@@ -117,10 +118,6 @@ refusalOf es s = first (readTests es s)
 -- the values of a message of the layout; none with a refusal
 unfoldable pub valuesOf : List ℕ → List ℕ → List ℤ
 valuesOf es s = cond (eqb (refusalOf es s) 0) (decodeAll es 0 s) []
-
--- values, and zeros up to 96
-unfoldable pub padded : List ℤ → List ℤ
-padded vs = vs ++ replicate (96 - length vs) (pos 0)
 
 unfoldable pub decoded : List ℕ → List ℕ → Row
 decoded es s = record { refusal = refusalOf es s; values = padded (valuesOf es s) }

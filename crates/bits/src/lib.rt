@@ -8,7 +8,8 @@ ghost use lib.ListN.{length, drop};
 ghost use lib.Signed.{mag, ltZ};
 ghost use lib.IntN.{pos};
 ghost use Rattle.bits.specs.Field.{field, fieldAt, putBits, setField, twos, raw};
-ghost use Rattle.bits.specs.Layout.{width, signed, value, fits, within, takes, allTake, total, decodeAll, encodeInto, encodeAll, size, blank, zeroFrom, padded, decoded, writeRefusal, answered, stored};
+ghost use Rattle.bits.specs.Layout.{width, signed, value, fits, within, takes, allTake, total, decodeAll, encodeInto, encodeAll, size, blank, zeroFrom, decoded, writeRefusal, answered, stored};
+ghost use Rattle.arith.specs.Row.{padded};
 
 fn pow2(m: usize) -> u64
     requires { ⌜ m < 64 ⌝ }

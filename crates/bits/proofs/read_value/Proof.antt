@@ -8,7 +8,7 @@ use mir.ValLaws.{toZ-ofZ, toZ-pos}
 use Rattle.bits.specs.Field.{field}
 use Rattle.bits.proofs.Bit.{field-lt}
 use mathlib.Core.List.{List}
-use Prim.Native.Nat.{ℕ, _/_, _^_, _<_}
+use Prim.Native.Nat.{ℕ, _^_, _<_}
 use lib.IntN.{pos}
 use Rattle.bits.specs.Layout.{width}
 use Rattle.bits.proofs.read_value.Statement.{statement}

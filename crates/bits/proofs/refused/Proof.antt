@@ -1,7 +1,7 @@
 -- `bits::refused` meets its contract.
 -- Assumes nothing.
 use mathlib.Core.Path.{refl}
-use Rattle.bits.specs.Layout.{padded}
+use Rattle.arith.specs.Row.{padded}
 use Rattle.bits.proofs.refused.Statement.{statement}
 use Rattle.bits.proofs.refused.Tie as tie
 

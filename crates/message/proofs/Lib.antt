@@ -1,0 +1,6 @@
+pub mod Store
+pub mod Head
+pub mod Length
+pub mod Rows
+pub mod Sin
+pub mod Trips

@@ -1,0 +1,111 @@
+-- `layouts::plan_of` meets its contract: each table equals its layout by computation.
+-- Assumes nothing.
+use mathlib.Core.Path.{refl}
+use borrow.Author.Tests.{ne-eqb}
+use Rattle.message.specs.Layouts.{layoutOf, tail1021, tail1022, layout1021, layout1022, layout1023, layout1024, layout1025, layout1026, layout1027}
+use borrow.Author.Needs.{needs}
+use Rattle.message.proofs.layouts.plan_of.Statement.{statement}
+use Rattle.message.proofs.layouts.plan_of.Tie as tie
+
+slice-aggregate-named-plan : tie.Need-slice-aggregate-named-plan
+slice-aggregate-named-plan c = search needs
+
+named-plan-requires : tie.Need-named-plan-requires
+named-plan-requires c κs = search needs
+
+slice-aggregate-named-plan-2 : tie.Need-slice-aggregate-named-plan-2
+slice-aggregate-named-plan-2 c = search needs
+
+named-plan-requires-2 : tie.Need-named-plan-requires-2
+named-plan-requires-2 c κs = search needs
+
+slice-aggregate-grid-plan : tie.Need-slice-aggregate-grid-plan
+slice-aggregate-grid-plan c = search needs
+
+grid-plan-requires : tie.Need-grid-plan-requires
+grid-plan-requires c κs = search needs
+
+slice-aggregate-grid-plan-2 : tie.Need-slice-aggregate-grid-plan-2
+slice-aggregate-grid-plan-2 c = search needs
+
+grid-plan-requires-2 : tie.Need-grid-plan-requires-2
+grid-plan-requires-2 c κs = search needs
+
+slice-aggregate-fixed-plan : tie.Need-slice-aggregate-fixed-plan
+slice-aggregate-fixed-plan c = search needs
+
+fixed-plan-requires : tie.Need-fixed-plan-requires
+fixed-plan-requires c κs = search needs
+
+slice-aggregate-fixed-plan-2 : tie.Need-slice-aggregate-fixed-plan-2
+slice-aggregate-fixed-plan-2 c = search needs
+
+fixed-plan-requires-2 : tie.Need-fixed-plan-requires-2
+fixed-plan-requires-2 c κs = search needs
+
+slice-aggregate-fixed-plan-3 : tie.Need-slice-aggregate-fixed-plan-3
+slice-aggregate-fixed-plan-3 c = search needs
+
+fixed-plan-requires-3 : tie.Need-fixed-plan-requires-3
+fixed-plan-requires-3 c κs = search needs
+
+returns : tie.Need-returns
+unfolding layoutOf layout1021 tail1021
+returns c = rw (c .before .before .match .keys1) (c .named-plan .ensures)
+
+returns-2 : tie.Need-returns-2
+unfolding layoutOf layout1022 tail1022
+returns-2 c = rw (c .before .before .match .keys2) (c .named-plan2 .ensures)
+
+returns-3 : tie.Need-returns-3
+unfolding layoutOf layout1023
+returns-3 c = rw (c .before .before .match .keys3) (c .grid-plan .ensures)
+
+returns-4 : tie.Need-returns-4
+unfolding layoutOf layout1024
+returns-4 c = rw (c .before .before .match .keys4) (c .grid-plan2 .ensures)
+
+returns-5 : tie.Need-returns-5
+unfolding layoutOf layout1025
+returns-5 c = rw (c .before .before .match .keys5) (c .fixed-plan .ensures)
+
+returns-6 : tie.Need-returns-6
+unfolding layoutOf layout1026
+returns-6 c = rw (c .before .before .match .keys6) (c .fixed-plan2 .ensures)
+
+returns-7 : tie.Need-returns-7
+unfolding layoutOf layout1027
+returns-7 c = rw (c .before .before .match .keys7) (c .fixed-plan3 .ensures)
+
+returns-8 : tie.Need-returns-8
+unfolding layoutOf
+returns-8 c =
+    let r = c .match .rest in
+    rw (ne-eqb _ _ (r .0 .0 .0 .0 .0 .0 .1), ne-eqb _ _ (r .0 .0 .0 .0 .0 .1), ne-eqb _ _ (r .0 .0 .0 .0 .1), ne-eqb _ _ (r .0 .0 .0 .1), ne-eqb _ _ (r .0 .0 .1), ne-eqb _ _ (r .0 .1), ne-eqb _ _ (r .1)) (refl, (refl, refl))
+
+pub plan-of-spec : {M : Type 1} → statement M
+plan-of-spec =
+    tie.close
+    (tie.spec
+    slice-aggregate-named-plan
+    named-plan-requires
+    slice-aggregate-named-plan-2
+    named-plan-requires-2
+    slice-aggregate-grid-plan
+    grid-plan-requires
+    slice-aggregate-grid-plan-2
+    grid-plan-requires-2
+    slice-aggregate-fixed-plan
+    fixed-plan-requires
+    slice-aggregate-fixed-plan-2
+    fixed-plan-requires-2
+    slice-aggregate-fixed-plan-3
+    fixed-plan-requires-3
+    returns
+    returns-2
+    returns-3
+    returns-4
+    returns-5
+    returns-6
+    returns-7
+    returns-8)

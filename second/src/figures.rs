@@ -1,0 +1,304 @@
+//! Two drawings: the grid with the weights of a cell, and the rounding on both sides of zero.
+
+use std::fmt::Write;
+use std::path::Path;
+
+/// The width of a drawing in pixels.
+const WIDTH: i32 = 800;
+/// The colour of lines and words.
+const INK: &str = "#1a1a1a";
+/// The colour of what explains.
+const GREY: &str = "#666666";
+/// The colour of what is looked at.
+const BLUE: &str = "#1f5fa8";
+/// The colours of the four parts of a cell: south-west, south-east, north-west, north-east.
+const PARTS: [&str; 4] = ["#cfe3f5", "#d9efd3", "#fbe3c8", "#ead9f0"];
+
+/// A drawing under way.
+struct Drawing {
+    body: String,
+    height: i32,
+}
+
+/// Where words stand relative to their place.
+#[derive(Clone, Copy)]
+enum Stand {
+    Start,
+    Middle,
+    End,
+}
+
+impl Drawing {
+    /// An empty drawing.
+    fn new(height: i32) -> Self {
+        Drawing { body: String::new(), height }
+    }
+
+    /// Adds a line.
+    fn line(&mut self, from: (i32, i32), to: (i32, i32), colour: &str, width: f32, dashed: bool) {
+        let dash = if dashed { " stroke-dasharray=\"5 4\"" } else { "" };
+        let ((x1, y1), (x2, y2)) = (from, to);
+        writeln!(
+            self.body,
+            "<line x1=\"{x1}\" y1=\"{y1}\" x2=\"{x2}\" y2=\"{y2}\" stroke=\"{colour}\" stroke-width=\"{width}\"{dash}/>"
+        )
+        .expect("a string takes all");
+    }
+
+    /// Adds words.
+    fn words(&mut self, (x, y): (i32, i32), size: i32, colour: &str, stand: Stand, words: &str) {
+        let anchor = match stand {
+            Stand::Start => "start",
+            Stand::Middle => "middle",
+            Stand::End => "end",
+        };
+        writeln!(
+            self.body,
+            "<text x=\"{x}\" y=\"{y}\" font-size=\"{size}\" fill=\"{colour}\" text-anchor=\"{anchor}\">{words}</text>"
+        )
+        .expect("a string takes all");
+    }
+
+    /// Adds a disc with a rim.
+    fn disc(&mut self, (x, y): (i32, i32), radius: i32, fill: &str, rim: &str) {
+        writeln!(
+            self.body,
+            "<circle cx=\"{x}\" cy=\"{y}\" r=\"{radius}\" fill=\"{fill}\" stroke=\"{rim}\" stroke-width=\"1.5\"/>"
+        )
+        .expect("a string takes all");
+    }
+
+    /// Adds a rectangle without a rim.
+    fn area(&mut self, (x, y): (i32, i32), (width, height): (i32, i32), fill: &str) {
+        writeln!(self.body, "<rect x=\"{x}\" y=\"{y}\" width=\"{width}\" height=\"{height}\" fill=\"{fill}\"/>")
+            .expect("a string takes all");
+    }
+
+    /// The whole file.
+    fn file(&self, title: &str) -> String {
+        format!(
+            "<svg xmlns=\"http://www.w3.org/2000/svg\" width=\"{WIDTH}\" height=\"{h}\" viewBox=\"0 0 {WIDTH} {h}\" \
+             font-family=\"Helvetica, Arial, 'DejaVu Sans', sans-serif\">\n<title>{title}</title>\n\
+             <rect width=\"{WIDTH}\" height=\"{h}\" fill=\"white\"/>\n{}</svg>\n",
+            self.body,
+            h = self.height
+        )
+    }
+}
+
+/// The left edge, the upper edge and the spacing of the drawn grid.
+const GRID: (i32, i32, i32) = (110, 110, 100);
+
+/// The drawn place of the node in a row from the north and a column from the west.
+fn node_at(row: i32, column: i32) -> (i32, i32) {
+    (GRID.0 + column * GRID.2, GRID.1 + row * GRID.2)
+}
+
+/// Lines, cells, nodes and the origin.
+fn draw_grid(drawing: &mut Drawing) {
+    let names = ["I", "II", "III", "IV", "V", "VI", "VII", "VIII", "IX"];
+    let half = GRID.2 / 2;
+    drawing.area(node_at(1, 0), (GRID.2, GRID.2), "#eef4fa");
+    for i in 0..4 {
+        drawing.line(node_at(i, 0), node_at(i, 3), INK, 1.2, false);
+        drawing.line(node_at(0, i), node_at(3, i), INK, 1.2, false);
+    }
+    for (i, name) in names.iter().enumerate() {
+        let (x, y) = node_at(i as i32 / 3, i as i32 % 3);
+        drawing.words((x + 26, y + 32), 14, GREY, Stand::Middle, name);
+    }
+    for node in 0..16 {
+        let (x, y) = node_at(node / 4, node % 4);
+        drawing.disc((x, y), 12, "white", INK);
+        drawing.words((x, y + 5), 13, INK, Stand::Middle, &(node + 1).to_string());
+    }
+    let (x, y) = (node_at(1, 1).0 + half, node_at(1, 1).1 + half);
+    drawing.line((x - 9, y), (x + 9, y), BLUE, 2.5, false);
+    drawing.line((x, y - 9), (x, y + 9), BLUE, 2.5, false);
+    drawing.words((x, y + 26), 13, BLUE, Stand::Middle, "origin");
+}
+
+/// Where the rows and columns stand.
+fn draw_lines_of_grid(drawing: &mut Drawing) {
+    let offsets = ["+ 3/2 H", "+ 1/2 H", "− 1/2 H", "− 3/2 H"];
+    let columns = ["− 3/2 W", "− 1/2 W", "+ 1/2 W", "+ 3/2 W"];
+    for i in 0..4usize {
+        let (x, y) = node_at(i as i32, 0);
+        drawing.words((x - 22, y + 5), 13, INK, Stand::End, offsets[i]);
+        let (x, y) = node_at(3, i as i32);
+        drawing.words((x, y + 32), 13, INK, Stand::Middle, columns[i]);
+    }
+    let (left, top) = node_at(0, 0);
+    let (right, bottom) = node_at(3, 3);
+    drawing.words((12, top - 22), 13, GREY, Stand::Start, "north of origin");
+    drawing.words((right, bottom + 52), 13, GREY, Stand::End, "east of origin");
+    drawing.words((left + 150, top - 48), 14, INK, Stand::Middle, "north");
+    drawing.line((left + 150, top - 24), (left + 150, top - 42), INK, 1.5, false);
+    drawing.line((left + 150, top - 42), (left + 146, top - 35), INK, 1.5, false);
+    drawing.line((left + 150, top - 42), (left + 154, top - 35), INK, 1.5, false);
+    drawing.words((left, bottom + 88), 14, INK, Stand::Start, "H is the spacing north (DF194, DF204),");
+    drawing.words((left, bottom + 108), 14, INK, Stand::Start, "W the spacing east (DF195, DF205), in steps.");
+    drawing.words((left, bottom + 128), 14, INK, Stand::Start, "Inside means on or within the outer rectangle.");
+}
+
+/// The left edge, the upper edge and the size of the enlarged cell.
+const CELL: (i32, i32, i32) = (520, 150, 220);
+
+/// The enlarged cell with the position, the four parts and the weights.
+fn draw_cell(drawing: &mut Drawing) {
+    let (left, top, size) = CELL;
+    let (right, bottom) = (left + size, top + size);
+    let (px, py) = (left + 80, top + 90);
+    let parts = [
+        ((px, top), (right - px, py - top)),
+        ((left, top), (px - left, py - top)),
+        ((px, py), (right - px, bottom - py)),
+        ((left, py), (px - left, bottom - py)),
+    ];
+    parts.iter().zip(PARTS).for_each(|((at, span), fill)| drawing.area(*at, *span, fill));
+    for (from, to) in [
+        ((left, top), (right, top)),
+        ((right, top), (right, bottom)),
+        ((right, bottom), (left, bottom)),
+        ((left, bottom), (left, top)),
+    ] {
+        drawing.line(from, to, INK, 1.2, false);
+    }
+    drawing.line((px, top), (px, bottom), BLUE, 1.2, true);
+    drawing.line((left, py), (right, py), BLUE, 1.2, true);
+    drawing.disc((px, py), 5, BLUE, BLUE);
+    drawing.words((left + 40, bottom - 8), 14, BLUE, Stand::Middle, "x");
+    drawing.words((px + 72, bottom - 8), 14, BLUE, Stand::Middle, "W − x");
+    drawing.words((left + 10, bottom - 60), 14, BLUE, Stand::Start, "y");
+    drawing.words((left + 10, top + 50), 14, BLUE, Stand::Start, "H − y");
+    draw_corners(drawing, left, top, right, bottom);
+}
+
+/// The four corner nodes of the enlarged cell, each in the colour of the part that is its weight.
+fn draw_corners(drawing: &mut Drawing, left: i32, top: i32, right: i32, bottom: i32) {
+    let corners = [((left, bottom), "9", 0), ((right, bottom), "10", 1), ((left, top), "5", 2), ((right, top), "6", 3)];
+    for (place, node, part) in corners {
+        drawing.disc(place, 14, PARTS[part], INK);
+        drawing.words((place.0, place.1 + 5), 13, INK, Stand::Middle, node);
+    }
+}
+
+/// The weights in words, with the colour of each part.
+fn draw_weights(drawing: &mut Drawing) {
+    let (left, top, size) = CELL;
+    drawing.words((left - 20, top - 60), 15, INK, Stand::Start, "Cell IV, enlarged");
+    drawing.words((left - 20, top - 40), 13, GREY, Stand::Start, "y steps north of its southern edge,");
+    drawing.words((left - 20, top - 24), 13, GREY, Stand::Start, "x steps east of its western edge");
+    let lines = [
+        ("node 9, south-west:  (W − x) (H − y)", 0),
+        ("node 10, south-east:  x (H − y)", 1),
+        ("node 5, north-west:  (W − x) y", 2),
+        ("node 6, north-east:  x y", 3),
+    ];
+    for (i, (words, part)) in lines.into_iter().enumerate() {
+        let y = top + size + 46 + 24 * i as i32;
+        drawing.disc((left - 12, y - 5), 8, PARTS[part], INK);
+        drawing.words((left + 6, y), 14, INK, Stand::Start, words);
+    }
+    drawing.words((left - 20, top + size + 146), 13, GREY, Stand::Start, "each over W · H; a node's weight is");
+    drawing.words((left - 20, top + size + 163), 13, GREY, Stand::Start, "the part of the cell in its colour");
+}
+
+/// The drawing of the grid.
+fn grid() -> String {
+    let mut drawing = Drawing::new(570);
+    drawing.words((30, 36), 18, INK, Stand::Start, "Grid of messages 1023 and 1024");
+    draw_grid(&mut drawing);
+    draw_lines_of_grid(&mut drawing);
+    draw_cell(&mut drawing);
+    draw_weights(&mut drawing);
+    drawing.file("Grid of messages 1023 and 1024")
+}
+
+/// Pixels for one count in the drawing of the rounding.
+const COUNT: i32 = 140;
+
+/// One panel of the rounding: counts from a first to a last around a middle, drawn at a height.
+struct Panel {
+    middle: f64,
+    top: i32,
+}
+
+impl Panel {
+    /// The drawn place of an exact mean.
+    fn x(&self, mean: f64) -> i32 {
+        WIDTH / 2 + ((mean - self.middle) * COUNT as f64).round() as i32
+    }
+}
+
+/// Draws which exact means go to one whole count: the bar, and whether its ends belong to it.
+fn draw_bar(drawing: &mut Drawing, panel: &Panel, count: i32) {
+    let (low, high) = (panel.x(count as f64 - 0.5), panel.x(count as f64 + 0.5));
+    let y = panel.top + 60 + if count % 2 == 0 { 0 } else { 22 };
+    drawing.line((low, y), (high, y), BLUE, 5.0, false);
+    drawing.disc((low, y), 6, if count > 0 { BLUE } else { "white" }, BLUE);
+    drawing.disc((high, y), 6, if count < 0 { BLUE } else { "white" }, BLUE);
+    drawing.words(((low + high) / 2, y - 8), 14, BLUE, Stand::Middle, &format!("gives {}", signed(count)));
+}
+
+/// A whole number with a proper minus sign.
+fn signed(number: i32) -> String {
+    number.to_string().replace('-', "−")
+}
+
+/// Draws one panel: the axis with its halves, and the bars of the given counts.
+fn draw_panel(drawing: &mut Drawing, panel: &Panel, title: &str, counts: std::ops::RangeInclusive<i32>) {
+    drawing.words((30, panel.top), 15, INK, Stand::Start, title);
+    let axis = panel.top + 120;
+    let first = *counts.start() as f64 - 0.5;
+    let last = *counts.end() as f64 + 0.5;
+    drawing.line((panel.x(first) - 30, axis), (panel.x(last) + 30, axis), INK, 1.5, false);
+    for count in counts.clone() {
+        draw_bar(drawing, panel, count);
+        let x = panel.x(count as f64);
+        drawing.line((x, axis - 8), (x, axis + 8), INK, 1.5, false);
+        drawing.words((x, axis + 26), 14, INK, Stand::Middle, &signed(count));
+    }
+    for half in (2 * counts.start() - 1..=2 * counts.end() + 1).step_by(2) {
+        let x = panel.x(half as f64 / 2.0);
+        drawing.line((x, panel.top + 40), (x, axis + 5), GREY, 1.0, true);
+        drawing.words((x, axis + 26), 12, GREY, Stand::Middle, &format!("{:.1}", half as f64 / 2.0).replace('-', "−"));
+    }
+}
+
+/// Marks a worked case at its exact mean.
+fn mark(drawing: &mut Drawing, panel: &Panel, x: i32, words: &[&str], stand: Stand) {
+    let axis = panel.top + 120;
+    drawing.disc((x, axis), 5, "#c0392b", "#c0392b");
+    drawing.line((x, axis + 31), (x, axis + 40), "#c0392b", 1.2, false);
+    for (i, line) in words.iter().enumerate() {
+        drawing.words((x, axis + 54 + 18 * i as i32), 14, "#c0392b", stand, line);
+    }
+}
+
+/// The drawing of the rounding.
+fn rounding() -> String {
+    let mut drawing = Drawing::new(720);
+    drawing.words((30, 36), 18, INK, Stand::Start, "Rounding of the exact mean of the nodes: halves go away from zero");
+    drawing.words((30, 60), 13, GREY, Stand::Start, "A full end belongs to its bar, an open end does not.");
+    drawing.words((30, 78), 13, GREY, Stand::Start, "The mean of grid K, 469,200 counts, is added afterwards.");
+    let above = Panel { middle: 60.5, top: 110 };
+    draw_panel(&mut drawing, &above, "Above zero", 59..=62);
+    let at_half = above.x(60.5);
+    mark(&mut drawing, &above, at_half + 1, &["P5: 60.5 gives 61,", "so 469,261"], Stand::Start);
+    mark(&mut drawing, &above, at_half - 8, &["P6: one step less gives 60,", "so 469,260"], Stand::End);
+    let zero = Panel { middle: 0.0, top: 340 };
+    draw_panel(&mut drawing, &zero, "Around zero", -2..=2);
+    let below = Panel { middle: -60.5, top: 530 };
+    draw_panel(&mut drawing, &below, "Below zero", -62..=-59);
+    let at_half = below.x(-60.5);
+    mark(&mut drawing, &below, at_half, &["P7: −60.5 gives −61, so 469,139"], Stand::Middle);
+    drawing.file("Rounding of the exact mean of the nodes")
+}
+
+/// Writes both drawings into a folder.
+pub fn write(dir: &Path) -> std::io::Result<()> {
+    std::fs::create_dir_all(dir)?;
+    std::fs::write(dir.join("grid.svg"), grid())?;
+    std::fs::write(dir.join("rounding.svg"), rounding())
+}

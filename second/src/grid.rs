@@ -1,0 +1,215 @@
+//! The shift at a position from a grid message, by exact whole numbers (document 01, "The grid").
+
+use crate::fields::by_df;
+use crate::message::{read, Message};
+use crate::refusal::Refusal;
+
+/// What differs between the ellipsoidal grid of 1023 and the plane grid of 1024.
+struct Plan {
+    /// Origin north and east.
+    origin: [u16; 2],
+    /// Spacing north and east.
+    spacing: [u16; 2],
+    /// The means of the three components.
+    mean: [u16; 3],
+    /// The nodes of the three components.
+    node: [u16; 3],
+    /// Steps in one raw unit of origin and spacing.
+    steps: i128,
+    /// The greatest position north and east without sign, in steps.
+    farthest: [i128; 2],
+    /// Counts in one raw unit of each mean.
+    mean_factor: [i128; 3],
+    /// Counts in one raw unit of each node.
+    node_factor: [i128; 3],
+}
+
+/// Message 1023: steps of 0.0001 arc second, counts of 0.00001 arc second or 0.1 mm.
+const ELLIPSOIDAL: Plan = Plan {
+    origin: [192, 193],
+    spacing: [194, 195],
+    mean: [196, 197, 198],
+    node: [199, 200, 201],
+    steps: 5_000,
+    farthest: [3_240_000_000, 6_480_000_000],
+    mean_factor: [100, 100, 100],
+    node_factor: [3, 3, 10],
+};
+
+/// Message 1024: steps of 1 mm, counts of 0.1 mm, the means DF206 and DF207 being 0.01 m (decision D6).
+const PLANE: Plan = Plan {
+    origin: [202, 203],
+    spacing: [204, 205],
+    mean: [206, 207, 208],
+    node: [209, 210, 211],
+    steps: 10_000,
+    farthest: [1_000_000_000_000, 1_000_000_000_000],
+    mean_factor: [100, 100, 100],
+    node_factor: [10, 10, 10],
+};
+
+/// The answer a second time, as the add-on receives it.
+#[derive(Clone, Copy, PartialEq, Debug)]
+pub enum Answer {
+    /// Arc seconds.
+    Seconds(f64),
+    /// Metres.
+    Metres(f64),
+    /// A refusal number.
+    Refused(u8),
+}
+
+/// The count at a position, with refusals 1 to 5 and 7 to 15 in order.
+pub fn shift(bytes: &[u8], component: u8, north: i64, east: i64) -> Result<i64, Refusal> {
+    let message = read(bytes)?;
+    let plan = plan_of(&message).ok_or(Refusal::Kind)?;
+    if component > 2 {
+        return Err(Refusal::Component);
+    }
+    let position = [north as i128, east as i128];
+    if (0..2).any(|axis| position[axis].abs() > plan.farthest[axis]) {
+        return Err(Refusal::Position);
+    }
+    count(&message, plan, component as usize, position).map(|count| count as i64)
+}
+
+/// The plan of a grid message.
+fn plan_of(message: &Message) -> Option<&'static Plan> {
+    match message.number {
+        1023 => Some(&ELLIPSOIDAL),
+        1024 => Some(&PLANE),
+        _ => None,
+    }
+}
+
+/// The count at a position within the limits, with refusals 10 to 15 in order.
+fn count(message: &Message, plan: &Plan, component: usize, position: [i128; 2]) -> Result<i128, Refusal> {
+    let (indicator, method) = if component == 2 { (191, 213) } else { (190, 212) };
+    if message.value(indicator) == 0 {
+        return Err(Refusal::Off);
+    }
+    if message.value(method) != 0 {
+        return Err(Refusal::Method);
+    }
+    if plan.origin.iter().any(|&df| absent(df, message.value(df))) {
+        return Err(Refusal::Origin);
+    }
+    let spacing = plan.spacing.map(|df| message.value(df) as i128 * plan.steps);
+    if spacing.contains(&0) {
+        return Err(Refusal::Spacing);
+    }
+    let origin = plan.origin.map(|df| message.value(df) as i128 * plan.steps);
+    let cells = cells_at(origin, spacing, position).ok_or(Refusal::Outside)?;
+    let mean = message.value(plan.mean[component]);
+    if absent(plan.mean[component], mean) {
+        return Err(Refusal::Absent);
+    }
+    let residual = same_in_all(&cells, |cell| residual_in(message, plan, component, spacing, cell))?;
+    Ok(mean as i128 * plan.mean_factor[component] + residual)
+}
+
+/// Whether a raw number is the "not available" pattern of its field.
+fn absent(df: u16, value: i64) -> bool {
+    by_df(df).not_available() == Some(value)
+}
+
+/// A cell that holds the position, and the place of the position in it.
+#[derive(Clone, Copy, Debug)]
+struct Cell {
+    /// The cell's row from the south and column from the west, 0 to 2.
+    index: [usize; 2],
+    /// Steps north of the southern edge and east of the western edge.
+    inside: [i128; 2],
+}
+
+/// All cells that hold the position on or within their edges, or none where it is outside the grid.
+fn cells_at(origin: [i128; 2], spacing: [i128; 2], position: [i128; 2]) -> Option<Vec<Cell>> {
+    let rows = intervals_at(origin[0], spacing[0], position[0]);
+    let columns = intervals_at(origin[1], spacing[1], position[1]);
+    let mut cells = Vec::new();
+    for &(row, y) in &rows {
+        for &(column, x) in &columns {
+            cells.push(Cell { index: [row, column], inside: [y, x] });
+        }
+    }
+    (!cells.is_empty()).then_some(cells)
+}
+
+/// The intervals between neighbouring lines that hold a position, each with the steps from its lower end.
+fn intervals_at(origin: i128, spacing: i128, position: i128) -> Vec<(usize, i128)> {
+    let lowest = origin - 3 * spacing / 2;
+    (0..3)
+        .map(|index| (index, position - (lowest + index as i128 * spacing)))
+        .filter(|&(_, above)| 0 <= above && above <= spacing)
+        .collect()
+}
+
+/// What every cell gives, which on a shared edge is the same in each.
+fn same_in_all<T: PartialEq + Copy + std::fmt::Debug>(cells: &[Cell], of: impl Fn(&Cell) -> T) -> T {
+    let first = of(&cells[0]);
+    assert!(cells.iter().all(|cell| of(cell) == first), "cells {cells:?} differ");
+    first
+}
+
+/// The nearest whole count to the exact weighted mean of a cell's four nodes.
+fn residual_in(
+    message: &Message,
+    plan: &Plan,
+    component: usize,
+    spacing: [i128; 2],
+    cell: &Cell,
+) -> Result<i128, Refusal> {
+    let df = plan.node[component];
+    let nodes = message.values(df);
+    let mut sum = 0;
+    for (place, weight) in weights(spacing, cell) {
+        let node = nodes[place];
+        if weight != 0 && absent(df, node) {
+            return Err(Refusal::Absent);
+        }
+        sum += weight * node as i128 * plan.node_factor[component];
+    }
+    Ok(nearest(sum, spacing[0] * spacing[1]))
+}
+
+/// The place in the message of the node at a row from the south and a column from the west, node 1 being place 0.
+fn node_place(row: usize, column: usize) -> usize {
+    (3 - row) * 4 + column
+}
+
+/// The four nodes of a cell and their weights: south-west, south-east, north-west, north-east.
+fn weights(spacing: [i128; 2], cell: &Cell) -> [(usize, i128); 4] {
+    let [h, w] = spacing;
+    let [y, x] = cell.inside;
+    let [row, column] = cell.index;
+    [
+        (node_place(row, column), (w - x) * (h - y)),
+        (node_place(row, column + 1), x * (h - y)),
+        (node_place(row + 1, column), (w - x) * y),
+        (node_place(row + 1, column + 1), x * y),
+    ]
+}
+
+/// The whole number nearest to a fraction, halves going away from zero.
+pub fn nearest(numerator: i128, denominator: i128) -> i128 {
+    let magnitude = (2 * numerator.abs() + denominator) / (2 * denominator);
+    if numerator < 0 {
+        -magnitude
+    } else {
+        magnitude
+    }
+}
+
+/// The answer a second time: the count divided once by 100,000 for arc seconds or by 10,000 for metres.
+pub fn answer(bytes: &[u8], component: u8, north: i64, east: i64) -> Answer {
+    match shift(bytes, component, north, east) {
+        Err(refusal) => Answer::Refused(refusal.number()),
+        Ok(count) if in_seconds(bytes, component) => Answer::Seconds(count as f64 / 100_000.0),
+        Ok(count) => Answer::Metres(count as f64 / 10_000.0),
+    }
+}
+
+/// Whether the counts of a component of a message are arc seconds.
+fn in_seconds(bytes: &[u8], component: u8) -> bool {
+    read(bytes).is_ok_and(|message| message.number == 1023) && component < 2
+}

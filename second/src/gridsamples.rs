@@ -1,0 +1,130 @@
+//! Grid messages to try the shift on.
+
+use crate::samples::Sample;
+
+/// A grid message with its parts at hand.
+#[derive(Clone)]
+pub struct Grid {
+    /// The row of the message.
+    pub sample: Sample,
+}
+
+impl Grid {
+    /// Document 01's grid K.
+    pub fn k() -> Grid {
+        let mut grid = Grid { sample: Sample::zeros(1023) };
+        grid = grid.set(147, 7).set(192, 352_800).set(193, 79_200).set(194, 720).set(195, 720);
+        grid = grid.set(190, 0).set(191, 1).set(198, 4_692);
+        (1..=16).fold(grid, |grid, node| grid.set_node(2, node, node as i64))
+    }
+
+    /// A grid of a number, an origin, spacings, means and nodes, with both shifts on.
+    pub fn of(
+        number: u16,
+        origin: [i64; 2],
+        spacing: [i64; 2],
+        mean: [i64; 3],
+        node: impl FnMut(usize, usize) -> i64,
+    ) -> Grid {
+        let grid = Grid { sample: Sample::zeros(number) }.set(147, 9).set(190, 1).set(191, 1);
+        let [lat, lon] = grid.origin_fields();
+        let [high, wide] = grid.spacing_fields();
+        let grid = grid.set(lat, origin[0]).set(lon, origin[1]).set(high, spacing[0]).set(wide, spacing[1]);
+        let grid = (0..3).fold(grid, |grid, c| grid.set(grid.mean_field(c), mean[c]));
+        grid.set_nodes(node)
+    }
+
+    /// Whether the message is 1023.
+    pub fn ellipsoidal(&self) -> bool {
+        self.sample.number == 1023
+    }
+
+    /// The origin's data fields.
+    pub fn origin_fields(&self) -> [u16; 2] {
+        if self.ellipsoidal() {
+            [192, 193]
+        } else {
+            [202, 203]
+        }
+    }
+
+    /// The spacings' data fields.
+    pub fn spacing_fields(&self) -> [u16; 2] {
+        if self.ellipsoidal() {
+            [194, 195]
+        } else {
+            [204, 205]
+        }
+    }
+
+    /// The mean's data field of a component.
+    pub fn mean_field(&self, component: usize) -> u16 {
+        let first = if self.ellipsoidal() { 196 } else { 206 };
+        first + component as u16
+    }
+
+    /// The node's data field of a component.
+    pub fn node_field(&self, component: usize) -> u16 {
+        let first = if self.ellipsoidal() { 199 } else { 209 };
+        first + component as u16
+    }
+
+    /// The same grid with another number for one data field.
+    pub fn set(&self, df: u16, value: i64) -> Grid {
+        Grid { sample: self.sample.with(df, value) }
+    }
+
+    /// The same grid with another number at one node, nodes being numbered from 1.
+    pub fn set_node(&self, component: usize, node: usize, value: i64) -> Grid {
+        let place = self.sample.place(self.node_field(component)) + 3 * (node - 1);
+        Grid { sample: self.sample.with_at(place, value) }
+    }
+
+    /// The same grid with all nodes given by component and node number.
+    pub fn set_nodes(&self, mut node: impl FnMut(usize, usize) -> i64) -> Grid {
+        let mut grid = self.clone();
+        for component in 0..3 {
+            for number in 1..=16 {
+                grid = grid.set_node(component, number, node(component, number));
+            }
+        }
+        grid
+    }
+
+    /// The raw number at a node.
+    pub fn node(&self, component: usize, node: usize) -> i64 {
+        self.sample.row[self.sample.place(self.node_field(component)) + 3 * (node - 1)]
+    }
+
+    /// The bytes of the message.
+    pub fn bytes(&self) -> Vec<u8> {
+        self.sample.bytes()
+    }
+
+    /// Steps in one raw unit of origin and spacing.
+    pub fn unit(&self) -> i64 {
+        if self.ellipsoidal() {
+            5_000
+        } else {
+            10_000
+        }
+    }
+
+    /// The origin in steps.
+    pub fn origin(&self) -> [i64; 2] {
+        self.origin_fields().map(|df| self.sample.row[self.sample.place(df)] * self.unit())
+    }
+
+    /// The spacings in steps.
+    pub fn spacing(&self) -> [i64; 2] {
+        self.spacing_fields().map(|df| self.sample.row[self.sample.place(df)] * self.unit())
+    }
+
+    /// The position of a node in steps, nodes being numbered from 1 in rows from the north.
+    pub fn at_node(&self, node: usize) -> [i64; 2] {
+        let halves_north = 3 - 2 * ((node as i64 - 1) / 4);
+        let halves_east = 2 * ((node as i64 - 1) % 4) - 3;
+        let [high, wide] = self.spacing();
+        [self.origin()[0] + halves_north * high / 2, self.origin()[1] + halves_east * wide / 2]
+    }
+}

@@ -1,0 +1,74 @@
+//! The command line of the second program.
+
+use second::{figures, page, papers, selfcheck, services, vectors};
+use std::io::Read;
+use std::path::Path;
+use std::process::ExitCode;
+
+/// What the program can be asked for.
+const USAGE: &str = "second selfcheck | papers FILE | fields | vectors OUTDIR [--shift] [--table] | services DIR | figures DIR | identify";
+
+/// Success or failure from a truth value.
+fn exit(good: bool) -> ExitCode {
+    if good {
+        ExitCode::SUCCESS
+    } else {
+        ExitCode::FAILURE
+    }
+}
+
+/// Compares the tables with the text of source document 000.
+fn compare_papers(file: &str) -> std::io::Result<bool> {
+    let differences = papers::differences(&std::fs::read_to_string(file)?);
+    differences.iter().for_each(|line| println!("{line}"));
+    println!("{} differences from {file}", differences.len());
+    Ok(differences.is_empty())
+}
+
+/// Writes the cases into a folder.
+fn write_vectors(dir: &str, flags: &[String]) -> std::io::Result<bool> {
+    let has = |flag: &str| flags.iter().any(|f| f == flag);
+    let wanted = vectors::Wanted { shift: has("--shift"), table: has("--table") };
+    println!("{} cases", vectors::write(Path::new(dir), wanted)?);
+    Ok(true)
+}
+
+/// Prints what document 01's program prints of the standard input.
+fn identify() -> std::io::Result<bool> {
+    let mut input = Vec::new();
+    std::io::stdin().read_to_end(&mut input)?;
+    println!("{}", selfcheck::program_line(&input));
+    Ok(true)
+}
+
+/// Does what the arguments ask for.
+fn run(arguments: &[String]) -> std::io::Result<bool> {
+    let words: Vec<&str> = arguments.iter().map(String::as_str).collect();
+    match words[..] {
+        ["selfcheck"] => Ok(selfcheck::run()),
+        ["papers", file] => compare_papers(file),
+        ["fields"] => {
+            print!("{}", page::page());
+            Ok(true)
+        }
+        ["vectors", dir, ..] => write_vectors(dir, &arguments[2..]),
+        ["services", dir] => services::write(Path::new(dir)).map(|()| true),
+        ["figures", dir] => figures::write(Path::new(dir)).map(|()| true),
+        ["identify"] => identify(),
+        _ => {
+            eprintln!("{USAGE}");
+            Ok(false)
+        }
+    }
+}
+
+fn main() -> ExitCode {
+    let arguments: Vec<String> = std::env::args().skip(1).collect();
+    match run(&arguments) {
+        Ok(good) => exit(good),
+        Err(error) => {
+            eprintln!("{error}");
+            ExitCode::FAILURE
+        }
+    }
+}

@@ -1,0 +1,57 @@
+//! The refusal numbers of document 01.
+
+/// Why a call is refused.
+#[derive(Clone, Copy, PartialEq, Eq, PartialOrd, Ord, Debug)]
+pub enum Refusal {
+    /// Under 2 bytes.
+    Short = 1,
+    /// Not 1021 to 1027.
+    Number = 2,
+    /// Not exactly the length called for, or a name counter cannot be read.
+    Length = 3,
+    /// A fill bit is set.
+    Fill = 4,
+    /// A field outside its range or width, a number not of the record's kind, or a bad name.
+    Range = 5,
+    /// Output shorter than the message.
+    Room = 6,
+    /// A grid call on another message, or a reader of one kind of record on another.
+    Kind = 7,
+    /// Not component 0 to 2.
+    Component = 8,
+    /// A position beyond the limits.
+    Position = 9,
+    /// The shift indicator of the component is 0.
+    Off = 10,
+    /// The interpolation method of the component is not bilinear.
+    Method = 11,
+    /// An origin field is not available.
+    Origin = 12,
+    /// A spacing is 0.
+    Spacing = 13,
+    /// Not inside the grid.
+    Outside = 14,
+    /// The mean, or a node of non-zero weight, is not available.
+    Absent = 15,
+    /// No slot of that key and no free slot.
+    Full = 16,
+    /// No such key, or group not 0 to 2.
+    None = 17,
+    /// Wrong size or not well formed.
+    Table = 18,
+}
+
+impl Refusal {
+    /// The number of document 01.
+    pub fn number(self) -> u8 {
+        self as u8
+    }
+}
+
+/// The refusal number of an answer, 0 where it is done.
+pub fn number_of<T>(answer: &Result<T, Refusal>) -> u8 {
+    match answer {
+        Ok(_) => 0,
+        Err(refusal) => refusal.number(),
+    }
+}

@@ -1,0 +1,144 @@
+//! The second program's own checks of the shift.
+
+use crate::grid::{answer, nearest, shift, Answer};
+use crate::gridsamples::Grid;
+use crate::random::Random;
+use crate::refusal::Refusal;
+use crate::selfcheck::Group;
+use crate::vectors::shifts::random_grid;
+
+/// All groups of checks of the shift.
+pub fn groups() -> Vec<Group> {
+    vec![worked(), second_answer(), rounding(), at_nodes(), bounded_change()]
+}
+
+/// P1 to P11 as document 01 prints them.
+fn worked() -> Group {
+    let mut group = Group::new("P1 to P11");
+    let k = Grid::k();
+    group.equal("middle", k.origin(), [1_764_000_000, 396_000_000]);
+    group.equal("node 1", k.at_node(1), [1_769_400_000, 390_600_000]);
+    let [north, east] = k.at_node(6);
+    let negated = k.set_nodes(|component, node| -k.node(component, node));
+    let gap = k.set_node(2, 7, -256);
+    let mut at = |name: &str, grid: &Grid, component: u8, position: [i64; 2], expected: Result<i64, Refusal>| {
+        group.equal(name, shift(&grid.bytes(), component, position[0], position[1]), expected);
+    };
+    at("P1", &k, 2, k.origin(), Ok(469_285));
+    at("P2", &k, 2, k.at_node(1), Ok(469_210));
+    at("P3", &k, 2, [k.at_node(1)[0] + 1, k.at_node(1)[1]], Err(Refusal::Outside));
+    at("P4", &k, 2, k.at_node(16), Ok(469_360));
+    at("P5", &k, 2, [north, east + 180_000], Ok(469_261));
+    at("P6", &k, 2, [north, east + 179_999], Ok(469_260));
+    at("P7", &negated, 2, [north, east + 180_000], Ok(469_139));
+    at("P8", &gap, 2, [north, east], Ok(469_260));
+    at("P9", &gap, 2, [north, east + 1], Err(Refusal::Absent));
+    at("P10", &k, 0, k.origin(), Err(Refusal::Off));
+    at("P11", &k.set(194, 0), 2, k.origin(), Err(Refusal::Spacing));
+    at("P11 east", &k.set(195, 0), 2, k.origin(), Err(Refusal::Spacing));
+    group
+}
+
+/// The answer as arc seconds, metres or a refusal number.
+fn second_answer() -> Group {
+    let mut group = Group::new("the answer a second time");
+    let k = Grid::k();
+    let [north, east] = k.origin();
+    group.equal("P1", answer(&k.bytes(), 2, north, east), Answer::Metres(46.9285));
+    group.equal("P10", answer(&k.bytes(), 0, north, east), Answer::Refused(10));
+    let on = k.set(190, 1).set(196, 100);
+    group.equal("seconds", answer(&on.bytes(), 0, north, east), Answer::Seconds(0.1));
+    let plane = Grid::of(1024, [0, 0], [1, 1], [511, -511, 0], |_, _| 0);
+    group.equal("DF206", answer(&plane.bytes(), 0, 0, 0), Answer::Metres(5.11));
+    group.equal("DF207", answer(&plane.bytes(), 1, 0, 0), Answer::Metres(-5.11));
+    group
+}
+
+/// Rounding on both sides of zero.
+fn rounding() -> Group {
+    let mut group = Group::new("rounding, halves away from zero");
+    let cases = [
+        (0, 2, 0),
+        (1, 2, 1),
+        (-1, 2, -1),
+        (3, 2, 2),
+        (-3, 2, -2),
+        (1, 3, 0),
+        (2, 3, 1),
+        (-2, 3, -1),
+        (121, 2, 61),
+        (-121, 2, -61),
+    ];
+    for (numerator, denominator, expected) in cases {
+        group.equal("nearest", nearest(numerator, denominator), expected);
+    }
+    for numerator in -1_000..=1_000i128 {
+        for denominator in 1..=24 {
+            let twice = 2 * (nearest(numerator, denominator) * denominator - numerator).abs();
+            let away = nearest(numerator, denominator).abs() * denominator >= numerator.abs();
+            group.check(twice < denominator || (twice == denominator && away), || format!("{numerator}/{denominator}"));
+        }
+    }
+    group
+}
+
+/// At a node the shift is mean and node alone.
+fn at_nodes() -> Group {
+    let mut group = Group::new("shifts at nodes");
+    let mut random = Random::new(21);
+    for number in [1023, 1024].repeat(40) {
+        let grid = random_grid(&mut random, number);
+        for node in 1..=16 {
+            for component in 0..3 {
+                let [north, east] = grid.at_node(node);
+                let given = shift(&grid.bytes(), component as u8, north, east);
+                let factor = if number == 1023 && component < 2 { 3 } else { 10 };
+                let mean = grid.sample.row[grid.sample.place(grid.mean_field(component))];
+                let raw = grid.node(component, node);
+                let expected = if raw == -256 { Err(Refusal::Absent) } else { Ok(mean * 100 + raw * factor) };
+                group.equal("node", given, expected);
+            }
+        }
+    }
+    group
+}
+
+/// The greatest difference of neighbouring nodes, in counts: in a column and in a row.
+fn greatest_differences(grid: &Grid, component: usize, factor: i64) -> [i128; 2] {
+    let node = |row: usize, column: usize| grid.node(component, row * 4 + column + 1);
+    let mut most = [0, 0];
+    for line in 0..4 {
+        for step in 0..3 {
+            most[0] = most[0].max((node(step + 1, line) - node(step, line)).abs());
+            most[1] = most[1].max((node(line, step + 1) - node(line, step)).abs());
+        }
+    }
+    most.map(|difference| (difference * factor) as i128)
+}
+
+/// Demand 3's bound on the difference of two answers, over random pairs of positions.
+fn bounded_change() -> Group {
+    let mut group = Group::new("the bound on the difference of two answers");
+    let mut random = Random::new(22);
+    for number in [1023, 1024].repeat(150) {
+        let grid = random_grid(&mut random, number).set_nodes(|_, _| random.within(-255, 255));
+        let [high, wide] = grid.spacing();
+        let [north, east] = grid.origin();
+        for component in 0..3 {
+            let factor = if number == 1023 && component < 2 { 3 } else { 10 };
+            let [column, row] = greatest_differences(&grid, component, factor);
+            let mut at = || {
+                let y = random.within(-3 * high / 2, 3 * high / 2);
+                let x = random.within(-3 * wide / 2, 3 * wide / 2);
+                (y, x, shift(&grid.bytes(), component as u8, north + y, east + x).expect("inside, all present"))
+            };
+            let (a, b) = (at(), at());
+            let (h, w) = (high as i128, wide as i128);
+            let steps = [(a.0 - b.0).abs() as i128, (a.1 - b.1).abs() as i128];
+            let difference = (a.2 - b.2).abs() as i128 * h * w;
+            let bound = h * w + steps[0] * column * w + steps[1] * row * h;
+            group.check(difference <= bound, || format!("{a:?} {b:?}"));
+        }
+    }
+    group
+}

@@ -1,0 +1,548 @@
+//! Cases of the shift at a position.
+
+use super::Case;
+use crate::grid::{answer, shift, Answer};
+use crate::gridsamples::Grid;
+use crate::hex::hex;
+use crate::message::read;
+use crate::random::Random;
+use crate::refusal::number_of;
+use crate::samples::Sample;
+use crate::services::services;
+
+/// All cases of the shift.
+pub fn cases() -> Vec<Case> {
+    let mut cases = worked();
+    cases.extend(nodes("k", &Grid::k(), &[2]));
+    cases.extend(middles("k", &Grid::k(), &[2]));
+    for (name, grid) in named_grids() {
+        cases.extend(nodes(&name, &grid, &[0, 1, 2]));
+        cases.extend(middles(&name, &grid, &[0, 1, 2]));
+    }
+    cases.extend(lines_and_corners("k", &Grid::k(), 2));
+    cases.extend(lines_and_corners("steep", &steep(1023), 0));
+    cases.extend(lines_and_corners("plane", &steep(1024), 1));
+    for number in [1023, 1024] {
+        cases.extend(halves(number));
+        cases.extend(absent_nodes(number));
+        cases.extend(absent_means(number));
+        cases.extend(mean_factors(number));
+        cases.extend(pairs(number));
+        cases.extend(limits(number));
+        cases.extend(widest(number));
+        cases.extend(random_grids(number));
+    }
+    cases.extend(other_messages());
+    cases.extend(service_grids());
+    cases
+}
+
+/// A case of the shift on any bytes.
+fn case(name: String, bytes: &[u8], component: u8, [north, east]: [i64; 2]) -> Case {
+    let given = shift(bytes, component, north, east);
+    let kind = match answer(bytes, component, north, east) {
+        Answer::Seconds(_) => "seconds",
+        Answer::Metres(_) => "metres",
+        Answer::Refused(_) => "refused",
+    };
+    let refusal = number_of(&given);
+    Case {
+        name,
+        call: format!("shift {} {component} {north} {east}", hex(bytes)),
+        answer: format!("{refusal} {} {kind}", given.unwrap_or(0)),
+    }
+}
+
+/// A signed number as a word for a name.
+fn word(number: i64) -> String {
+    number.to_string().replace('-', "m")
+}
+
+/// P1 to P11.
+fn worked() -> Vec<Case> {
+    let k = Grid::k();
+    let middle = k.origin();
+    let six = k.at_node(6);
+    let negated = k.set_nodes(|component, node| -k.node(component, node));
+    let absent = k.set_node(2, 7, -256);
+    let east_of = |[north, east]: [i64; 2], steps: i64| [north, east + steps];
+    let north_of = |[north, east]: [i64; 2], steps: i64| [north + steps, east];
+    vec![
+        case("p1".into(), &k.bytes(), 2, middle),
+        case("p2".into(), &k.bytes(), 2, k.at_node(1)),
+        case("p3".into(), &k.bytes(), 2, north_of(k.at_node(1), 1)),
+        case("p4".into(), &k.bytes(), 2, k.at_node(16)),
+        case("p5".into(), &k.bytes(), 2, east_of(six, 180_000)),
+        case("p6".into(), &k.bytes(), 2, east_of(six, 179_999)),
+        case("p7".into(), &negated.bytes(), 2, east_of(six, 180_000)),
+        case("p7-one-step-less".into(), &negated.bytes(), 2, east_of(six, 179_999)),
+        case("p7-one-step-more".into(), &negated.bytes(), 2, east_of(six, 180_001)),
+        case("p8".into(), &absent.bytes(), 2, six),
+        case("p9".into(), &absent.bytes(), 2, east_of(six, 1)),
+        case("p10".into(), &k.bytes(), 0, middle),
+        case("p10-east".into(), &k.bytes(), 1, middle),
+        case("p11-north".into(), &k.set(194, 0).bytes(), 2, middle),
+        case("p11-east".into(), &k.set(195, 0).bytes(), 2, middle),
+        case("p11-both".into(), &k.set(194, 0).set(195, 0).bytes(), 2, middle),
+    ]
+}
+
+/// A grid with nodes at both ends of their range and small spacings that differ.
+fn steep(number: u16) -> Grid {
+    Grid::of(number, [-700, 400], [6, 9], [-3, 5, -7], |component, node| match (node + component) % 4 {
+        0 => 255,
+        1 => -255,
+        2 => node as i64 * 7 - 60,
+        _ => 31 - node as i64 * 5,
+    })
+}
+
+/// Grids whose sixteen nodes and nine middles are asked for in all components.
+fn named_grids() -> Vec<(String, Grid)> {
+    let mut random = Random::new(11);
+    let mut grids = Vec::new();
+    for number in [1023, 1024] {
+        grids.push((format!("{number}-steep"), steep(number)));
+        let mixed = Grid::of(number, [1_234, 567], [4_095, 1], [100, -100, 16_383], |_, _| random.within(-255, 255));
+        grids.push((format!("{number}-mixed"), mixed));
+    }
+    grids
+}
+
+/// The sixteen nodes, whose shift is mean and node alone.
+fn nodes(name: &str, grid: &Grid, components: &[u8]) -> Vec<Case> {
+    let mut cases = Vec::new();
+    for &component in components {
+        for node in 1..=16 {
+            let name = format!("{name}-c{component}-node-{node}");
+            cases.push(case(name, &grid.bytes(), component, grid.at_node(node)));
+        }
+    }
+    cases
+}
+
+/// The middles of the nine cells, row by row from the north.
+fn middles(name: &str, grid: &Grid, components: &[u8]) -> Vec<Case> {
+    let [high, wide] = grid.spacing();
+    let mut cases = Vec::new();
+    for &component in components {
+        for cell in 0..9usize {
+            let [north, east] = grid.at_node(cell / 3 * 4 + cell % 3 + 1);
+            let name = format!("{name}-c{component}-cell-{}", cell + 1);
+            cases.push(case(name, &grid.bytes(), component, [north - high / 2, east + wide / 2]));
+        }
+    }
+    cases
+}
+
+/// Every crossing of a row and a column by one step on either side, and the middles of the edges.
+fn lines_and_corners(name: &str, grid: &Grid, component: u8) -> Vec<Case> {
+    let [high, wide] = grid.spacing();
+    let mut cases = Vec::new();
+    for node in 1..=16 {
+        let [north, east] = grid.at_node(node);
+        for (y, x) in (-1..=1).flat_map(|y| (-1..=1).map(move |x| (y, x))) {
+            let name = format!("{name}-near-{node}-n{}-e{}", word(y), word(x));
+            cases.push(case(name, &grid.bytes(), component, [north + y, east + x]));
+        }
+        for step in -1..=1 {
+            let row = format!("{name}-row-{node}-n{}", word(step));
+            cases.push(case(row, &grid.bytes(), component, [north + step, east + wide / 3]));
+            let column = format!("{name}-column-{node}-e{}", word(step));
+            cases.push(case(column, &grid.bytes(), component, [north - high / 3, east + step]));
+        }
+    }
+    cases
+}
+
+/// Positions whose exact mean ends in a half, and one step on either side, with nodes of both signs.
+fn halves(number: u16) -> Vec<Case> {
+    let mut cases = Vec::new();
+    for (word, sign) in [("plus", 1), ("minus", -1)] {
+        let grid = Grid::of(number, [100, 200], [12, 12], [0, 0, 0], |_, node| sign * (node as i64 % 4));
+        let wide = grid.spacing()[1];
+        for component in [0u8, 2] {
+            let parts = if number == 1023 && component == 0 { 6 } else { 20 };
+            for part in (1..parts).step_by(2) {
+                for step in -1..=1 {
+                    let [north, east] = grid.at_node(5);
+                    let at = [north, east + wide * part / parts + step];
+                    let name = format!("{number}-half-{word}-c{component}-{part}-e{}", self::word(step));
+                    cases.push(case(name, &grid.bytes(), component, at));
+                }
+            }
+        }
+    }
+    cases.extend(halves_across_zero(number));
+    cases
+}
+
+/// Positions between a negative and a positive node, where the exact mean passes zero.
+fn halves_across_zero(number: u16) -> Vec<Case> {
+    let grid = Grid::of(number, [0, 1_000], [12, 12], [0, 0, 0], |_, node| if node % 2 == 0 { 1 } else { -1 });
+    let wide = grid.spacing()[1];
+    let mut cases = Vec::new();
+    for part in 0..=20 {
+        for step in -1..=1 {
+            let [north, east] = grid.at_node(9);
+            let at = [north, east + wide * part / 20 + step];
+            cases.push(case(format!("{number}-zero-{part}-e{}", word(step)), &grid.bytes(), 2, at));
+        }
+    }
+    cases
+}
+
+/// Each node not available, asked for at the node, beside it, and at its neighbours.
+fn absent_nodes(number: u16) -> Vec<Case> {
+    let grid = Grid::of(number, [100, 200], [6, 8], [1, 2, 3], |component, node| 10 * component as i64 - node as i64);
+    let [high, wide] = grid.spacing();
+    let mut cases = Vec::new();
+    for node in 1..=16 {
+        let component = (node % 3) as u8;
+        let bytes = grid.set_node(component as usize, node, -256).bytes();
+        let [north, east] = grid.at_node(node);
+        let around = [
+            ("at", [0, 0]),
+            ("north", [1, 0]),
+            ("south", [-1, 0]),
+            ("east", [0, 1]),
+            ("west", [0, -1]),
+            ("next-north", [high, 0]),
+            ("next-south", [-high, 0]),
+            ("next-east", [0, wide]),
+            ("next-west", [0, -wide]),
+            ("before-north", [high - 1, 0]),
+            ("before-east", [0, wide - 1]),
+            ("inside", [1 - high, wide - 1]),
+            ("edge", [-high, wide / 2]),
+        ];
+        for (word, [y, x]) in around {
+            cases.push(case(format!("{number}-absent-{node}-{word}"), &bytes, component, [north + y, east + x]));
+        }
+        let other = (component + 1) % 3;
+        cases.push(case(format!("{number}-absent-{node}-other"), &bytes, other, [north, east]));
+    }
+    cases
+}
+
+/// Each mean not available, asked for in every component.
+fn absent_means(number: u16) -> Vec<Case> {
+    let grid = steep(number);
+    let mut cases = Vec::new();
+    for mean in 0..3 {
+        let df = grid.mean_field(mean);
+        let pattern = crate::fields::by_df(df).width_least();
+        for component in 0..3 {
+            let bytes = grid.set(df, pattern).bytes();
+            cases.push(case(format!("{number}-absent-mean-{mean}-c{component}"), &bytes, component, grid.origin()));
+        }
+    }
+    cases
+}
+
+/// Each mean at its ends and at plus and minus one, nodes being zero, so that the mean's factor shows.
+fn mean_factors(number: u16) -> Vec<Case> {
+    let mut cases = Vec::new();
+    for component in 0..3 {
+        let grid = Grid::of(number, [0, 500], [10, 10], [0, 0, 0], |_, _| 0);
+        let df = grid.mean_field(component);
+        let most = crate::fields::by_df(df).greatest();
+        for mean in [-most, -1, 0, 1, most] {
+            let bytes = grid.set(df, mean).bytes();
+            cases.push(case(format!("{number}-mean-df{df}-{}", word(mean)), &bytes, component as u8, grid.origin()));
+        }
+        for node in [-255, -1, 1, 255] {
+            let bytes = grid.set_nodes(|_, _| node).bytes();
+            let name = format!("{number}-node-df{}-{}", grid.node_field(component), word(node));
+            cases.push(case(name, &bytes, component as u8, grid.origin()));
+        }
+    }
+    cases
+}
+
+/// A call with some reasons to be refused.
+struct Call {
+    grid: Grid,
+    component: u8,
+    position: [i64; 2],
+}
+
+/// Gives a call one more reason to be refused, by the refusal's number.
+fn spoil(mut call: Call, refusal: u8) -> Call {
+    let vertical = call.component == 2;
+    let far = if call.grid.ellipsoidal() { 3_240_000_000 } else { 1_000_000_000_000 };
+    match refusal {
+        8 => call.component = 3,
+        9 => call.position[0] = far + 1,
+        10 => call.grid = call.grid.set(if vertical { 191 } else { 190 }, 0),
+        11 => call.grid = call.grid.set(if vertical { 213 } else { 212 }, 1),
+        12 => {
+            let df = call.grid.origin_fields()[0];
+            call.grid = call.grid.set(df, crate::fields::by_df(df).width_least());
+        }
+        13 => call.grid = call.grid.set(call.grid.spacing_fields()[1], 0),
+        14 => call.position[1] = far,
+        _ => {
+            let df = call.grid.mean_field(call.component.min(2) as usize);
+            call.grid = call.grid.set(df, crate::fields::by_df(df).width_least());
+        }
+    }
+    call
+}
+
+/// A call that is answered.
+fn good_call(number: u16, component: u8) -> Call {
+    let grid = steep(number);
+    Call { component, position: grid.origin(), grid }
+}
+
+/// Each of refusals 8 to 15 alone and every pair of them, the later one being put in first.
+fn pairs(number: u16) -> Vec<Case> {
+    let mut cases = Vec::new();
+    for component in 0..3 {
+        for first in 8..=15 {
+            let call = spoil(good_call(number, component), first);
+            let name = format!("{number}-refusal-{first}-c{component}");
+            cases.push(case(name, &call.grid.bytes(), call.component, call.position));
+            for second in first + 1..=15 {
+                let call = spoil(spoil(good_call(number, component), second), first);
+                let name = format!("{number}-refusals-{first}-{second}-c{component}");
+                cases.push(case(name, &call.grid.bytes(), call.component, call.position));
+            }
+        }
+        cases.extend(single_fields(number, component));
+    }
+    cases
+}
+
+/// Indicators, methods, origins and spacings one by one, those of the other components included.
+fn single_fields(number: u16, component: u8) -> Vec<Case> {
+    let call = good_call(number, component);
+    let [north, east] = call.grid.origin_fields();
+    let [high, wide] = call.grid.spacing_fields();
+    let east_pattern = if number == 1023 { -2_097_152 } else { 67_108_863 };
+    let edits = [
+        (190, 0),
+        (191, 0),
+        (212, 1),
+        (212, 2),
+        (212, 3),
+        (213, 1),
+        (213, 2),
+        (213, 3),
+        (north, crate::fields::by_df(north).width_least()),
+        (east, east_pattern),
+        (high, 0),
+        (wide, 0),
+        (216, 7),
+        (217, 7),
+        (51, 65_535),
+        (147, 255),
+    ];
+    edits
+        .iter()
+        .map(|&(df, value)| {
+            let name = format!("{number}-c{component}-df{df}-{}", word(value));
+            case(name, &call.grid.set(df, value).bytes(), component, call.position)
+        })
+        .collect()
+}
+
+/// Positions at the limits and at the ends of 64 bits, components 3 and 255, and grids that reach a limit.
+fn limits(number: u16) -> Vec<Case> {
+    let bytes = steep(number).bytes();
+    let [far_north, far_east] = if number == 1023 { [3_240_000_000i64, 6_480_000_000] } else { [1_000_000_000_000; 2] };
+    let mut cases = Vec::new();
+    for (axis, far) in [("north", far_north), ("east", far_east)] {
+        for value in [far - 1, far, far + 1, -far + 1, -far, -far - 1, i64::MIN, i64::MIN + 1, i64::MAX] {
+            let inside = steep(number).origin();
+            let at = if axis == "north" { [value, inside[1]] } else { [inside[0], value] };
+            let text = match value {
+                i64::MIN => "least".to_string(),
+                i64::MAX => "greatest".to_string(),
+                _ if value == i64::MIN + 1 => "least-and-one".to_string(),
+                _ => word(value),
+            };
+            cases.push(case(format!("{number}-limit-{axis}-{text}"), &bytes, 2, at));
+        }
+    }
+    for component in [3, 4, 127, 128, 255] {
+        cases.push(case(format!("{number}-component-{component}"), &bytes, component, steep(number).origin()));
+        let ends = [i64::MIN, i64::MAX];
+        cases.push(case(format!("{number}-component-{component}-far"), &bytes, component, ends));
+    }
+    cases.extend(grids_at_limits(number, far_north, far_east));
+    cases
+}
+
+/// Grids whose origin is at the end of its range, asked for at the limits and around.
+fn grids_at_limits(number: u16, far_north: i64, far_east: i64) -> Vec<Case> {
+    let origins: [[i64; 2]; 4] = if number == 1023 {
+        [[648_000, 1_296_000], [-648_000, -1_296_000], [648_000, -1_296_000], [0, 0]]
+    } else {
+        [[16_777_215, 67_108_863], [-16_777_215, 0], [16_777_215, 0], [0, 0]]
+    };
+    let mut cases = Vec::new();
+    for (i, origin) in origins.into_iter().enumerate() {
+        let grid = Grid::of(number, origin, [4_095, 4_095], [1, 2, 3], |component, node| {
+            node as i64 * if component == 1 { -9 } else { 11 }
+        });
+        let [north, east] = grid.origin();
+        let [high, wide] = grid.spacing();
+        let at = [
+            ("origin", [north, east]),
+            ("limit", [north.clamp(-far_north, far_north), east.clamp(-far_east, far_east)]),
+            ("inward", [north - north.signum() * high, east - east.signum() * wide]),
+            ("outward-north", [north + north.signum(), east]),
+            ("outward-east", [north, east + east.signum()]),
+            ("edge", [north - north.signum() * (3 * high / 2), east - east.signum() * (3 * wide / 2)]),
+            ("past-edge", [north - north.signum() * (3 * high / 2 + 1), east]),
+            ("other-side", [north, -east]),
+        ];
+        for (word, position) in at {
+            cases.push(case(format!("{number}-end-{i}-{word}"), &grid.bytes(), 1, position));
+        }
+    }
+    cases
+}
+
+/// The widest spacings with nodes at the ends of their range, where the sums are greatest.
+fn widest(number: u16) -> Vec<Case> {
+    let mut random = Random::new(12 + number as u64);
+    let mut cases = Vec::new();
+    for (word, node) in [("max", 255), ("min", -255)] {
+        let grid = Grid::of(number, [1, 2], [4_095, 4_095], [0, 0, 0], |_, _| node);
+        for i in 0..12 {
+            let position = random_position(&mut random, &grid);
+            cases.push(case(format!("{number}-widest-{word}-{i}"), &grid.bytes(), (i % 3) as u8, position));
+        }
+    }
+    let mixed = Grid::of(number, [1, 2], [4_095, 4_095], [0, 0, 0], |_, node| if node % 3 == 0 { 255 } else { -255 });
+    for i in 0..24 {
+        let position = random_position(&mut random, &mixed);
+        cases.push(case(format!("{number}-widest-mixed-{i}"), &mixed.bytes(), (i % 3) as u8, position));
+    }
+    cases
+}
+
+/// A position inside a grid or a little outside.
+fn random_position(random: &mut Random, grid: &Grid) -> [i64; 2] {
+    let [high, wide] = grid.spacing();
+    let [north, east] = grid.origin();
+    let off = |random: &mut Random, spacing: i64| match random.below(6) {
+        0 => spacing / 2 * random.within(-3, 3),
+        1 => spacing / 2 * random.within(-3, 3) + random.within(-2, 2),
+        _ => random.within(-spacing * 3 / 2, spacing * 3 / 2),
+    };
+    [north + off(random, high), east + off(random, wide)]
+}
+
+/// Random grids, some with nodes not available, at random positions.
+fn random_grids(number: u16) -> Vec<Case> {
+    let mut random = Random::new(13 + number as u64);
+    let mut cases = Vec::new();
+    for i in 0..70 {
+        let grid = random_grid(&mut random, number);
+        for component in 0..3 {
+            let position = random_position(&mut random, &grid);
+            cases.push(case(format!("{number}-grid-{i}-c{component}"), &grid.bytes(), component, position));
+        }
+    }
+    cases
+}
+
+/// A grid of random origin, spacings, means and nodes, one in four with nodes not available.
+pub fn random_grid(random: &mut Random, number: u16) -> Grid {
+    let origin = if number == 1023 {
+        [random.within(-640_000, 640_000), random.within(-1_280_000, 1_280_000)]
+    } else {
+        [random.within(-16_000_000, 16_000_000), random.within(0, 67_000_000)]
+    };
+    let spacing = [random.within(1, 4_095), random.within(1, 4_095)];
+    let mean_most = if number == 1023 { 127 } else { 511 };
+    let mean =
+        [random.within(-mean_most, mean_most), random.within(-mean_most, mean_most), random.within(-16_383, 16_383)];
+    let gaps = random.below(4) == 0;
+    Grid::of(
+        number,
+        origin,
+        spacing,
+        mean,
+        |_, _| {
+            if gaps && random.below(6) == 0 {
+                -256
+            } else {
+                random.within(-255, 255)
+            }
+        },
+    )
+}
+
+/// Messages of other numbers, refused messages, and both together with bad components and positions.
+fn other_messages() -> Vec<Case> {
+    let mut cases = Vec::new();
+    for number in [1021, 1022, 1025, 1026, 1027] {
+        let bytes = Sample::usual(number).bytes();
+        cases.push(case(format!("shift-kind-{number}"), &bytes, 0, [0, 0]));
+        cases.push(case(format!("shift-kind-{number}-component"), &bytes, 3, [0, 0]));
+        cases.push(case(format!("shift-kind-{number}-position"), &bytes, 2, [i64::MAX, i64::MIN]));
+    }
+    let grid = steep(1023);
+    let sound = grid.bytes();
+    let mut filled = sound.clone();
+    filled[72] |= 1;
+    let refused: [(&str, Vec<u8>); 6] = [
+        ("short", vec![]),
+        ("number", vec![0; 73]),
+        ("length", sound[..72].to_vec()),
+        ("long", [&sound[..], &[0]].concat()),
+        ("fill", filled),
+        ("range", grid.set(192, 648_001).bytes()),
+    ];
+    for (word, bytes) in refused {
+        cases.push(case(format!("shift-{word}"), &bytes, 2, grid.origin()));
+        cases.push(case(format!("shift-{word}-component"), &bytes, 9, grid.origin()));
+        cases.push(case(format!("shift-{word}-position"), &bytes, 1, [i64::MIN, 0]));
+    }
+    cases
+}
+
+/// The grids of the made-up services, sound and damaged, at sixteen nodes, the middle and random positions.
+fn service_grids() -> Vec<Case> {
+    let mut random = Random::new(14);
+    let mut cases = Vec::new();
+    for service in services() {
+        let letter = &service.folder[..1];
+        let files = service.files.iter().filter(|f| f.name.starts_with("1023") || f.name.starts_with("1024"));
+        let mut middle = [0, 0];
+        for file in files {
+            if file.name.len() == 4 {
+                let sound = grid_of(&file.bytes);
+                middle = sound.origin();
+                cases.extend(service_positions(letter, &sound, &mut random));
+            }
+            for component in 0..3 {
+                let name = format!("service-{letter}-{}-c{component}", file.name);
+                cases.push(case(name, &file.bytes, component, middle));
+            }
+        }
+    }
+    cases
+}
+
+/// The grid of a sound grid message.
+fn grid_of(bytes: &[u8]) -> Grid {
+    let message = read(bytes).expect("a sound message");
+    let dfs = message.fields.iter().map(|f| f.0).collect();
+    Grid { sample: Sample { number: message.number, dfs, row: message.row() } }
+}
+
+/// Sixteen nodes and random positions of one service's grid.
+fn service_positions(letter: &str, grid: &Grid, random: &mut Random) -> Vec<Case> {
+    let mut cases = nodes(&format!("service-{letter}"), grid, &[0, 1, 2]);
+    for i in 0..20 {
+        let position = random_position(random, grid);
+        cases.push(case(format!("service-{letter}-at-{i}"), &grid.bytes(), (i % 3) as u8, position));
+    }
+    cases
+}
