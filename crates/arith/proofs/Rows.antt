@@ -1,14 +1,16 @@
--- Laws of upTo: its length, its elements, and a loop that fills a list from the front, one store a turn.
+-- Laws of upTo: its length, its elements, its parts, and a loop that fills a list from the front, one store a turn; and of padded and allBelow.
 -- Assumes nothing.
 use Prim.Native.Nat.{ℕ, zero, suc, _+_, _-_, _<_, _≤_}
-use native.Mathlib.Nat.{eq-or-lt-of-le, le-of-suc-le-suc, not-suc-le-zero, sub-zero, zero-sub, suc-sub-suc}
+use native.Mathlib.Nat.{add-zero, add-suc, lt-suc-self, lt-trans, eq-or-lt-of-le, le-of-suc-le-suc, not-suc-le-zero, sub-zero, zero-sub, suc-sub-suc}
 use native.Mathlib.Numerals.{add-one}
 use mathlib.Core.Path.{_≡_, refl, sym, ap, subst, _∙_}
 use mathlib.Core.Logic.{⊎-elim}
 use mathlib.Core.List.{List, [], _∷_, _++_, append-assoc, append-nil}
 use lib.ListN.{length, getD, set, drop, replicate, length-append, List·getD-append, drop-of-length-le}
 use lib.Seq.{set-at, getD-at, drop-cons, ext-getD}
-use Rattle.arith.specs.Row.{upTo}
+use lib.IntN.{ℤ, pos}
+use mathlib.Core.Bool.{Bool, true}
+use Rattle.arith.specs.Row.{upTo, allBelow, at, padded}
 
 module _ {A : Type 0} (f : ℕ → A) where
   pub length-upTo : (k : ℕ) → length (upTo f k) ≡ k
@@ -49,3 +51,35 @@ drop-replicate zero zero a = refl
 drop-replicate zero (suc k) a = ap (λ (m : ℕ). replicate m a) (sym (zero-sub (suc k)))
 drop-replicate (suc n) zero a = ap (λ (m : ℕ). replicate m a) (sym (sub-zero (suc n)))
 drop-replicate (suc n) (suc k) a = drop-replicate n k a ∙ ap (λ (m : ℕ). replicate m a) (sym (suc-sub-suc n k))
+
+-- the first a, and the b behind them
+pub upTo-add : {A : Type 0} (f : ℕ → A) (a b : ℕ) → upTo f (a + b) ≡ upTo f a ++ upTo (λ k. f (a + k)) b
+upTo-add f a zero = ap (upTo f) (add-zero a) ∙ sym (append-nil (upTo f a))
+upTo-add {A} f a (suc b) =
+    ap (upTo f) (add-suc a b)
+    ∙ ap (λ (l : List A). l ++ (f (a + b) ∷ [])) (upTo-add f a b)
+    ∙ append-assoc (upTo f a) (upTo (λ k. f (a + k)) b) (f (a + b) ∷ [])
+
+pub upTo-same : {A : Type 0} (f g : ℕ → A) (k : ℕ) → ((j : ℕ) → j < k → f j ≡ g j) → upTo f k ≡ upTo g k
+upTo-same f g zero h = refl
+upTo-same f g (suc k) h = λ i. upTo-same f g k (λ j l. h j (lt-trans l (lt-suc-self k))) i ++ (h k (lt-suc-self k) i ∷ [])
+
+getD-rest : {A : Type 0} (n k : ℕ) (z : A) → getD (replicate n z) k z ≡ z
+getD-rest zero k z = refl
+getD-rest (suc n) zero z = refl
+getD-rest (suc n) (suc k) z = getD-rest n k z
+
+-- behind a list's end stands what fills it up
+pub getD-filled : {A : Type 0} (v : List A) (n k : ℕ) (z : A) → getD (v ++ replicate n z) k z ≡ getD v k z
+getD-filled [] n k z = getD-rest n k z
+getD-filled (x ∷ v) n zero z = refl
+getD-filled (x ∷ v) n (suc k) z = getD-filled v n k z
+
+pub at-padded : (v : List ℤ) → at (padded v) ≡ at v
+unfolding padded
+at-padded v = λ i k. getD-filled v (96 - length v) k (pos 0) i
+
+-- what holds of each holds of all
+pub all-true : (f : ℕ → Bool) (n : ℕ) → ((k : ℕ) → k < n → f k ≡ true) → allBelow f n ≡ true
+all-true f zero h = refl
+all-true f (suc n) h = rw (all-true f n (λ k l. h k (lt-trans l (lt-suc-self n)))) (h n (lt-suc-self n))

@@ -340,6 +340,7 @@ pub fn decode(s: &[u8], layout: &[u64]) -> Row
 }
 
 // What a writer answers: the message's length, or 0 with a refusal.
+#[repr(C)]
 pub struct Written {
     pub refusal: u8,
     pub length: usize,

@@ -4,3 +4,4 @@ pub mod Length
 pub mod Rows
 pub mod Sin
 pub mod Trips
+pub mod OneKind

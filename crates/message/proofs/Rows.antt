@@ -14,7 +14,8 @@ use Rattle.arith.specs.Whole.{natural}
 use Rattle.arith.proofs.First.{first-append}
 use Rattle.bits.specs.Layout as Bits
 use Rattle.bits.proofs.Answer.{length-decodeAll}
-use Rattle.message.specs.Message.{tests, layout, refusal, row, rowRefusal, rowRead, counterAt, rowLayout, writeRefusal}
+use Rattle.message.specs.Message.{tests, layout, refusal, row, rowRefusal, rowRead, rowLayout, writeRefusal}
+use Rattle.records.specs.Records.{counterAt}
 use Rattle.message.proofs.Head.{row-of}
 use Rattle.message.proofs.Length.{length-layout, layout-most}
 

@@ -23,7 +23,8 @@ use Rattle.bits.specs.Layout as Bits
 use Rattle.bits.proofs.Bit.{Bytes, field-lt}
 use Rattle.bits.proofs.Round.{total-append, total-times, of-true, read-written, accepted, accepted-kept, writable, written-accepted, length-encodeAll}
 use Rattle.message.specs.Layouts.{known, named, names, tail1021, tail1022, layout1021, layout1022, layout1023, layout1024, layout1025, layout1026, layout1027, layoutOf}
-use Rattle.message.specs.Message.{numberOf, sourceCount, targetCount, sinBit, layout, refusal, row, counterAt, rowLayout, writeRefusal, message}
+use Rattle.message.specs.Message.{numberOf, sourceCount, targetCount, sinBit, layout, refusal, row, rowLayout, writeRefusal, message}
+use Rattle.records.specs.Records.{counterAt}
 use Rattle.message.proofs.Head.{Head, head-of, head-passes, accepted-head, head-passed, row-of, source-lt, unnamed-layout}
 use Rattle.message.proofs.Length.{by-number, total-least}
 

@@ -1,2 +1,3 @@
 pub mod Layouts
 pub mod Message
+pub mod Kinds

@@ -10,6 +10,7 @@ use Rattle.arith.specs.First.{Test, first}
 use Rattle.arith.specs.Row.{at}
 use Rattle.arith.specs.Whole.{natural}
 use Rattle.bits.specs.Field.{field}
+use Rattle.records.specs.Records.{counterAt}
 use Rattle.bits.specs.Layout.{decodeAll, encodeAll, readTests, writeTests}
 use Rattle.message.specs.Layouts.{known, named, layoutOf}
 use Rattle.message.specs.declared.Header.{Header}
@@ -86,16 +87,15 @@ kindRow lo hi s = cond (eqb (kindRefusal lo hi s) 0) (row s) []
 
 -- ---- writing
 
--- a name counter at number k, 0 where no counter has that value
-abbrev pub counterAt : (ℕ → ℤ) → ℕ → ℕ
-counterAt v k = cond (leb (natural (v k)) 31) (natural (v k)) 0
-
 unfoldable pub rowLayout : List ℤ → List ℕ
 rowLayout v = layoutOf (natural (at v 0)) (counterAt (at v) 1) (counterAt (at v) (2 + counterAt (at v) 1))
 
 -- 5 RANGE: not the numbers of a message; 6 ROOM
+abbrev pub rowTests : List ℤ → ℕ → List Test
+rowTests v n = (5, not (known (natural (at v 0)))) ∷ writeTests (rowLayout v) v n
+
 unfoldable pub writeRefusal : List ℤ → ℕ → ℕ
-writeRefusal v n = first ((5, not (known (natural (at v 0)))) ∷ writeTests (rowLayout v) v n)
+writeRefusal v n = first (rowTests v n)
 
 unfoldable pub message : List ℤ → List ℕ
 message v = encodeAll (rowLayout v) v

@@ -3,7 +3,8 @@ ghost use mathlib.Core.Path.{_≡_};
 ghost use Prim.Native.Nat.{_+_, _≤_};
 ghost use mathlib.Core.List.{_++_};
 ghost use lib.ListN.{length, take, replicate};
-ghost use Rattle.message.specs.Layouts.{names, points, layoutOf};
+ghost use Rattle.message.specs.Layouts.{names, parameters, points, layoutOf};
+ghost use Rattle.bits.specs.Layout.{int};
 
 const RANGE: u64 = 128;
 
@@ -18,7 +19,8 @@ const COUNTER: [u64; 1] = [5];
 // A character of DF144 or DF146.
 const CHARACTER: u64 = 8;
 
-const TAIL_1021: [u64; 22] = [
+// Behind the names of 1021 and 1022.
+const PARAMETERS: [u64; 16] = [
     8, // DF147
     10, // DF148
     5, // DF149
@@ -35,34 +37,12 @@ const TAIL_1021: [u64; 22] = [
     INT + 32, // DF160
     INT + 32, // DF161
     INT + 25, // DF162
-    24, // DF166
-    25, // DF167
-    24, // DF168
-    25, // DF169
-    3, // DF214
-    3, // DF215
 ];
 
-const TAIL_1022: [u64; 25] = [
-    8, // DF147
-    10, // DF148
-    5, // DF149
-    4, // DF150
-    2, // DF151
-    162000 * RANGE + INT + 19, // DF152
-    324000 * RANGE + INT + 20, // DF153
-    14, // DF154
-    14, // DF155
-    INT + 23, // DF156
-    INT + 23, // DF157
-    INT + 23, // DF158
-    INT + 32, // DF159
-    INT + 32, // DF160
-    INT + 32, // DF161
-    INT + 25, // DF162
-    INT + 35, // DF163
-    INT + 35, // DF164
-    INT + 35, // DF165
+// DF163, DF164 and DF165, which 1022 has and 1021 has not.
+const COORDINATE: u64 = INT + 35;
+
+const ELLIPSOIDS: [u64; 6] = [
     24, // DF166
     25, // DF167
     24, // DF168
@@ -181,16 +161,19 @@ fn append_times(dst: &mut [u64], at: usize, n: usize, e: u64) -> usize
     at + k
 }
 
-fn named_plan(n: usize, m: usize, tail: &[u64]) -> Plan
-    requires { ⌜ (n ≤ 31) × ((m ≤ 31) × (length (now tail) ≤ 30)) ⌝ }
-    ensures { λ r. ⌜ (r .count ≡ length (names n m ++ now (tail .entry))) × ((length (r .entries) ≡ 96) × (take (r .count) (r .entries) ≡ names n m ++ now (tail .entry))) ⌝ }
+// With k coordinates of the rotation point.
+fn named_plan(n: usize, m: usize, k: usize) -> Plan
+    requires { ⌜ (n ≤ 31) × ((m ≤ 31) × (k ≤ 3)) ⌝ }
+    ensures { λ r. ⌜ (r .count ≡ length (names n m ++ parameters (replicate k (int 35)))) × ((length (r .entries) ≡ 96) × (take (r .count) (r .entries) ≡ names n m ++ parameters (replicate k (int 35)))) ⌝ }
 {
     let mut e = [0u64; 96];
     let a = append(&mut e, 0, &NUMBER_AND_COUNTER);
     let b = append_times(&mut e, a, n, CHARACTER);
     let c = append(&mut e, b, &COUNTER);
     let d = append_times(&mut e, c, m, CHARACTER);
-    let count = append(&mut e, d, tail);
+    let f = append(&mut e, d, &PARAMETERS);
+    let g = append_times(&mut e, f, k, COORDINATE);
+    let count = append(&mut e, g, &ELLIPSOIDS);
     Plan { entries: e, count }
 }
 
@@ -220,8 +203,8 @@ pub fn plan_of(number: u64, n: usize, m: usize) -> Plan
     ensures { λ r. ⌜ (r .count ≡ length (layoutOf number n m)) × ((length (r .entries) ≡ 96) × (take (r .count) (r .entries) ≡ layoutOf number n m)) ⌝ }
 {
     match number {
-        1021 => named_plan(n, m, &TAIL_1021),
-        1022 => named_plan(n, m, &TAIL_1022),
+        1021 => named_plan(n, m, 0),
+        1022 => named_plan(n, m, 3),
         1023 => grid_plan(&HEAD_1023),
         1024 => grid_plan(&HEAD_1024),
         1025 => fixed_plan(&LAYOUT_1025),

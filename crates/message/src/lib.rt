@@ -11,7 +11,10 @@ ghost use Rattle.arith.specs.First.{first};
 ghost use Rattle.arith.specs.Row.{at, padded};
 ghost use Rattle.arith.specs.Whole.{natural};
 ghost use Rattle.bits.specs.Layout.{answered, stored};
-ghost use Rattle.message.specs.Message.{numberOf, headTests, layout, refusal, row, sinBit, header, rowRefusal, rowRead, counterAt, rowLayout, writeRefusal, message};
+ghost use Rattle.message.specs.Message.{numberOf, headTests, layout, refusal, row, sinBit, header, rowRefusal, rowRead, rowLayout, writeRefusal, message, kindRefusal, kindRow};
+ghost use Rattle.message.specs.Kinds.{readHelmert, readMolodenskiBadekas, readGrid, readProjection, readLambert, readObliqueMercator, recordRefusal};
+ghost use Rattle.records.specs.Records.{counterAt, goodName, helmertRow, molodenskiBadekasRow, gridRow, projectionRow, lambertRow, obliqueMercatorRow};
+ghost use mathlib.Core.Bool.{true, _&&_};
 
 // SHORT, NUMBER, or LENGTH where a name counter can't be read; else 0.
 fn head_refusal(s: &[u8]) -> u8
@@ -95,6 +98,7 @@ fn read_message(s: &[u8]) -> Read
 }
 
 // What a message is; zeros with a refusal.
+#[repr(C)]
 pub struct Header {
     pub refusal: u8,
     pub number: u16,
@@ -226,4 +230,224 @@ pub fn write_row(row: &[i64], out: &mut [u8]) -> Written
     let e = p.entries;
     let k = p.count;
     bits::encode(&e[..k], row, out)
+}
+
+// A message of one kind, whose numbers are lo to hi: refusals 1 to 5, then KIND.
+fn read_kind(s: &[u8], lo: u64, hi: u64) -> Read
+    ensures { λ r. ⌜ (r .refusal ≡ kindRefusal lo hi (now (s .entry))) × (r .values ≡ padded (kindRow lo hi (now (s .entry)))) ⌝ }
+{
+    let r = read_message(s);
+    let refusal = r.refusal;
+    if refusal != 0 {
+        return refused(refusal);
+    }
+    let number = bits::field_at(s, 0, 12);
+    if number < lo {
+        return refused(7);
+    }
+    if hi < number {
+        return refused(7);
+    }
+    r
+}
+
+// The message of a record's numbers in the first bytes of out: RANGE also for a bad name and a number not of the kind.
+fn write_kind(good: bool, row: &[i64], lo: u64, hi: u64, out: &mut [u8]) -> Written
+    ensures answer { λ r. ⌜ r ≡ answered (recordRefusal lo hi good (now (row .entry)) (length (now (out .entry)))) (message (now (row .entry))) ⌝ }
+    ensures output { λ r. ⌜ now (out .exit) ≡ stored (recordRefusal lo hi good (now (row .entry)) (length (now (out .entry)))) (message (now (row .entry))) (now (out .entry)) ⌝ }
+{
+    if !good {
+        return Written {
+            refusal: 5,
+            length: 0,
+        };
+    }
+    let number = natural_at(row, 0);
+    if number < lo {
+        return Written {
+            refusal: 5,
+            length: 0,
+        };
+    }
+    if hi < number {
+        return Written {
+            refusal: 5,
+            length: 0,
+        };
+    }
+    write_row(row, out)
+}
+
+// A 1021 as a record; all zero with a refusal.
+pub struct HelmertRead {
+    pub refusal: u8,
+    pub value: records::Helmert,
+}
+
+pub fn read_helmert(s: &[u8]) -> HelmertRead
+    ensures { λ r. ⌜ r ≡ readHelmert (now (s .entry)) ⌝ }
+{
+    let r = read_kind(s, 1021, 1021);
+    let refusal = r.refusal;
+    let values = r.values;
+    HelmertRead {
+        refusal,
+        value: records::helmert_of(&values),
+    }
+}
+
+pub fn write_helmert(r: records::Helmert, out: &mut [u8]) -> Written
+    ensures answer { λ w. ⌜ w ≡ answered (recordRefusal 1021 1021 (goodName (r .source) && goodName (r .target)) (helmertRow r) (length (now (out .entry)))) (message (helmertRow r)) ⌝ }
+    ensures output { λ w. ⌜ now (out .exit) ≡ stored (recordRefusal 1021 1021 (goodName (r .source) && goodName (r .target)) (helmertRow r) (length (now (out .entry)))) (message (helmertRow r)) (now (out .entry)) ⌝ }
+{
+    let n = records::helmert_row(r);
+    let good = n.good;
+    let values = n.values;
+    let k = n.count;
+    write_kind(good, &values[..k], 1021, 1021, out)
+}
+
+// A 1022 as a record; all zero with a refusal.
+pub struct MolodenskiBadekasRead {
+    pub refusal: u8,
+    pub value: records::MolodenskiBadekas,
+}
+
+pub fn read_molodenski_badekas(s: &[u8]) -> MolodenskiBadekasRead
+    ensures { λ r. ⌜ r ≡ readMolodenskiBadekas (now (s .entry)) ⌝ }
+{
+    let r = read_kind(s, 1022, 1022);
+    let refusal = r.refusal;
+    let values = r.values;
+    MolodenskiBadekasRead {
+        refusal,
+        value: records::molodenski_badekas_of(&values),
+    }
+}
+
+pub fn write_molodenski_badekas(r: records::MolodenskiBadekas, out: &mut [u8]) -> Written
+    ensures answer { λ w. ⌜ w ≡ answered (recordRefusal 1022 1022 (goodName (r .source) && goodName (r .target)) (molodenskiBadekasRow r) (length (now (out .entry)))) (message (molodenskiBadekasRow r)) ⌝ }
+    ensures output { λ w. ⌜ now (out .exit) ≡ stored (recordRefusal 1022 1022 (goodName (r .source) && goodName (r .target)) (molodenskiBadekasRow r) (length (now (out .entry)))) (message (molodenskiBadekasRow r)) (now (out .entry)) ⌝ }
+{
+    let n = records::molodenski_badekas_row(r);
+    let good = n.good;
+    let values = n.values;
+    let k = n.count;
+    write_kind(good, &values[..k], 1022, 1022, out)
+}
+
+// A 1023 or 1024 as a record; all zero with a refusal.
+pub struct GridRead {
+    pub refusal: u8,
+    pub value: records::Grid,
+}
+
+pub fn read_grid(s: &[u8]) -> GridRead
+    ensures { λ r. ⌜ r ≡ readGrid (now (s .entry)) ⌝ }
+{
+    let r = read_kind(s, 1023, 1024);
+    let refusal = r.refusal;
+    let values = r.values;
+    GridRead {
+        refusal,
+        value: records::grid_of(&values),
+    }
+}
+
+pub fn write_grid(r: records::Grid, out: &mut [u8]) -> Written
+    ensures answer { λ w. ⌜ w ≡ answered (recordRefusal 1023 1024 true (gridRow r) (length (now (out .entry)))) (message (gridRow r)) ⌝ }
+    ensures output { λ w. ⌜ now (out .exit) ≡ stored (recordRefusal 1023 1024 true (gridRow r) (length (now (out .entry)))) (message (gridRow r)) (now (out .entry)) ⌝ }
+{
+    let n = records::grid_row(r);
+    let good = n.good;
+    let values = n.values;
+    let k = n.count;
+    write_kind(good, &values[..k], 1023, 1024, out)
+}
+
+// A 1025 as a record; all zero with a refusal.
+pub struct ProjectionRead {
+    pub refusal: u8,
+    pub value: records::Projection,
+}
+
+pub fn read_projection(s: &[u8]) -> ProjectionRead
+    ensures { λ r. ⌜ r ≡ readProjection (now (s .entry)) ⌝ }
+{
+    let r = read_kind(s, 1025, 1025);
+    let refusal = r.refusal;
+    let values = r.values;
+    ProjectionRead {
+        refusal,
+        value: records::projection_of(&values),
+    }
+}
+
+pub fn write_projection(r: records::Projection, out: &mut [u8]) -> Written
+    ensures answer { λ w. ⌜ w ≡ answered (recordRefusal 1025 1025 true (projectionRow r) (length (now (out .entry)))) (message (projectionRow r)) ⌝ }
+    ensures output { λ w. ⌜ now (out .exit) ≡ stored (recordRefusal 1025 1025 true (projectionRow r) (length (now (out .entry)))) (message (projectionRow r)) (now (out .entry)) ⌝ }
+{
+    let n = records::projection_row(r);
+    let good = n.good;
+    let values = n.values;
+    let k = n.count;
+    write_kind(good, &values[..k], 1025, 1025, out)
+}
+
+// A 1026 as a record; all zero with a refusal.
+pub struct LambertRead {
+    pub refusal: u8,
+    pub value: records::Lambert,
+}
+
+pub fn read_lambert(s: &[u8]) -> LambertRead
+    ensures { λ r. ⌜ r ≡ readLambert (now (s .entry)) ⌝ }
+{
+    let r = read_kind(s, 1026, 1026);
+    let refusal = r.refusal;
+    let values = r.values;
+    LambertRead {
+        refusal,
+        value: records::lambert_of(&values),
+    }
+}
+
+pub fn write_lambert(r: records::Lambert, out: &mut [u8]) -> Written
+    ensures answer { λ w. ⌜ w ≡ answered (recordRefusal 1026 1026 true (lambertRow r) (length (now (out .entry)))) (message (lambertRow r)) ⌝ }
+    ensures output { λ w. ⌜ now (out .exit) ≡ stored (recordRefusal 1026 1026 true (lambertRow r) (length (now (out .entry)))) (message (lambertRow r)) (now (out .entry)) ⌝ }
+{
+    let n = records::lambert_row(r);
+    let good = n.good;
+    let values = n.values;
+    let k = n.count;
+    write_kind(good, &values[..k], 1026, 1026, out)
+}
+
+// A 1027 as a record; all zero with a refusal.
+pub struct ObliqueMercatorRead {
+    pub refusal: u8,
+    pub value: records::ObliqueMercator,
+}
+
+pub fn read_oblique_mercator(s: &[u8]) -> ObliqueMercatorRead
+    ensures { λ r. ⌜ r ≡ readObliqueMercator (now (s .entry)) ⌝ }
+{
+    let r = read_kind(s, 1027, 1027);
+    let refusal = r.refusal;
+    let values = r.values;
+    ObliqueMercatorRead {
+        refusal,
+        value: records::oblique_mercator_of(&values),
+    }
+}
+
+pub fn write_oblique_mercator(r: records::ObliqueMercator, out: &mut [u8]) -> Written
+    ensures answer { λ w. ⌜ w ≡ answered (recordRefusal 1027 1027 true (obliqueMercatorRow r) (length (now (out .entry)))) (message (obliqueMercatorRow r)) ⌝ }
+    ensures output { λ w. ⌜ now (out .exit) ≡ stored (recordRefusal 1027 1027 true (obliqueMercatorRow r) (length (now (out .entry)))) (message (obliqueMercatorRow r)) (now (out .entry)) ⌝ }
+{
+    let n = records::oblique_mercator_row(r);
+    let good = n.good;
+    let values = n.values;
+    let k = n.count;
+    write_kind(good, &values[..k], 1027, 1027, out)
 }

@@ -5,7 +5,7 @@ use native.Mathlib.Omega.{arith}
 use Rattle.message.specs.Message.{row, rowLayout, message}
 use Prim.Native.Nat.{ℕ, _+_}
 use Rattle.arith.specs.Row.{at}
-use Rattle.message.specs.Message.{counterAt}
+use Rattle.records.specs.Records.{counterAt}
 use Rattle.message.proofs.Rows.{counter-most}
 use borrow.Author.Needs.{needs}
 use Rattle.message.proofs.row_plan.Statement.{statement}

@@ -7,14 +7,8 @@ use borrow.Author.Needs.{needs}
 use Rattle.message.proofs.layouts.plan_of.Statement.{statement}
 use Rattle.message.proofs.layouts.plan_of.Tie as tie
 
-slice-aggregate-named-plan : tie.Need-slice-aggregate-named-plan
-slice-aggregate-named-plan c = search needs
-
 named-plan-requires : tie.Need-named-plan-requires
 named-plan-requires c κs = search needs
-
-slice-aggregate-named-plan-2 : tie.Need-slice-aggregate-named-plan-2
-slice-aggregate-named-plan-2 c = search needs
 
 named-plan-requires-2 : tie.Need-named-plan-requires-2
 named-plan-requires-2 c κs = search needs
@@ -51,11 +45,11 @@ fixed-plan-requires-3 c κs = search needs
 
 returns : tie.Need-returns
 unfolding layoutOf layout1021 tail1021
-returns c = rw (c .before .before .match .keys1) (c .named-plan .ensures)
+returns c = rw (c .before .match .keys1) (c .named-plan .ensures)
 
 returns-2 : tie.Need-returns-2
 unfolding layoutOf layout1022 tail1022
-returns-2 c = rw (c .before .before .match .keys2) (c .named-plan2 .ensures)
+returns-2 c = rw (c .before .match .keys2) (c .named-plan2 .ensures)
 
 returns-3 : tie.Need-returns-3
 unfolding layoutOf layout1023
@@ -87,9 +81,7 @@ pub plan-of-spec : {M : Type 1} → statement M
 plan-of-spec =
     tie.close
     (tie.spec
-    slice-aggregate-named-plan
     named-plan-requires
-    slice-aggregate-named-plan-2
     named-plan-requires-2
     slice-aggregate-grid-plan
     grid-plan-requires

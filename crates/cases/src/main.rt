@@ -1,0 +1,67 @@
+// Reads cases from standard input, one to a line, and prints the answer to each, one to a line: second/VECTORS.md has the forms.
+// At most 20,000 lines are read, of at most 600 bytes each. A line that is no case is answered by its name and `?`.
+mod input;
+mod output;
+mod read;
+mod text;
+mod write;
+
+use input::Chunk;
+use input::Line;
+use output::Out;
+
+const LINES: usize = 20000;
+
+fn main() {
+    let mut chunk = [0u8; 4096];
+    let mut line = [0u8; 600];
+    let mut out = [0u8; 16384];
+    answer_all(&mut chunk, &mut line, &mut out);
+}
+
+// Every line of the input, and what is left of the output at the end.
+fn answer_all(chunk: &mut Chunk, line: &mut Line, out: &mut Out) {
+    let mut place = input::start();
+    let mut at: usize = 0;
+    let mut turns: usize = LINES;
+    while turns > 0 {
+        let got = input::read_line(chunk, line, place);
+        if got.ended {
+            output::flush(out, at);
+            return;
+        }
+        place = got.place;
+        at = answer(line, got.length, out, at);
+        turns -= 1;
+    }
+    output::flush(out, at);
+}
+
+// One line's answer, with its newline.
+fn answer(line: &Line, length: usize, out: &mut Out, at: usize) -> usize {
+    if 600 < length {
+        let to = output::put_name(out, at, text::word(line));
+        return output::put_all(out, to, b"?\n");
+    }
+    let to = answer_case(text::before(line, length), out, at);
+    output::put(out, to, b'\n')
+}
+
+// The case's name, and what its command answers.
+fn answer_case(s: &[u8], out: &mut Out, at: usize) -> usize {
+    let name = text::word(s);
+    if name.len() == 0 {
+        return output::put(out, at, b'?');
+    }
+    let to = output::put_name(out, at, name);
+    let rest = text::rest(s);
+    let command = text::word(rest);
+    let given = text::rest(rest);
+    if text::same(command, b"read") {
+        return read::answer(given, out, to);
+    }
+    if text::same(command, b"write") {
+        return write::answer(given, out, to);
+    }
+    output::put(out, to, b'?')
+}

@@ -1,0 +1,27 @@
+-- `message::write_projection` meets its contract.
+-- Assumes nothing.
+use mathlib.Core.Path.{sym, _∙_}
+use lib.Seq.{length-take-le}
+use borrow.Author.Needs.{needs}
+use Rattle.message.proofs.OneKind.{numbers-within, written-record}
+use Rattle.message.proofs.write_projection.Statement.{statement}
+use Rattle.message.proofs.write_projection.Tie as tie
+
+array-share-prefix-values : tie.Need-array-share-prefix-values
+array-share-prefix-values c = numbers-within _ _ _ (c .before .projection-row .ensures)
+
+slice-aggregate-write-kind : tie.Need-slice-aggregate-write-kind
+slice-aggregate-write-kind c = sym (length-take-le _ _ (numbers-within _ _ _ (c .before .before .projection-row .ensures)))
+
+same-length : tie.Need-same-length
+same-length c = search needs
+
+returns : tie.Need-returns
+returns c =
+    let a = c .before .before .before .before .before .before .before .before .args in
+    let e = written-record _ _ _ (c .before .before .before .before .before .before .projection-row .ensures) 1025 1025 (a .out .now) in
+    let w = c .before .before .write-kind .ensures in
+    (w .0 ∙ e .0, w .1 ∙ e .1)
+
+pub write-projection-spec : {M : Type 1} → statement M
+write-projection-spec = tie.close (tie.spec (λ c κs. tt) array-share-prefix-values slice-aggregate-write-kind (λ c κs. tt) same-length returns)

@@ -1,0 +1,4 @@
+pub mod Natural
+pub mod Appends
+pub mod Names
+pub mod Inverse

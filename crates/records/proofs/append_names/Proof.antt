@@ -1,0 +1,40 @@
+-- `records::append_names` meets its contract: one row behind another.
+-- Assumes nothing.
+use native.Mathlib.Omega.{arith}
+use Rattle.arith.proofs.Back.{held}
+use mathlib.Core.List.{[], _∷_}
+use Rattle.records.proofs.Appends.{behind, same-row, length-nameRow}
+use borrow.Author.Needs.{needs}
+use Rattle.records.proofs.append_names.Statement.{statement}
+use Rattle.records.proofs.append_names.Tie as tie
+
+slice-aggregate-append : tie.Need-slice-aggregate-append
+slice-aggregate-append c = search needs
+
+append-requires : tie.Need-append-requires
+append-requires c κs = search needs
+
+append-name-requires : tie.Need-append-name-requires
+append-name-requires c κs = search needs
+
+append-name-requires-2 : tie.Need-append-name-requires-2
+append-name-requires-2 c κs = (omega arith, omega (arith, c .before .before .before .before .before .append .ensures .place, c .before .before .append-name .ensures .place, length-nameRow (c .before .before .before .before .before .before .before .before .args .source)))
+
+same-length : tie.Need-same-length
+same-length c = search needs
+
+returns : tie.Need-returns
+returns c =
+    let s = c .before .before .before .before .before .before .before .before .before .before in
+    behind _ _ (behind _ _ (same-row (λ i. held (s .args .number) (s .fits .number .sfits) i ∷ []) (c .before .before .before .before .before .before .before .append .ensures)) (c .before .before .before .before .append-name .ensures)) (c .before .append-name2 .ensures)
+
+pub append-names-spec : {M : Type 1} → statement M
+append-names-spec =
+    tie.close
+    (tie.spec
+    slice-aggregate-append
+    append-requires
+    append-name-requires
+    append-name-requires-2
+    same-length
+    returns)

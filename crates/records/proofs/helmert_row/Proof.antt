@@ -1,0 +1,93 @@
+-- `records::helmert_row` meets its contract: one row behind another, or none.
+-- Assumes nothing.
+use mathlib.Core.List.{[], _∷_, _++_}
+use native.Mathlib.Omega.{arith}
+use borrow.Author.Tests.{not-true, not-false}
+use Rattle.arith.specs.Row.{padded}
+use Rattle.arith.proofs.Order.{is}
+use Rattle.arith.proofs.Back.{held}
+use Rattle.records.specs.Records.{goodName, nameRow, helmertRow}
+use Rattle.records.proofs.Appends.{behind, same-row, good-length, names-left, frame-left, first-bad, second-bad, none, named-good, helmert-parts}
+use borrow.Author.Needs.{needs}
+use Rattle.records.proofs.helmert_row.Statement.{statement}
+use Rattle.records.proofs.helmert_row.Tie as tie
+
+good-name-requires : tie.Need-good-name-requires
+good-name-requires c κs = search needs
+
+no-numbers-requires : tie.Need-no-numbers-requires
+no-numbers-requires c κs = search needs
+
+returns : tie.Need-returns
+returns c = let r = c .before .before .before .before .before .args .r in none _ _ (c .no-numbers .ensures) (first-bad _ _ (is (c .before .before .good-name .ensures) (not-true _ (c .before .if1 .taken))))
+
+good-name-requires-2 : tie.Need-good-name-requires-2
+good-name-requires-2 c κs = search needs
+
+no-numbers-requires-2 : tie.Need-no-numbers-requires-2
+no-numbers-requires-2 c κs = search needs
+
+returns-2 : tie.Need-returns-2
+returns-2 c = let r = c .before .before .before .before .before .before .before .args .r in none _ _ (c .no-numbers2 .ensures) (second-bad (goodName (r .source)) _ (is (c .before .before .good-name2 .ensures) (not-true _ (c .before .if2 .taken))))
+
+slice-aggregate-append-names : tie.Need-slice-aggregate-append-names
+slice-aggregate-append-names c = search needs
+
+append-names-requires : tie.Need-append-names-requires
+append-names-requires c κs =
+    let r = c .before .before .before .before .before .before .before .before .before .before .before .before .before .args .r in
+    let g = is (c .before .before .before .before .before .before .before .before .before .before .good-name .ensures) (not-false _ (c .before .before .before .before .before .before .before .before .before .if1 .left)) in
+    let h = is (c .before .before .before .before .before .before .before .before .good-name2 .ensures) (not-false _ (c .before .before .before .before .before .before .before .if2 .left)) in
+    (good-length (r .source) g, (good-length (r .target) h, omega arith))
+
+slice-aggregate-append-frame : tie.Need-slice-aggregate-append-frame
+slice-aggregate-append-frame c = search needs
+
+append-frame-requires : tie.Need-append-frame-requires
+unfolding padded
+append-frame-requires c κs =
+    let r = c .before .before .before .before .before .before .before .before .before .before .before .before .before .before .before .before .args .r in
+    let g = is (c .before .before .before .before .before .before .before .before .before .before .before .before .before .good-name .ensures) (not-false _ (c .before .before .before .before .before .before .before .before .before .before .before .before .if1 .left)) in
+    let h = is (c .before .before .before .before .before .before .before .before .before .before .before .good-name2 .ensures) (not-false _ (c .before .before .before .before .before .before .before .before .before .before .if2 .left)) in
+    omega (arith, (names-left (r .source) (r .target) g h (c .before .before .append-names .ensures) (omega arith)))
+
+slice-aggregate-append-end : tie.Need-slice-aggregate-append-end
+slice-aggregate-append-end c = search needs
+
+append-end-requires : tie.Need-append-end-requires
+unfolding padded
+append-end-requires c κs =
+    let r = c .before .before .before .before .before .before .before .before .before .before .before .before .before .before .before .before .before .before .before .args .r in
+    let g = is (c .before .before .before .before .before .before .before .before .before .before .before .before .before .before .before .before .good-name .ensures) (not-false _ (c .before .before .before .before .before .before .before .before .before .before .before .before .before .before .before .if1 .left)) in
+    let h = is (c .before .before .before .before .before .before .before .before .before .before .before .before .before .before .good-name2 .ensures) (not-false _ (c .before .before .before .before .before .before .before .before .before .before .before .before .before .if2 .left)) in
+    omega (arith, (frame-left (r .system) (r .area) (r .parameters) (c .before .before .append-frame .ensures) (names-left (r .source) (r .target) g h (c .before .before .before .before .before .append-names .ensures) (omega arith))))
+
+returns-3 : tie.Need-returns-3
+unfolding padded
+returns-3 c =
+    let r = c .before .before .before .before .before .before .before .before .before .before .before .before .before .before .before .before .before .before .before .before .before .args .r in
+    let g = is (c .before .before .before .before .before .before .before .before .before .before .before .before .before .before .before .before .before .before .good-name .ensures) (not-false _ (c .before .before .before .before .before .before .before .before .before .before .before .before .before .before .before .before .before .if1 .left)) in
+    let h = is (c .before .before .before .before .before .before .before .before .before .before .before .before .before .before .before .before .good-name2 .ensures) (not-false _ (c .before .before .before .before .before .before .before .before .before .before .before .before .before .before .before .if2 .left)) in
+    named-good _ _ (helmertRow r) g h
+    (same-row ((helmert-parts (r .number) (r .source) (r .target) (r .system) (r .area) (r .parameters) (r .ellipsoids) (r .quality)))
+    (behind _ _
+    (behind _ _ (same-row (λ i. (held (r .number) (c .before .before .before .before .before .before .before .before .struct-told .given .0 .1) i ∷ []) ++ nameRow (r .source) ++ nameRow (r .target)) (c .before .before .before .before .before .before .before .append-names .ensures)) (c .before .before .before .before .append-frame .ensures))
+    (c .before .append-end .ensures)))
+
+pub helmert-row-spec : {M : Type 1} → statement M
+helmert-row-spec =
+    tie.close
+    (tie.spec
+    good-name-requires
+    no-numbers-requires
+    returns
+    good-name-requires-2
+    no-numbers-requires-2
+    returns-2
+    slice-aggregate-append-names
+    append-names-requires
+    slice-aggregate-append-frame
+    append-frame-requires
+    slice-aggregate-append-end
+    append-end-requires
+    returns-3)

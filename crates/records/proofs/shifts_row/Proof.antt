@@ -1,0 +1,13 @@
+-- `records::shifts_row` meets its contract.
+-- Assumes nothing.
+use Rattle.arith.proofs.Back.{backs}
+use Rattle.records.specs.Records.{shiftsRow}
+use Rattle.records.proofs.shifts_row.Statement.{statement}
+use Rattle.records.proofs.shifts_row.Tie as tie
+
+returns : tie.Need-returns
+unfolding shiftsRow
+returns c = backs (shiftsRow (c .before .args .r)) _ (c .struct-told .given)
+
+pub shifts-row-spec : {M : Type 1} → statement M
+shifts-row-spec = tie.close (tie.spec returns)
