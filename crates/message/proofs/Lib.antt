@@ -5,3 +5,5 @@ pub mod Rows
 pub mod Sin
 pub mod Trips
 pub mod OneKind
+pub mod RecordTrips
+pub mod Limits

@@ -1,15 +1,16 @@
 -- The ways out of reading and writing one kind of record.
 -- Assumes nothing.
-use Prim.Native.Nat.{ℕ, _≤_, _<_}
+use Prim.Native.Nat.{ℕ, zero, suc, _≤_, _<_}
+use native.Mathlib.Nat.{lt-irrefl}
 use native.Mathlib.Omega.{arith}
-use mathlib.Core.Path.{_≡_, refl, ap}
+use mathlib.Core.Path.{_≡_, refl, sym, _∙_, ap}
 use mathlib.Core.Bool.{Bool, true, false, not, cond, _&&_}
 use mathlib.Core.List.{List, [], _∷_}
-use lib.Dec.{leb, eqb}
+use lib.Dec.{leb, eqb, eqb·suc-zero}
 use lib.IntN.{ℤ}
 use lib.ListN.{length, take, length-append}
 use lib.Seq.{take-append-seam}
-use borrow.Author.Tests.{lt-leb, le-leb, ne-eqb}
+use borrow.Author.Tests.{leb-true, lt-leb, le-leb, ne-eqb}
 use Rattle.arith.specs.Row.{at, padded}
 use Rattle.arith.specs.Whole.{natural}
 use Rattle.arith.proofs.First.{first-append}
@@ -43,6 +44,21 @@ module _ (lo hi : ℕ) (s : List ℕ) where
       pub kind-read : numberOf s ≤ hi → (0 ≡ kindRefusal lo hi s) × (row s ≡ kindRow lo hi s)
       unfolding kindRow
       kind-read h = rw (kind-refusal-is, e, le-leb lo (numberOf s) low, le-leb (numberOf s) hi h) (refl, refl)
+
+-- what an answer of 0 says
+pub record Kind (lo hi : ℕ) (s : List ℕ) : Type 0 where
+  pub accepted : refusal s ≡ 0
+  pub low : lo ≤ numberOf s
+  pub high : numberOf s ≤ hi
+
+pub kind-of : (lo hi : ℕ) (s : List ℕ) → kindRefusal lo hi s ≡ 0 → Kind lo hi s
+kind-of lo hi s e = by (refusal s) (leb lo (numberOf s)) (leb (numberOf s) hi) refl refl refl (sym (kind-refusal-is lo hi s) ∙ e)
+  where
+    by : (r : ℕ) (a b : Bool) → r ≡ refusal s → a ≡ leb lo (numberOf s) → b ≡ leb (numberOf s) hi → cond (eqb r 0) (cond (not (a && b)) 7 0) r ≡ 0 → Kind lo hi s
+    by zero true true p q t h = record { accepted = sym p; low = leb-true lo (numberOf s) (sym q); high = leb-true (numberOf s) hi (sym t) }
+    by zero true false p q t h = absurd (lt-irrefl 0 (omega arith))
+    by zero false b p q t h = absurd (lt-irrefl 0 (omega arith))
+    by (suc r) a b p q t h = absurd (lt-irrefl 0 (let z : suc r ≡ 0 = rw (eqb·suc-zero r) at h in omega arith))
 
 -- ---- writing
 

@@ -40,7 +40,7 @@ unfolding decodeAll
 source-at n m tail s = refl
 
 -- the counter of the second name stands behind the first
-front : ℕ → List ℕ
+unfoldable pub front : ℕ → List ℕ
 front n = (uint 12 ∷ uint 5 ∷ []) ++ replicate n (uint 8)
 
 total-front : (n : ℕ) → total (front n) ≡ 17 + 8 * n
@@ -48,17 +48,17 @@ unfolding front total
 total-front n = total-append (uint 12 ∷ uint 5 ∷ []) (replicate n (uint 8)) ∙ omega (arith, total-times n (uint 8))
 
 -- the value of the field behind the first ones
-value-behind : (a : List ℕ) (e : ℕ) (b : List ℕ) (p : ℕ) (s : List ℕ) → at (decodeAll (a ++ (e ∷ b)) p s) (length a) ≡ value (signed e) (width e) (field s (p + total a) (width e))
+pub value-behind : (a : List ℕ) (e : ℕ) (b : List ℕ) (p : ℕ) (s : List ℕ) → at (decodeAll (a ++ (e ∷ b)) p s) (length a) ≡ value (signed e) (width e) (field s (p + total a) (width e))
 unfolding decodeAll total
 value-behind [] e b p s = ap (λ (q : ℕ). value (signed e) (width e) (field s q (width e))) (sym (add-zero p))
 value-behind (x ∷ a) e b p s =
     value-behind a e b (p + width x) s ∙ ap (λ (q : ℕ). value (signed e) (width e) (field s q (width e))) (add-assoc p (width x) (total a))
 
-length-front : (n : ℕ) → length (front n) ≡ 2 + n
+pub length-front : (n : ℕ) → length (front n) ≡ 2 + n
 unfolding front
 length-front n = simp length-replicate (omega arith)
 
-names-split : (n m : ℕ) (tail : List ℕ) → names n m ++ tail ≡ front n ++ (uint 5 ∷ (replicate m (uint 8) ++ tail))
+pub names-split : (n m : ℕ) (tail : List ℕ) → names n m ++ tail ≡ front n ++ (uint 5 ∷ (replicate m (uint 8) ++ tail))
 unfolding front
 names-split n m tail =
     ap (λ (l : List ℕ). l ++ tail) (append-assoc (front n) (uint 5 ∷ []) (replicate m (uint 8)))
@@ -166,6 +166,17 @@ sin-least s = by (named (numberOf s))
 sin-named : (s : List ℕ) → numberOf s ≤ 1022 → 22 + 8 * sourceCount s ≤ sinBit s
 sin-named s h = rw (le-leb (numberOf s) 1022 h) (omega arith)
 
+-- a message of the length that it calls for has both counters
+pub sized-head : (s : List ℕ) → 1021 ≤ numberOf s → numberOf s ≤ 1027 → length s ≡ size (layout s) → Head s
+sized-head s lo hi n =
+    let t = total-least s lo hi in
+    record {
+      long = omega (arith, sin-least s);
+      low = lo;
+      high = hi;
+      counted = λ m. (omega (arith, sin-least s), omega (arith, sin-named s m));
+    }
+
 pub record Known (v : List ℤ) : Type 0 where
   pub low : 1021 ≤ natural (at v 0)
   pub high : natural (at v 0) ≤ 1027
@@ -188,7 +199,7 @@ module _ (v : List ℤ) (n : ℕ) (e : writeRefusal v n ≡ 0) where
   unfolding message
   fields-back = read-written (rowLayout v) v (of-true (writable (rowLayout v) v n bits-written .taken))
 
-  number-back : natural (at v 0) ≡ numberOf (message v)
+  pub number-back : natural (at v 0) ≡ numberOf (message v)
   unfolding rowLayout
   number-back =
       ap (λ (w : List ℤ). natural (at w 0)) (sym fields-back) ∙ ap natural (number-at _ _ _ (message v) (known-row .low) (known-row .high))
@@ -226,17 +237,8 @@ module _ (v : List ℤ) (n : ℕ) (e : writeRefusal v n ≡ 0) where
 
   head-back : Head (message v)
   head-back =
-      let s : List ℕ = message v in
-      let lo : 1021 ≤ numberOf s = subst (λ (k : ℕ). 1021 ≤ k) number-back (known-row .low) in
-      let hi : numberOf s ≤ 1027 = subst (λ (k : ℕ). k ≤ 1027) number-back (known-row .high) in
-      let t : sinBit s + 8 ≤ total (rowLayout v) = subst (λ (l : List ℕ). sinBit s + 8 ≤ total l) layout-back (total-least s lo hi) in
-      let n : length s ≡ size (rowLayout v) = length-message in
-      record {
-        long = omega (arith, sin-least s);
-        low = lo;
-        high = hi;
-        counted = λ m. (omega (arith, sin-least s), omega (arith, sin-named s m));
-      }
+      sized-head (message v) (subst (λ (k : ℕ). 1021 ≤ k) number-back (known-row .low)) (subst (λ (k : ℕ). k ≤ 1027) number-back (known-row .high))
+      (length-message ∙ ap size (sym layout-back))
 
   -- THE ROUND TRIP of a row
   pub message-accepted : refusal (message v) ≡ 0

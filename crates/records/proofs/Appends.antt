@@ -93,7 +93,7 @@ length-nodes zero ns = omega arith
 length-nodes (suc i) [] = omega arith
 length-nodes (suc i) (n ∷ ns) = omega (arith, length-nodes i ns)
 
-abbrev zeroShifts : Shifts
+abbrev pub zeroShifts : Shifts
 zeroShifts = record { north = pos 0; east = pos 0; height = pos 0 }
 
 next-node : (ns : List Shifts) (i : ℕ) → i < length ns → nodesRow (take i ns) ++ shiftsRow (getD ns i zeroShifts) ≡ nodesRow (take (suc i) ns)

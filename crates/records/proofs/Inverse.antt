@@ -21,7 +21,7 @@ use Rattle.records.specs.declared.Projection.{Projection}
 use Rattle.records.specs.declared.Lambert.{Lambert}
 use Rattle.records.specs.declared.ObliqueMercator.{ObliqueMercator}
 use Rattle.records.specs.Records.{counterAt, nameAt, nameRow, goodName, systemAt, systemRow, areaAt, areaRow, parametersAt, parametersRow, pointAt, pointRow, ellipsoidsAt, ellipsoidsRow, pairAt, pairRow, placeAt, placeRow, shiftsAt, shiftsRow, nodesAt, nodesRow, behindNames, helmertOf, helmertRow, molodenskiBadekasOf, molodenskiBadekasRow, gridOf, gridRow, projectionOf, projectionRow, lambertOf, lambertRow, obliqueMercatorOf, obliqueMercatorRow}
-use Rattle.records.proofs.Appends.{length-nameRow}
+use Rattle.records.proofs.Appends.{length-nameRow, zeroShifts}
 use Rattle.records.proofs.Names.{Bytes, nameAt-good, name-in, counter-is, nameRow-is, grow}
 
 -- ---- 1025, 1026 and 1027: a fixed number of numbers
@@ -79,9 +79,6 @@ with-nodes r ns =
 sixteen : (r : Grid) (f : ℕ → Shifts) → gridOf (at (gridRow (with-nodes r (upTo f 16)))) ≡ with-nodes r (upTo f 16)
 unfolding gridOf gridRow pairAt pairRow placeAt placeRow shiftsAt shiftsRow nodesAt nodesRow
 sixteen r f = refl
-
-abbrev zeroShifts : Shifts
-zeroShifts = record { north = pos 0; east = pos 0; height = pos 0 }
 
 pub grid-of-row : (r : Grid) → length (r .nodes) ≡ 16 → gridOf (at (gridRow r)) ≡ r
 grid-of-row r e =

@@ -21,7 +21,7 @@ no-numbers-requires : tie.Need-no-numbers-requires
 no-numbers-requires c κs = search needs
 
 returns : tie.Need-returns
-returns c = let r = c .before .before .before .before .before .args .r in none _ _ (c .no-numbers .ensures) (first-bad _ _ (is (c .before .before .good-name .ensures) (not-true _ (c .before .if1 .taken))))
+returns c = none _ _ (c .no-numbers .ensures) (first-bad _ _ (is (c .before .before .good-name .ensures) (not-true _ (c .before .if1 .taken))))
 
 good-name-requires-2 : tie.Need-good-name-requires-2
 good-name-requires-2 c κs = search needs

@@ -1,0 +1,10 @@
+pub mod Gap
+pub mod Place
+pub mod Line
+pub mod Cells
+pub mod Nearest
+pub mod Edges
+pub mod Lipschitz
+pub mod Unweighted
+pub mod Bounds
+pub mod Vectors

@@ -1,0 +1,1 @@
+// Bilinear interpolation over one grid of sixteen numbers: definitions and laws. It has no code.

@@ -1,0 +1,175 @@
+-- The demands on messages hold: each statement of specs/Messages.antt, from the laws of `bits`, `records` and `message`.
+-- Assumes nothing.
+use Prim.Native.Nat.{ℕ, _+_, _*_, _≤_, _<_}
+use native.Mathlib.Omega.{arith}
+use native.Mathlib.Nat.{lt-irrefl}
+use mathlib.Core.Path.{_≡_, refl, sym, ap, _∙_}
+use mathlib.Core.Logic.{_⊎_, ⊎-elim}
+use mathlib.Core.Bool.{Bool, true, false, not, cond, _||_}
+use mathlib.Core.List.{List, _∷_, _++_}
+use lib.Dec.{ltb}
+use lib.IntN.{ℤ, pos}
+use lib.ListN.{length, length-append, length-replicate}
+use borrow.Author.Tests.{lt-ltb, le-ltb, lt-leb, le-leb, ne-eqb}
+use Rattle.arith.specs.Row.{at}
+use Rattle.bits.specs.Field.{field}
+use Rattle.bits.specs.Layout.{uint, total, size, zeroFrom, allTake, decodeAll, refusalOf, answered}
+use Rattle.bits.proofs.Round.{accepted, refused-none}
+use Rattle.bits.proofs.Answer.{fill-set, out-of-range}
+use Rattle.message.specs.Layouts.{names, tail1021, tail1022, layoutOf, layout1021, layout1022, layout1023, layout1024, layout1025, layout1026, layout1027}
+use Rattle.message.specs.Message.{numberOf, sourceCount, targetCount, counterCut, layout, refusal}
+use Rattle.message.specs.Kinds.{readHelmert, readMolodenskiBadekas, readGrid, readProjection, readLambert, readObliqueMercator}
+use Rattle.message.proofs.Head.{head-of, head-passes, head-passed, accepted-head, row-of}
+use Rattle.message.proofs.Length.{total-1021, total-1022, total-names, by-number, layout-most}
+use Rattle.message.proofs.Trips.{value-behind, sized-head, message-of-row, row-written, message-accepted, row-of-message, length-message}
+use Rattle.message.proofs.RecordTrips.{layout-at, kept, kept-written, helmert-row, molodenski-badekas-row, grid-row, projection-row, lambert-row, oblique-mercator-row, helmert-back, molodenski-badekas-back, grid-back, projection-back, lambert-back, oblique-mercator-back}
+use Rattle.demands.specs.Messages.{Bytes, FirstThatApplies, CounterCut, AcceptedLengths, SinFound, ReportedLength, MessageAgain, RowAgain, RecordsAgain, RecordsBack}
+
+-- ---- the order of refusals
+
+any-length : (a b : Bool) (x : ℕ) → cond a 3 (cond b 3 (cond true 3 x)) ≡ 3
+any-length true b x = refl
+any-length false true x = refl
+any-length false false x = refl
+
+or-true : (a : Bool) → (a || true) ≡ true
+or-true true = refl
+or-true false = refl
+
+wrong-length : (s : List ℕ) → 2 ≤ length s → 1021 ≤ numberOf s → numberOf s ≤ 1027 → (length s ≡ size (layout s) → ⊥) → refusal s ≡ 3
+unfolding refusal
+wrong-length s h lo hi n =
+    rw (le-ltb (length s) 2 h, le-leb 1021 (numberOf s) lo, le-leb (numberOf s) 1027 hi, ne-eqb (length s) (size (layout s)) n)
+    (any-length (counterCut s) (ltb 96 (length (layout s))) (cond (not (zeroFrom s (total (layout s)))) 4 (cond (not (allTake (layout s) (decodeAll (layout s) 0 s))) 5 0)))
+
+pub first-that-applies : (s : List ℕ) → FirstThatApplies s
+first-that-applies s =
+    record {
+      short = λ h. unfold refusal in rw (lt-ltb (length s) 2 h);
+      number =
+          λ h o.
+          ⊎-elim
+          (λ (l : numberOf s < 1021). unfold refusal in rw (le-ltb (length s) 2 h, lt-leb 1021 (numberOf s) l))
+          (λ (l : 1027 < numberOf s). unfold refusal in rw (le-ltb (length s) 2 h, le-leb 1021 (numberOf s) (omega arith), lt-leb (numberOf s) 1027 l))
+          o;
+      wrongLength = wrong-length s;
+      fill = λ h lo hi n f. passing lo hi n ∙ fill-set (layout s) s few n f;
+      range = λ h lo hi n f r. passing lo hi n ∙ out-of-range (layout s) s few n f r;
+      done = λ h lo hi n f r. passing lo hi n ∙ refused-none (layout s) s (record { few = few; sized = n; filled = f; ranged = r });
+    }
+  where
+    few : length (layout s) ≤ 96
+    few = omega (arith, layout-most s)
+
+    passing : 1021 ≤ numberOf s → numberOf s ≤ 1027 → length s ≡ size (layout s) → refusal s ≡ refusalOf (layout s) s
+    passing lo hi n = head-passed s (head-passes s (sized-head s lo hi n))
+
+pub counter-cut : CounterCut
+unfolding refusal
+counter-cut s h lo hi o =
+    ⊎-elim
+    (λ (l : length s < 3). rw (le-ltb (length s) 2 h, le-leb 1021 (numberOf s) lo, le-leb (numberOf s) 1027 (omega arith), le-leb (numberOf s) 1022 hi, lt-ltb (length s) 3 l))
+    (λ (l : length s < sourceCount s + 3).
+    rw (
+      le-ltb (length s) 2 h,
+      le-leb 1021 (numberOf s) lo,
+      le-leb (numberOf s) 1027 (omega arith),
+      le-leb (numberOf s) 1022 hi,
+      lt-ltb (length s) (sourceCount s + 3) l,
+      or-true (ltb (length s) 3),
+    ))
+    o
+
+-- ---- lengths and the system identification number
+
+sized : (s : List ℕ) (k : ℕ) → refusal s ≡ 0 → numberOf s ≡ k → length s ≡ size (layoutOf k (sourceCount s) (targetCount s))
+sized s k e q = accepted (layout s) s (sym (head-passed s (accepted-head s e)) ∙ e) .sized ∙ ap size (layout-at s k q)
+
+pub accepted-lengths : AcceptedLengths
+unfolding layoutOf layout1023 layout1024 layout1025 layout1026 layout1027 total
+accepted-lengths s e =
+    let n : ℕ = sourceCount s in
+    let m : ℕ = targetCount s in
+    record {
+      l1021 = λ q. sized s 1021 e q ∙ omega (arith, total-1021 n m);
+      l1022 = λ q. sized s 1022 e q ∙ omega (arith, total-1022 n m);
+      l1023 = λ q. sized s 1023 e q;
+      l1024 = λ q. sized s 1024 e q;
+      l1025 = λ q. sized s 1025 e q;
+      l1026 = λ q. sized s 1026 e q;
+      l1027 = λ q. sized s 1027 e q;
+    }
+
+-- the field behind the names
+behind : (n m : ℕ) (b s : List ℕ) → at (decodeAll (names n m ++ (uint 8 ∷ b)) 0 s) (3 + n + m) ≡ pos (field s (22 + 8 * (n + m)) 8)
+behind n m b s =
+    let l : length (names n m) ≡ 3 + n + m = simp (length-append, length-replicate) (omega arith) in
+    let t : 0 + total (names n m) ≡ 22 + 8 * (n + m) = omega (arith, total-names n m) in
+    ap (at (decodeAll (names n m ++ (uint 8 ∷ b)) 0 s)) (sym l) ∙ value-behind (names n m) (uint 8) b 0 s ∙ ap (λ (p : ℕ). pos (field s p 8)) t
+
+pub sin-found : SinFound
+sin-found s e =
+    let h = head-of s (accepted-head s e) in
+    let n : ℕ = sourceCount s in
+    let m : ℕ = targetCount s in
+    record {
+      named =
+          λ l.
+          rw (le-leb (numberOf s) 1022 l)
+          (ap (λ (v : List ℤ). at v (3 + n + m)) (row-of s e ∙ ap (λ (l : List ℕ). decodeAll l 0 s) (layout-at s (numberOf s) refl))
+          ∙ by-number (λ k. k ≤ 1022 → at (decodeAll (layoutOf k n m) 0 s) (3 + n + m) ≡ pos (field s (22 + 8 * (n + m)) 8)) (numberOf s) (h .low) (h .high)
+          (λ _. unfold layoutOf layout1021 tail1021 in behind n m _ s)
+          (λ _. unfold layoutOf layout1022 tail1022 in behind n m _ s)
+          (λ g. absurd (lt-irrefl 0 (omega arith))) (λ g. absurd (lt-irrefl 0 (omega arith))) (λ g. absurd (lt-irrefl 0 (omega arith)))
+          (λ g. absurd (lt-irrefl 0 (omega arith))) (λ g. absurd (lt-irrefl 0 (omega arith)))
+          l);
+      fixed =
+          λ l.
+          rw (lt-leb (numberOf s) 1022 l)
+          (ap (λ (v : List ℤ). at v 1) (row-of s e ∙ ap (λ (l : List ℕ). decodeAll l 0 s) (layout-at s (numberOf s) refl))
+          ∙ by-number (λ k. 1023 ≤ k → at (decodeAll (layoutOf k n m) 0 s) 1 ≡ pos (field s 12 8)) (numberOf s) (h .low) (h .high)
+          (λ g. absurd (lt-irrefl 0 (omega arith)))
+          (λ g. absurd (lt-irrefl 0 (omega arith)))
+          (λ _. unfold layoutOf layout1023 decodeAll in refl)
+          (λ _. unfold layoutOf layout1024 decodeAll in refl)
+          (λ _. unfold layoutOf layout1025 decodeAll in refl)
+          (λ _. unfold layoutOf layout1026 decodeAll in refl)
+          (λ _. unfold layoutOf layout1027 decodeAll in refl)
+          l);
+    }
+
+pub reported-length : ReportedLength
+unfolding answered
+reported-length v n e = rw e (length-message v n e)
+
+-- ---- round trips
+
+pub message-again : MessageAgain
+message-again s b e = (message-of-row s e b, row-written s e)
+
+pub row-again : RowAgain
+row-again v n e = (message-accepted v n e, row-of-message v n e)
+
+pub records-again : (s : List ℕ) → Bytes s → RecordsAgain s
+records-again s b =
+    record {
+      helmert = λ e. unfold readHelmert in (kept 1021 1021 s _ e b (helmert-row s e), λ n. kept-written 1021 1021 s _ n e (helmert-row s e));
+      molodenskiBadekas =
+          λ e. unfold readMolodenskiBadekas in (kept 1022 1022 s _ e b (molodenski-badekas-row s e), λ n. kept-written 1022 1022 s _ n e (molodenski-badekas-row s e));
+      grid = λ e. unfold readGrid in (kept 1023 1024 s _ e b (grid-row s e), λ n. kept-written 1023 1024 s _ n e (grid-row s e));
+      projection = λ e. unfold readProjection in (kept 1025 1025 s _ e b (projection-row s e), λ n. kept-written 1025 1025 s _ n e (projection-row s e));
+      lambert = λ e. unfold readLambert in (kept 1026 1026 s _ e b (lambert-row s e), λ n. kept-written 1026 1026 s _ n e (lambert-row s e));
+      obliqueMercator =
+          λ e. unfold readObliqueMercator in (kept 1027 1027 s _ e b (oblique-mercator-row s e), λ n. kept-written 1027 1027 s _ n e (oblique-mercator-row s e));
+    }
+
+pub records-back : (n : ℕ) → RecordsBack n
+records-back n =
+    record {
+      helmert = λ r a b e. helmert-back n r (a .long) (b .long) (a .bytes) (b .bytes) e;
+      molodenskiBadekas = λ r a b e. molodenski-badekas-back n r (a .long) (b .long) (a .bytes) (b .bytes) e;
+      grid = grid-back n;
+      projection = projection-back n;
+      lambert = lambert-back n;
+      obliqueMercator = oblique-mercator-back n;
+    }

@@ -1,0 +1,5 @@
+pub mod Table
+pub mod Marks
+pub mod Shown
+pub mod History
+pub mod Dict
