@@ -2,31 +2,57 @@
 ghost use mathlib.Core.Path.{_≡_};
 ghost use lib.ListN.{length};
 ghost use Rattle.bits.specs.Layout.{answered, stored};
-ghost use Rattle.message.specs.Message.{header, rowRefusal, rowRead, writeRefusal};
-ghost use Rattle.message.specs.Message as Message;
+ghost use Rattle.message.specs.Message.{header, rowRefusal, rowRead, writeRefusal, message};
+ghost use Rattle.table.specs.Table.{storeRefusal, storeTable, findRefusal, foundOf, removeTable};
 
 // The number, the length and the system identification number of a message.
 #[no_mangle]
-pub extern "C" fn tarnoklej_read(message: &[u8]) -> message::Header
-    ensures { λ r. ⌜ r ≡ header (now (message .entry)) ⌝ }
+pub extern "C" fn tarnoklej_read(s: &[u8]) -> message::Header
+    ensures { λ r. ⌜ r ≡ header (now (s .entry)) ⌝ }
 {
-    message::read_header(message)
+    message::read_header(s)
 }
 
-// The raw numbers of a message in wire order into the first places of `fields`.
+// The raw numbers of a message in wire order into the first places of a row.
 #[no_mangle]
-pub extern "C" fn tarnoklej_read_fields(message: &[u8], fields: &mut [i64]) -> u8
-    ensures answer { λ r. ⌜ r ≡ rowRefusal (now (message .entry)) (length (now (fields .entry))) ⌝ }
-    ensures output { λ r. ⌜ now (fields .exit) ≡ rowRead (now (message .entry)) (now (fields .entry)) ⌝ }
+pub extern "C" fn tarnoklej_read_fields(s: &[u8], fields: &mut [i64]) -> u8
+    ensures answer { λ r. ⌜ r ≡ rowRefusal (now (s .entry)) (length (now (fields .entry))) ⌝ }
+    ensures output { λ r. ⌜ now (fields .exit) ≡ rowRead (now (s .entry)) (now (fields .entry)) ⌝ }
 {
-    message::read_row(message, fields)
+    message::read_row(s, fields)
 }
 
-// The message of a row of raw numbers in the first bytes of `out`.
+// The message of a row of raw numbers in the first bytes of out.
 #[no_mangle]
 pub extern "C" fn tarnoklej_write_fields(fields: &[i64], out: &mut [u8]) -> bits::Written
-    ensures answer { λ r. ⌜ r ≡ answered (writeRefusal (now (fields .entry)) (length (now (out .entry)))) (Message.message (now (fields .entry))) ⌝ }
-    ensures output { λ r. ⌜ now (out .exit) ≡ stored (writeRefusal (now (fields .entry)) (length (now (out .entry)))) (Message.message (now (fields .entry))) (now (out .entry)) ⌝ }
+    ensures answer { λ r. ⌜ r ≡ answered (writeRefusal (now (fields .entry)) (length (now (out .entry)))) (message (now (fields .entry))) ⌝ }
+    ensures output { λ r. ⌜ now (out .exit) ≡ stored (writeRefusal (now (fields .entry)) (length (now (out .entry)))) (message (now (fields .entry))) (now (out .entry)) ⌝ }
 {
     message::write_row(fields, out)
+}
+
+// Stores a message under its key.
+#[no_mangle]
+pub extern "C" fn tarnoklej_store(t: &mut [u8], s: &[u8]) -> u8
+    ensures answer { λ r. ⌜ r ≡ storeRefusal (now (t .entry)) (now (s .entry)) ⌝ }
+    ensures output { λ r. ⌜ now (t .exit) ≡ storeTable (now (t .entry)) (now (s .entry)) ⌝ }
+{
+    table::store(t, s)
+}
+
+// Where the message of a key stands in the table.
+#[no_mangle]
+pub extern "C" fn tarnoklej_find(t: &[u8], sin: u8, group: u8) -> table::Found
+    ensures { λ r. ⌜ r ≡ foundOf (now (t .entry)) sin group ⌝ }
+{
+    table::find(t, sin, group)
+}
+
+// Removes the message of a key.
+#[no_mangle]
+pub extern "C" fn tarnoklej_remove(t: &mut [u8], sin: u8, group: u8) -> u8
+    ensures answer { λ r. ⌜ r ≡ findRefusal (now (t .entry)) sin group ⌝ }
+    ensures output { λ r. ⌜ now (t .exit) ≡ removeTable (now (t .entry)) sin group ⌝ }
+{
+    table::remove(t, sin, group)
 }

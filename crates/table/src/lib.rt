@@ -233,6 +233,7 @@ pub fn store(table: &mut [u8], message: &[u8]) -> u8
 }
 
 // Where a message stands in the table: its first byte and its length; zeros with a refusal.
+#[repr(C)]
 pub struct Found {
     pub refusal: u8,
     pub at: usize,
