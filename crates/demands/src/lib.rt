@@ -5,6 +5,7 @@ ghost use Prim.Native.Nat.{ℕ};
 ghost use mathlib.Core.List.{List};
 ghost use Rattle.demands.specs.Messages.{Bytes, FirstThatApplies, CounterCut, AcceptedLengths, SinFound, ReportedLength, MessageAgain, RowAgain, RecordsAgain, RecordsBack};
 ghost use Rattle.demands.specs.Worked.{WorkedNumbers};
+ghost use Rattle.demands.specs.Tables.{LikeADictionary, LastStored, StaysFormed, RefusedKeeps};
 
 // Demand 1 of reading: the first refusal that applies, and only then.
 pub fn refusals()
@@ -25,6 +26,14 @@ pub fn round_trips()
     ensures rows { λ r. ⌜ RowAgain ⌝ }
     ensures records { λ r. ⌜ ((s : List ℕ) → Bytes s → RecordsAgain s) ⌝ }
     ensures back { λ r. ⌜ ((n : ℕ) → RecordsBack n) ⌝ }
+{}
+
+// Demands 1 and 2 of the table, over any list of calls.
+pub fn tables()
+    ensures dictionary { λ r. ⌜ LikeADictionary ⌝ }
+    ensures last { λ r. ⌜ LastStored ⌝ }
+    ensures formed { λ r. ⌜ StaysFormed ⌝ }
+    ensures refused { λ r. ⌜ RefusedKeeps ⌝ }
 {}
 
 // Document 01, "Numbers worked out".

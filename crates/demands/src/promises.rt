@@ -9,6 +9,8 @@ ghost use Rattle.bits.specs.Layout as Bits;
 ghost use Rattle.records.specs.Records.{goodName, helmertOf, helmertRow, molodenskiBadekasOf, molodenskiBadekasRow, gridOf, gridRow, projectionOf, projectionRow, lambertOf, lambertRow, obliqueMercatorOf, obliqueMercatorRow, numbers};
 ghost use Rattle.message.specs.Message.{header, rowRefusal, rowRead, writeRefusal, message};
 ghost use Rattle.message.specs.Kinds.{readHelmert, readMolodenskiBadekas, readGrid, readProjection, readLambert, readObliqueMercator, recordRefusal};
+ghost use Rattle.table.specs.Table.{wellFormed, storeRefusal, storeTable, findRefusal, foundOf, removeTable};
+ghost use Rattle.table.specs.Shown.{Shows};
 
 pub fn field_at(s: &[u8], p: usize, w: usize) -> u64
     ensures { λ r. ⌜ r ≡ fieldAt (now (s .entry)) p w ⌝ }
@@ -197,4 +199,36 @@ pub fn write_oblique_mercator(r: records::ObliqueMercator, out: &mut [u8]) -> bi
     ensures output { λ w. ⌜ now (out .exit) ≡ stored (recordRefusal 1027 1027 true (obliqueMercatorRow r) (length (now (out .entry)))) (message (obliqueMercatorRow r)) (now (out .entry)) ⌝ }
 {
     message::write_oblique_mercator(r, out)
+}
+
+pub fn well_formed(t: &[u8]) -> bool
+    ensures { λ r. ⌜ r ≡ wellFormed (now (t .entry)) ⌝ }
+{
+    table::well_formed(t)
+}
+
+pub fn store(t: &mut [u8], s: &[u8]) -> u8
+    ensures answer { λ r. ⌜ r ≡ storeRefusal (now (t .entry)) (now (s .entry)) ⌝ }
+    ensures output { λ r. ⌜ now (t .exit) ≡ storeTable (now (t .entry)) (now (s .entry)) ⌝ }
+{
+    table::store(t, s)
+}
+
+pub fn find(t: &[u8], sin: u8, group: u8) -> table::Found
+    ensures { λ r. ⌜ r ≡ foundOf (now (t .entry)) sin group ⌝ }
+{
+    table::find(t, sin, group)
+}
+
+pub fn shown(t: &[u8], sin: u8, group: u8) -> &[u8]
+    ensures { λ r. ⌜ Shows (t .entry) sin group r ⌝ }
+{
+    table::shown(t, sin, group)
+}
+
+pub fn remove(t: &mut [u8], sin: u8, group: u8) -> u8
+    ensures answer { λ r. ⌜ r ≡ findRefusal (now (t .entry)) sin group ⌝ }
+    ensures output { λ r. ⌜ now (t .exit) ≡ removeTable (now (t .entry)) sin group ⌝ }
+{
+    table::remove(t, sin, group)
 }
