@@ -24,27 +24,6 @@ returns c = let a = c .before .before .args in sym (unequal (a .layout .now) (a 
 loop-holds : tie.Need-loop-holds Inv-loop μ-loop
 loop-holds c = (omega arith, (c .if1 .left, refl))
 
-mul-takes-value : tie.Need-mul-takes-value Inv-loop μ-loop
-mul-takes-value c = search needs
-
-shared-slice-read-takes-value : tie.Need-shared-slice-read-takes-value Inv-loop μ-loop
-shared-slice-read-takes-value c = omega arith
-
-mul-takes-value-2 : tie.Need-mul-takes-value-2 Inv-loop μ-loop
-mul-takes-value-2 c = search needs
-
-shared-slice-copy-out-takes-value : tie.Need-shared-slice-copy-out-takes-value Inv-loop μ-loop
-shared-slice-copy-out-takes-value c = omega arith
-
-takes-value-requires : tie.Need-takes-value-requires Inv-loop μ-loop
-takes-value-requires c κs = tt
-
-add-i : tie.Need-add-i Inv-loop μ-loop
-add-i c = omega arith
-
-loop-less : tie.Need-loop-less Inv-loop μ-loop
-loop-less c = omega arith
-
 loop-again : tie.Need-loop-again Inv-loop μ-loop
 loop-again c =
     let a = c .before .before .before .before .before .before .before .before .args in
@@ -79,13 +58,13 @@ all-take-spec =
     μ-loop
     returns
     loop-holds
-    mul-takes-value
-    shared-slice-read-takes-value
-    mul-takes-value-2
-    shared-slice-copy-out-takes-value
-    takes-value-requires
-    add-i
-    loop-less
+    (λ c. search needs)
+    (λ c. omega arith)
+    (λ c. search needs)
+    (λ c. omega arith)
+    (λ c κs. tt)
+    (λ c. omega arith)
+    (λ c. omega arith)
     loop-again
     returns-2
     returns-3)

@@ -15,17 +15,11 @@ use Rattle.bits.proofs.encode.Tie as tie
 returns : tie.Need-returns
 returns c = let a = c .before .before .before .args in refused-write _ 4 (encodeAll (a .layout .now) (a .values .now)) (a .out .now) (write-many (a .layout .now) (a .values .now) (a .out .now) (c .if1 .taken))
 
-all-take-requires : tie.Need-all-take-requires
-all-take-requires c κs = search needs
-
 returns-2 : tie.Need-returns-2
 returns-2 c =
     let a = c .before .before .before .before .before .args in
     refused-write _ 4 (encodeAll (a .layout .now) (a .values .now)) (a .out .now)
     (write-range (a .layout .now) (a .values .now) (a .out .now) (c .before .before .if1 .left) (sym (c .before .all-take .ensures) ∙ not-true _ (c .if2 .taken)))
-
-total-bits-requires : tie.Need-total-bits-requires
-total-bits-requires c κs = search needs
 
 add-n : tie.Need-add-n
 add-n c = omega (arith, total-most (c .before .before .before .before .before .before .args .layout .now), c .total-bits .ensures)
@@ -42,9 +36,6 @@ write-message-requires c κs =
     let n = c .before .before .total-bits .ensures in
     (rw n, (c .before .before .before .before .before .if1 .left, (c .before .if3 .left, of-true (sym (c .before .before .before .before .all-take .ensures) ∙ not-false _ (c .before .before .before .if2 .left)))))
 
-same-length : tie.Need-same-length
-same-length c = search needs
-
 returns-4 : tie.Need-returns-4
 returns-4 c =
     let a = c .before .before .before .before .before .before .before .before .before .before .before .args in
@@ -59,11 +50,11 @@ encode-spec =
     tie.close
     (tie.spec
     returns
-    all-take-requires
+    (λ c κs. search needs)
     returns-2
-    total-bits-requires
+    (λ c κs. search needs)
     add-n
     returns-3
     write-message-requires
-    same-length
+    (λ c. search needs)
     returns-4)

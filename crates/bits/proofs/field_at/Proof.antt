@@ -17,18 +17,9 @@ returns-2 : tie.Need-returns-2
 unfolding fieldAt
 returns-2 c = rw (le-leb (c .before .before .before .args .w) 63 (c .before .if1 .left), lt-leb (c .before .before .before .args .p) 65535 (c .if2 .taken))
 
-add-if3 : tie.Need-add-if3
-add-if3 c = search needs
-
-add-if3-2 : tie.Need-add-if3-2
-add-if3-2 c = search needs
-
 returns-3 : tie.Need-returns-3
 unfolding fieldAt
 returns-3 c = let a = c .before .before .before .before .args in rw (le-leb (a .w) 63 (c .before .before .if1 .left), le-leb (a .p) 65535 (c .before .if2 .left), lt-leb (a .p + a .w) (8 * length (a .s .now)) (omega arith))
-
-read-bits-requires : tie.Need-read-bits-requires
-read-bits-requires c κs = search needs
 
 returns-4 : tie.Need-returns-4
 unfolding fieldAt
@@ -36,4 +27,4 @@ returns-4 c = let a = c .before .before .before .before .before .args in rw (le-
 
 pub field-at-spec : {M : Type 1} → statement M
 field-at-spec =
-    tie.close (tie.spec returns returns-2 add-if3 add-if3-2 returns-3 read-bits-requires returns-4)
+    tie.close (tie.spec returns returns-2 (λ c. search needs) (λ c. search needs) returns-3 (λ c κs. search needs) returns-4)

@@ -9,15 +9,6 @@ use Rattle.bits.specs.Field.{field}
 use Rattle.bits.proofs.fill_is_zero.Statement.{statement}
 use Rattle.bits.proofs.fill_is_zero.Tie as tie
 
-mul-read-bits : tie.Need-mul-read-bits
-mul-read-bits c = search needs
-
-sub-read-bits : tie.Need-sub-read-bits
-sub-read-bits c = search needs
-
-read-bits-requires : tie.Need-read-bits-requires
-read-bits-requires c κs = search needs
-
 returns : tie.Need-returns
 unfolding zeroFrom
 returns c =
@@ -25,4 +16,4 @@ returns c =
     rw (c .read-bits .ensures) (ap (λ (n : ℕ). eqb (field (a .s .now) (a .p) (n - a .p)) 0) (mul-comm (length (a .s .now)) 8))
 
 pub fill-is-zero-spec : {M : Type 1} → statement M
-fill-is-zero-spec = tie.close (tie.spec mul-read-bits sub-read-bits read-bits-requires returns)
+fill-is-zero-spec = tie.close (tie.spec (λ c. search needs) (λ c. search needs) (λ c κs. search needs) returns)

@@ -7,12 +7,6 @@ use borrow.Author.Needs.{needs}
 use Rattle.bits.proofs.fits_width.Statement.{statement}
 use Rattle.bits.proofs.fits_width.Tie as tie
 
-pow2-requires : tie.Need-pow2-requires
-pow2-requires c κs = search needs
-
-magnitude-requires : tie.Need-magnitude-requires
-magnitude-requires c κs = search needs
-
 returns : tie.Need-returns
 returns c = let s = c .before .before .before in rw (c .before .magnitude .ensures ∙ mag-z (s .args .z) (s .fits .z), c .before .before .pow2 .ensures, eq-eqb _ _ (c .if1 .taken), signed-fits)
 
@@ -23,4 +17,4 @@ returns-3 : tie.Need-returns-3
 returns-3 c = let s = c .before .before .before .before in rw (c .before .before .magnitude .ensures ∙ mag-z (s .args .z) (s .fits .z), c .before .before .before .pow2 .ensures, ne-eqb _ _ (c .before .if1 .left), fits-kept (s .args .z) (s .fits .z) _ (c .if2 .left))
 
 pub fits-width-spec : {M : Type 1} → statement M
-fits-width-spec = tie.close (tie.spec pow2-requires magnitude-requires returns returns-2 returns-3)
+fits-width-spec = tie.close (tie.spec (λ c κs. search needs) (λ c κs. search needs) returns returns-2 returns-3)

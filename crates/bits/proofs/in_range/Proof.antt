@@ -11,17 +11,11 @@ use borrow.Author.Needs.{needs}
 use Rattle.bits.proofs.in_range.Statement.{statement}
 use Rattle.bits.proofs.in_range.Tie as tie
 
-magnitude-requires : tie.Need-magnitude-requires
-magnitude-requires c κs = search needs
-
 returns : tie.Need-returns
 returns c = let s = c .before .before .before in let m = c .before .before .magnitude .ensures ∙ mag-z (s .args .z) (s .fits .z) in rw (within-flipped (s .args .z) (s .fits .z) (c .before .if1 .taken), le-leb (suc (mag (s .args .z))) (s .args .l) (rw m at (c .if2 .taken)))
 
 add-result : tie.Need-add-result
 add-result c = let s = c .before .before .before in rw (c .before .before .magnitude .ensures ∙ mag-z (s .args .z) (s .fits .z)) (let h : mag (s .args .z) < 2 ^ 63 = s .fits .z .sfits in omega arith)
-
-pow2-requires : tie.Need-pow2-requires
-pow2-requires c κs = search needs
 
 returns-2 : tie.Need-returns-2
 returns-2 c = let s = c .before .before .before .before in let m = c .before .before .before .magnitude .ensures ∙ mag-z (s .args .z) (s .fits .z) in let far : s .args .l ≤ mag (s .args .z) = rw m at (c .before .if2 .left) in rw (within-flipped (s .args .z) (s .fits .z) (c .before .before .if1 .taken), lt-leb (suc (mag (s .args .z))) (s .args .l) (omega arith), m, add-one, c .pow2 .ensures)
@@ -31,4 +25,4 @@ returns-3 c = let s = c .before .before in rw (c .before .magnitude .ensures ∙
 
 pub in-range-spec : {M : Type 1} → statement M
 in-range-spec =
-    tie.close (tie.spec magnitude-requires returns add-result pow2-requires returns-2 returns-3)
+    tie.close (tie.spec (λ c κs. search needs) returns add-result (λ c κs. search needs) returns-2 returns-3)

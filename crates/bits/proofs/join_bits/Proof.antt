@@ -6,12 +6,6 @@ use borrow.Author.Needs.{needs}
 use Rattle.bits.proofs.join_bits.Statement.{statement}
 use Rattle.bits.proofs.join_bits.Tie as tie
 
-pow2-requires : tie.Need-pow2-requires
-pow2-requires c κs = search needs
-
-pow2-requires-2 : tie.Need-pow2-requires-2
-pow2-requires-2 c κs = search needs
-
 mul-result : tie.Need-mul-result
 mul-result c = rw (c .before .pow2 .ensures) (omega (arith, pow-pos (c .before .before .args .m)))
 
@@ -30,4 +24,4 @@ returns : tie.Need-returns
 returns c = rw (c .before .pow2 .ensures, c .pow22 .ensures)
 
 pub join-bits-spec : {M : Type 1} → statement M
-join-bits-spec = tie.close (tie.spec pow2-requires pow2-requires-2 mul-result div-result rem-result add-result returns)
+join-bits-spec = tie.close (tie.spec (λ c κs. search needs) (λ c κs. search needs) mul-result div-result rem-result add-result returns)

@@ -5,15 +5,6 @@ use Rattle.bits.proofs.Sign.{mag-z, raw-flipped, raw-kept}
 use Rattle.bits.proofs.pattern_of.Statement.{statement}
 use Rattle.bits.proofs.pattern_of.Tie as tie
 
-magnitude-requires : tie.Need-magnitude-requires
-magnitude-requires c κs = search needs
-
-pow2-requires : tie.Need-pow2-requires
-pow2-requires c κs = search needs
-
-sub-result : tie.Need-sub-result
-sub-result c = search needs
-
 sub-result-2 : tie.Need-sub-result-2
 sub-result-2 c = let s = c .before .before .before in rw (c .before .before .magnitude .ensures ∙ mag-z (s .args .z) (s .fits .z), c .pow2 .ensures) (omega arith)
 
@@ -25,4 +16,4 @@ returns-2 c = let s = c .before .before in c .before .magnitude .ensures ∙ mag
 
 pub pattern-of-spec : {M : Type 1} → statement M
 pattern-of-spec =
-    tie.close (tie.spec magnitude-requires pow2-requires sub-result sub-result-2 returns returns-2)
+    tie.close (tie.spec (λ c κs. search needs) (λ c κs. search needs) (λ c. search needs) sub-result-2 returns returns-2)

@@ -6,18 +6,6 @@ use Rattle.bits.proofs.Bit.{put-parts}
 use Rattle.bits.proofs.put_bits.Statement.{statement}
 use Rattle.bits.proofs.put_bits.Tie as tie
 
-pow2-requires : tie.Need-pow2-requires
-pow2-requires c κs = search needs
-
-pow2-requires-2 : tie.Need-pow2-requires-2
-pow2-requires-2 c κs = search needs
-
-add-pow2 : tie.Need-add-pow2
-add-pow2 c = search needs
-
-pow2-requires-3 : tie.Need-pow2-requires-3
-pow2-requires-3 c κs = search needs
-
 div-result : tie.Need-div-result
 div-result c = rw (c .pow23 .ensures) (pow-pos _)
 
@@ -46,4 +34,4 @@ returns c = rw (c .before .before .pow2 .ensures, c .before .pow22 .ensures, c .
 pub put-bits-spec : {M : Type 1} → statement M
 put-bits-spec =
     tie.close
-    (tie.spec pow2-requires pow2-requires-2 add-pow2 pow2-requires-3 div-result mul-result add-result mul-result-2 rem-result add-result-2 cast-result returns)
+    (tie.spec (λ c κs. search needs) (λ c κs. search needs) (λ c. search needs) (λ c κs. search needs) div-result mul-result add-result mul-result-2 rem-result add-result-2 cast-result returns)

@@ -18,33 +18,12 @@ abbrev μ-loop : tie.MeasureT-loop
 loop-holds : tie.Need-loop-holds Inv-loop μ-loop
 loop-holds c = let a = c .before .before .args in reading-starts (a .s .now) (a .p) (a .layout .now) (a .out .now)
 
-mul-e : tie.Need-mul-e Inv-loop μ-loop
-mul-e c = search needs
-
-shared-slice-read-e : tie.Need-shared-slice-read-e Inv-loop μ-loop
-shared-slice-read-e c = omega arith
-
 read-value-requires : tie.Need-read-value-requires Inv-loop μ-loop
 read-value-requires c κs =
     let a = c .before .before .before .before .before .args in
     let l = c .before .before .loop in
     let f = entry-read (a .s .now) (a .p) (a .layout .now) (a .out .now) (l .out) (l .at) (l .i) (l .inv) (omega arith) in
     (omega arith, omega arith)
-
-mul-t8 : tie.Need-mul-t8 Inv-loop μ-loop
-mul-t8 c = search needs
-
-slice-set-from-out : tie.Need-slice-set-from-out Inv-loop μ-loop
-slice-set-from-out c = omega arith
-
-add-at : tie.Need-add-at Inv-loop μ-loop
-add-at c = omega arith
-
-add-i : tie.Need-add-i Inv-loop μ-loop
-add-i c = omega arith
-
-loop-less : tie.Need-loop-less Inv-loop μ-loop
-loop-less c = omega arith
 
 loop-again : tie.Need-loop-again Inv-loop μ-loop
 loop-again c =
@@ -69,14 +48,14 @@ read-all-spec =
     Inv-loop
     μ-loop
     loop-holds
-    mul-e
-    shared-slice-read-e
+    (λ c. search needs)
+    (λ c. omega arith)
     read-value-requires
-    mul-t8
-    slice-set-from-out
-    add-at
-    add-i
-    loop-less
+    (λ c. search needs)
+    (λ c. omega arith)
+    (λ c. omega arith)
+    (λ c. omega arith)
+    (λ c. omega arith)
     loop-again
     same-length
     returns)

@@ -18,9 +18,6 @@ use Rattle.bits.proofs.read_value.Tie as tie
 low : (s : List ℕ) (p e u : ℕ) → u ≡ field s p (width e) → u < 2 ^ 63
 low s p e u h = omega (arith, field-lt s p (width e), pow-mono {i = width e} {j = 63} (omega arith))
 
-read-bits-requires : tie.Need-read-bits-requires
-read-bits-requires c κs = search needs
-
 signed-of-requires : tie.Need-signed-of-requires
 signed-of-requires c κs = (omega arith, rw (c .before .read-bits .ensures) (field-lt _ _ _))
 
@@ -39,4 +36,4 @@ returns-2 c =
 
 pub read-value-spec : {M : Type 1} → statement M
 read-value-spec =
-    tie.close (tie.spec read-bits-requires signed-of-requires returns cast-result returns-2)
+    tie.close (tie.spec (λ c κs. search needs) signed-of-requires returns cast-result returns-2)

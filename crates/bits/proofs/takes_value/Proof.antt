@@ -8,15 +8,9 @@ use borrow.Author.Needs.{needs}
 use Rattle.bits.proofs.takes_value.Statement.{statement}
 use Rattle.bits.proofs.takes_value.Tie as tie
 
-fits-width-requires : tie.Need-fits-width-requires
-fits-width-requires c κs = search needs
-
 returns : tie.Need-returns
 unfolding takes
 returns c = let s = c .before .before .before in let z = bits-z (s .args .z) (s .fits .z) in rw (sym (ap (fits (signed (s .args .e)) (width (s .args .e))) z) ∙ sym (c .before .before .fits-width .ensures) ∙ c .before .if1 .taken, eq-eqb _ _ (c .if2 .taken))
-
-in-range-requires : tie.Need-in-range-requires
-in-range-requires c κs = search needs
 
 returns-2 : tie.Need-returns-2
 unfolding takes
@@ -28,4 +22,4 @@ returns-3 c = let s = c .before .before in let z = bits-z (s .args .z) (s .fits 
 
 pub takes-value-spec : {M : Type 1} → statement M
 takes-value-spec =
-    tie.close (tie.spec fits-width-requires returns in-range-requires returns-2 returns-3)
+    tie.close (tie.spec (λ c κs. search needs) returns (λ c κs. search needs) returns-2 returns-3)

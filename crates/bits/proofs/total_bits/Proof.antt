@@ -14,23 +14,8 @@ Inv-loop layout n₀ i₀ n i = (i ≤ length layout) × (n + total (drop i layo
 abbrev μ-loop : tie.MeasureT-loop
 μ-loop layout n₀ i₀ n i = length layout - i
 
-loop-holds : tie.Need-loop-holds Inv-loop μ-loop
-loop-holds c = omega arith
-
-mul-n : tie.Need-mul-n Inv-loop μ-loop
-mul-n c = search needs
-
-shared-slice-read-n : tie.Need-shared-slice-read-n Inv-loop μ-loop
-shared-slice-read-n c = omega arith
-
 add-n : tie.Need-add-n Inv-loop μ-loop
 add-n c = omega (arith, total-most (c .before .before .before .args .layout .now), head-room (c .before .before .before .args .layout .now) (c .before .before .loop .n) (c .before .before .loop .i) (total (c .before .before .before .args .layout .now)) (omega arith) (c .before .before .loop .inv .1))
-
-add-i : tie.Need-add-i Inv-loop μ-loop
-add-i c = omega arith
-
-loop-less : tie.Need-loop-less Inv-loop μ-loop
-loop-less c = omega arith
 
 loop-again : tie.Need-loop-again Inv-loop μ-loop
 loop-again c =
@@ -50,11 +35,11 @@ total-bits-spec =
     (tie.spec
     Inv-loop
     μ-loop
-    loop-holds
-    mul-n
-    shared-slice-read-n
+    (λ c. omega arith)
+    (λ c. search needs)
+    (λ c. omega arith)
     add-n
-    add-i
-    loop-less
+    (λ c. omega arith)
+    (λ c. omega arith)
     loop-again
     returns)

@@ -9,9 +9,6 @@ use borrow.Author.Needs.{needs}
 use Rattle.bits.proofs.values_of.Statement.{statement}
 use Rattle.bits.proofs.values_of.Tie as tie
 
-slice-aggregate-read-all : tie.Need-slice-aggregate-read-all
-slice-aggregate-read-all c = search needs
-
 read-all-requires : tie.Need-read-all-requires
 read-all-requires c κs = let s = c .before .before .before in let m = total-most (s .args .layout .now) in (omega arith, (omega arith, omega arith))
 
@@ -19,4 +16,4 @@ returns : tie.Need-returns
 returns c = let a = c .before .before .before .before .before .args in c .before .read-all .ensures ∙ padded-loop (decodeAll (a .layout .now) 0 (a .s .now)) _ (length-decodeAll (a .layout .now) 0 (a .s .now))
 
 pub values-of-spec : {M : Type 1} → statement M
-values-of-spec = tie.close (tie.spec slice-aggregate-read-all read-all-requires returns)
+values-of-spec = tie.close (tie.spec (λ c. search needs) read-all-requires returns)

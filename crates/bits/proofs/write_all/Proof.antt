@@ -18,15 +18,6 @@ abbrev μ-loop : tie.MeasureT-loop
 loop-holds : tie.Need-loop-holds Inv-loop μ-loop
 loop-holds c = let a = c .before .before .args in writing-starts (a .s .now) (a .p) (a .layout .now) (a .values .now) (c .before .before .pre .1 .1)
 
-mul-e : tie.Need-mul-e Inv-loop μ-loop
-mul-e c = search needs
-
-shared-slice-read-e : tie.Need-shared-slice-read-e Inv-loop μ-loop
-shared-slice-read-e c = omega arith
-
-mul-write-value : tie.Need-mul-write-value Inv-loop μ-loop
-mul-write-value c = search needs
-
 shared-slice-copy-out-write-value : tie.Need-shared-slice-copy-out-write-value Inv-loop μ-loop
 shared-slice-copy-out-write-value c =
     let a = c .before .before .before .before .before .before .args in
@@ -39,15 +30,6 @@ write-value-requires c κs =
     let n : l .i < length (a .values .now) = omega (arith, take-length (a .layout .now) (a .values .now) (c .before .before .before .before .before .before .before .pre .1 .1)) in
     let f = entry-written (a .s .now) (a .p) (a .layout .now) (a .values .now) (l .s) (l .at) (l .i) (l .inv) (omega arith) n in
     (omega arith, (omega arith, rw (bits-z (getD (a .values .now) (l .i) (pos 0)) (record { sfits = c .write-value-arg2 .given })) (f .0)))
-
-add-at : tie.Need-add-at Inv-loop μ-loop
-add-at c = omega arith
-
-add-i : tie.Need-add-i Inv-loop μ-loop
-add-i c = omega arith
-
-loop-less : tie.Need-loop-less Inv-loop μ-loop
-loop-less c = omega arith
 
 loop-again : tie.Need-loop-again Inv-loop μ-loop
 loop-again c =
@@ -75,14 +57,14 @@ write-all-spec =
     Inv-loop
     μ-loop
     loop-holds
-    mul-e
-    shared-slice-read-e
-    mul-write-value
+    (λ c. search needs)
+    (λ c. omega arith)
+    (λ c. search needs)
     shared-slice-copy-out-write-value
     write-value-requires
-    add-at
-    add-i
-    loop-less
+    (λ c. omega arith)
+    (λ c. omega arith)
+    (λ c. omega arith)
     loop-again
     same-length
     returns)

@@ -18,53 +18,14 @@ abbrev μ-loop : tie.MeasureT-loop
 loop-holds : tie.Need-loop-holds Inv-loop μ-loop
 loop-holds c = (omega arith, (refl, unfold setField in refl))
 
-add-at : tie.Need-add-at Inv-loop μ-loop
-add-at c = omega arith
-
-sub-free : tie.Need-sub-free Inv-loop μ-loop
-sub-free c = omega arith
-
-sub-lesser : tie.Need-sub-lesser Inv-loop μ-loop
-sub-lesser c = omega arith
-
-lesser-requires : tie.Need-lesser-requires Inv-loop μ-loop
-lesser-requires c κs = omega arith
-
-sub-pow2 : tie.Need-sub-pow2 Inv-loop μ-loop
-sub-pow2 c = omega arith
-
-sub-pow2-2 : tie.Need-sub-pow2-2 Inv-loop μ-loop
-sub-pow2-2 c = omega arith
-
-pow2-requires : tie.Need-pow2-requires Inv-loop μ-loop
-pow2-requires c κs = omega arith
-
 div-x : tie.Need-div-x Inv-loop μ-loop
 div-x c = rw (c .pow2 .ensures) (pow-pos _)
-
-pow2-requires-2 : tie.Need-pow2-requires-2 Inv-loop μ-loop
-pow2-requires-2 c κs = omega arith
 
 rem-x : tie.Need-rem-x Inv-loop μ-loop
 rem-x c = rw (c .pow22 .ensures) (pow-pos _)
 
-slice-read-put-bits : tie.Need-slice-read-put-bits Inv-loop μ-loop
-slice-read-put-bits c = omega arith
-
-sub-put-bits : tie.Need-sub-put-bits Inv-loop μ-loop
-sub-put-bits c = omega arith
-
 put-bits-requires : tie.Need-put-bits-requires Inv-loop μ-loop
 put-bits-requires c κs = (omega arith, rw (c .before .pow22 .ensures) (mod-lt _ (pow-pos _)))
-
-slice-write-s : tie.Need-slice-write-s Inv-loop μ-loop
-slice-write-s c = omega arith
-
-add-k : tie.Need-add-k Inv-loop μ-loop
-add-k c = omega arith
-
-loop-less : tie.Need-loop-less Inv-loop μ-loop
-loop-less c = omega arith
 
 loop-again : tie.Need-loop-again Inv-loop μ-loop
 loop-again c =
@@ -96,22 +57,22 @@ write-bits-spec =
     Inv-loop
     μ-loop
     loop-holds
-    add-at
-    sub-free
-    sub-lesser
-    lesser-requires
-    sub-pow2
-    sub-pow2-2
-    pow2-requires
+    (λ c. omega arith)
+    (λ c. omega arith)
+    (λ c. omega arith)
+    (λ c κs. omega arith)
+    (λ c. omega arith)
+    (λ c. omega arith)
+    (λ c κs. omega arith)
     div-x
-    pow2-requires-2
+    (λ c κs. omega arith)
     rem-x
-    slice-read-put-bits
-    sub-put-bits
+    (λ c. omega arith)
+    (λ c. omega arith)
     put-bits-requires
-    slice-write-s
-    add-k
-    loop-less
+    (λ c. omega arith)
+    (λ c. omega arith)
+    (λ c. omega arith)
     loop-again
     same-length
     returns)

@@ -9,18 +9,12 @@ use borrow.Author.Needs.{needs}
 use Rattle.bits.proofs.write_message.Statement.{statement}
 use Rattle.bits.proofs.write_message.Tie as tie
 
-clear-requires : tie.Need-clear-requires
-clear-requires c κs = search needs
-
 write-all-requires : tie.Need-write-all-requires
 write-all-requires c κs =
     let s = c .before .before .before .before .before .before .before in
     let k : length (c .before .before .before .clear .last .0) ≡ length (s .args .out .now) = c .before .before .before .clear .kept .0 in
     let m = total-most (s .args .layout .now) in
     (omega (arith, s .pre), (omega (arith, s .pre), s .pre .1 .1 .1))
-
-same-length : tie.Need-same-length
-same-length c = search needs
 
 returns : tie.Need-returns
 returns c =
@@ -30,4 +24,4 @@ returns c =
     (message-left (s .args .layout .now) (s .args .values .now) (s .args .n) (drop (s .args .n) (s .args .out .now)) (s .pre .0))
 
 pub write-message-spec : {M : Type 1} → statement M
-write-message-spec = tie.close (tie.spec clear-requires write-all-requires same-length returns)
+write-message-spec = tie.close (tie.spec (λ c κs. search needs) write-all-requires (λ c. search needs) returns)

@@ -19,9 +19,6 @@ write-bits-requires c κs =
     let e = c .pattern-of .ensures ∙ ap (raw (width (s .args .e))) (bits-z (s .args .z) (s .fits .z)) in
     (omega arith, (omega arith, (omega arith, rw e (taken-fits (s .args .e) (s .args .z) (s .pre .1 .1) .1))))
 
-same-length : tie.Need-same-length
-same-length c = search needs
-
 returns : tie.Need-returns
 returns c =
     let s = c .before .before .before .before .before .before in
@@ -29,4 +26,4 @@ returns c =
     c .before .before .write-bits .ensures ∙ rw e
 
 pub write-value-spec : {M : Type 1} → statement M
-write-value-spec = tie.close (tie.spec pattern-of-requires write-bits-requires same-length returns)
+write-value-spec = tie.close (tie.spec pattern-of-requires write-bits-requires (λ c. search needs) returns)

@@ -7,9 +7,6 @@ use borrow.Author.Needs.{needs}
 use Rattle.message.proofs.counter_at.Statement.{statement}
 use Rattle.message.proofs.counter_at.Tie as tie
 
-natural-at-requires : tie.Need-natural-at-requires
-natural-at-requires c κs = search needs
-
 returns : tie.Need-returns
 returns c = let a = c .before .before .args in let e = c .before .natural-at .ensures in rw (lt-leb (natural (at (a .row .now) (a .k))) 31 (rw e at (c .if1 .taken)))
 
@@ -17,4 +14,4 @@ returns-2 : tie.Need-returns-2
 returns-2 c = let a = c .before .before .args in let e = c .before .natural-at .ensures in rw (le-leb (natural (at (a .row .now) (a .k))) 31 (rw e at (c .if1 .left))) e
 
 pub counter-at-spec : {M : Type 1} → statement M
-counter-at-spec = tie.close (tie.spec natural-at-requires returns returns-2)
+counter-at-spec = tie.close (tie.spec (λ c κs. search needs) returns returns-2)

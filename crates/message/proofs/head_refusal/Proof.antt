@@ -15,9 +15,6 @@ use Rattle.message.proofs.head_refusal.Tie as tie
 returns : tie.Need-returns
 returns c = let s = c .before .before .args .s .now in rw (lt-ltb (length s) 2 (c .if1 .taken))
 
-field-at-requires : tie.Need-field-at-requires
-field-at-requires c κs = search needs
-
 returns-2 : tie.Need-returns-2
 returns-2 c = let s = c .before .before .before .before .args .s .now in let e = c .before .field-at .ensures ∙ number-read s (c .before .before .if1 .left) in rw (le-ltb (length s) 2 (c .before .before .if1 .left), lt-leb 1021 (numberOf s) (rw e at (c .if2 .taken)))
 
@@ -29,9 +26,6 @@ returns-4 c = let s = c .before .before .before .before .before .before .args .s
 
 returns-5 : tie.Need-returns-5
 returns-5 c = let s = c .before .before .before .before .before .before .before .args .s .now in let e = c .before .before .before .before .field-at .ensures ∙ number-read s (c .before .before .before .before .before .if1 .left) in rw (le-ltb (length s) 2 (c .before .before .before .before .before .if1 .left), le-leb 1021 (numberOf s) (rw e at (c .before .before .before .if2 .left)), le-leb (numberOf s) 1027 (rw e at (c .before .before .if3 .left)), le-leb (numberOf s) 1022 (rw e at (c .before .if4 .left)), lt-ltb (length s) 3 (c .if5 .taken))
-
-field-at-requires-2 : tie.Need-field-at-requires-2
-field-at-requires-2 c κs = search needs
 
 add-if6 : tie.Need-add-if6
 add-if6 c = omega (arith, fieldAt-lt (c .before .before .before .before .before .before .before .before .args .s .now) 12 5, c .field-at2 .ensures)
@@ -47,12 +41,12 @@ head-refusal-spec =
     tie.close
     (tie.spec
     returns
-    field-at-requires
+    (λ c κs. search needs)
     returns-2
     returns-3
     returns-4
     returns-5
-    field-at-requires-2
+    (λ c κs. search needs)
     add-if6
     returns-6
     returns-7)

@@ -11,12 +11,6 @@ use borrow.Author.Needs.{needs}
 use Rattle.message.proofs.layout_plan.Statement.{statement}
 use Rattle.message.proofs.layout_plan.Tie as tie
 
-field-at-requires : tie.Need-field-at-requires
-field-at-requires c κs = search needs
-
-plan-of-requires : tie.Need-plan-of-requires
-plan-of-requires c κs = search needs
-
 returns : tie.Need-returns
 unfolding layout
 returns c =
@@ -25,17 +19,11 @@ returns c =
     let e = c .before .before .field-at .ensures ∙ number-read s (h .long) in
     rw (unnamed-layout (numberOf s) (sourceCount s) (targetCount s) 0 0 (rw e at (c .before .if1 .taken)), ← e) (c .plan-of .ensures)
 
-field-at-requires-2 : tie.Need-field-at-requires-2
-field-at-requires-2 c κs = search needs
-
 mul-field-at : tie.Need-mul-field-at
 mul-field-at c = omega (arith, fieldAt-lt (c .before .before .before .before .args .s .now) 12 5, c .field-at2 .ensures)
 
 add-field-at : tie.Need-add-field-at
 add-field-at c = omega (arith, fieldAt-lt (c .before .before .before .before .args .s .now) 12 5, c .field-at2 .ensures)
-
-field-at-requires-3 : tie.Need-field-at-requires-3
-field-at-requires-3 c κs = search needs
 
 plan-of-requires-2 : tie.Need-plan-of-requires-2
 plan-of-requires-2 c κs = let s = c .before .before .before .before .before .args .s .now in (omega (arith, fieldAt-lt s 12 5, c .before .field-at2 .ensures), omega (arith, fieldAt-lt s (17 + 8 * c .before .field-at2 .result) 5, c .field-at3 .ensures))
@@ -55,12 +43,12 @@ pub layout-plan-spec : {M : Type 1} → statement M
 layout-plan-spec =
     tie.close
     (tie.spec
-    field-at-requires
-    plan-of-requires
+    (λ c κs. search needs)
+    (λ c κs. search needs)
     returns
-    field-at-requires-2
+    (λ c κs. search needs)
     mul-field-at
     add-field-at
-    field-at-requires-3
+    (λ c κs. search needs)
     plan-of-requires-2
     returns-2)

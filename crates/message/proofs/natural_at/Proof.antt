@@ -13,12 +13,6 @@ use Rattle.message.proofs.natural_at.Tie as tie
 returns : tie.Need-returns
 returns c = let a = c .before .args in sym (ap natural (List·getD-eq-default (a .row .now) (pos 0) (c .if1 .taken)))
 
-mul-z : tie.Need-mul-z
-mul-z c = search needs
-
-shared-slice-copy-out-z : tie.Need-shared-slice-copy-out-z
-shared-slice-copy-out-z c = search needs
-
 returns-2 : tie.Need-returns-2
 returns-2 c = let a = c .before .before .before .args in let z : ℤ = getD (a .row .now) (a .k) (pos 0) in sym (natural-negative z (rw (held z (c .before .z .given)) at (c .if2 .taken)))
 
@@ -30,4 +24,4 @@ returns-3 c = let a = c .before .before .before .args in let z : ℤ = getD (a .
 
 pub natural-at-spec : {M : Type 1} → statement M
 natural-at-spec =
-    tie.close (tie.spec returns mul-z shared-slice-copy-out-z returns-2 cast-result returns-3)
+    tie.close (tie.spec returns (λ c. search needs) (λ c. search needs) returns-2 cast-result returns-3)

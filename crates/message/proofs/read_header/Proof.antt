@@ -11,23 +11,14 @@ use borrow.Author.Needs.{needs}
 use Rattle.message.proofs.read_header.Statement.{statement}
 use Rattle.message.proofs.read_header.Tie as tie
 
-read-message-requires : tie.Need-read-message-requires
-read-message-requires c κs = search needs
-
 returns : tie.Need-returns
 returns c = let s = c .before .before .before .args .s .now in header-refused s (c .before .read-message .result .refusal) (c .before .read-message .ensures .0) (c .if1 .taken)
 
 sin-bit-requires : tie.Need-sin-bit-requires
 sin-bit-requires c κs = accepted-head (c .before .before .before .args .s .now) (sym (c .before .read-message .ensures .0) ∙ c .if1 .left)
 
-field-at-requires : tie.Need-field-at-requires
-field-at-requires c κs = search needs
-
 cast-t7 : tie.Need-cast-t7
 cast-t7 c = omega (arith, fieldAt-lt (c .before .before .before .before .before .args .s .now) 0 12, c .field-at .ensures)
-
-field-at-requires-2 : tie.Need-field-at-requires-2
-field-at-requires-2 c κs = search needs
 
 cast-t9 : tie.Need-cast-t9
 cast-t9 c = omega (arith, fieldAt-lt (c .before .before .before .before .before .before .args .s .now) (c .before .before .sin-bit .result) 8, c .field-at2 .ensures)
@@ -44,11 +35,11 @@ pub read-header-spec : {M : Type 1} → statement M
 read-header-spec =
     tie.close
     (tie.spec
-    read-message-requires
+    (λ c κs. search needs)
     returns
     sin-bit-requires
-    field-at-requires
+    (λ c κs. search needs)
     cast-t7
-    field-at-requires-2
+    (λ c κs. search needs)
     cast-t9
     returns-2)

@@ -9,20 +9,8 @@ use borrow.Author.Needs.{needs}
 use Rattle.message.proofs.read_kind.Statement.{statement}
 use Rattle.message.proofs.read_kind.Tie as tie
 
-read-message-requires : tie.Need-read-message-requires
-read-message-requires c κs = search needs
-
-refused-requires : tie.Need-refused-requires
-refused-requires c κs = search needs
-
 returns : tie.Need-returns
 returns c = let a = c .before .before .before .before .args in let r = c .refused .ensures in let d = kind-refused (a .lo) (a .hi) (a .s .now) _ (c .before .before .read-message .ensures .0) (c .before .if1 .taken) in (r .0 ∙ d .0, r .1 .1 ∙ ap padded (d .1))
-
-field-at-requires : tie.Need-field-at-requires
-field-at-requires c κs = search needs
-
-refused-requires-2 : tie.Need-refused-requires-2
-refused-requires-2 c κs = search needs
 
 returns-2 : tie.Need-returns-2
 returns-2 c =
@@ -32,9 +20,6 @@ returns-2 c =
     let n = c .before .before .field-at .ensures ∙ number-read (a .s .now) (head-of (a .s .now) (accepted-head (a .s .now) e) .long) in
     let d = kind-low (a .lo) (a .hi) (a .s .now) e (rw n at (c .before .if2 .taken)) in
     (r .0 ∙ d .0, r .1 .1 ∙ ap padded (d .1))
-
-refused-requires-3 : tie.Need-refused-requires-3
-refused-requires-3 c κs = search needs
 
 returns-3 : tie.Need-returns-3
 returns-3 c =
@@ -58,12 +43,12 @@ pub read-kind-spec : {M : Type 1} → statement M
 read-kind-spec =
     tie.close
     (tie.spec
-    read-message-requires
-    refused-requires
+    (λ c κs. search needs)
+    (λ c κs. search needs)
     returns
-    field-at-requires
-    refused-requires-2
+    (λ c κs. search needs)
+    (λ c κs. search needs)
     returns-2
-    refused-requires-3
+    (λ c κs. search needs)
     returns-3
     returns-4)

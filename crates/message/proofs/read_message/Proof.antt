@@ -16,12 +16,6 @@ use borrow.Author.Needs.{needs}
 use Rattle.message.proofs.read_message.Statement.{statement}
 use Rattle.message.proofs.read_message.Tie as tie
 
-head-refusal-requires : tie.Need-head-refusal-requires
-head-refusal-requires c κs = search needs
-
-refused-requires : tie.Need-refused-requires
-refused-requires c κs = search needs
-
 returns : tie.Need-returns
 returns c =
     let s = c .before .before .before .before .args .s .now in
@@ -30,9 +24,6 @@ returns c =
     let none = no-row s (λ z. c .before .if1 .taken (e ∙ z)) in
     let r = c .refused .ensures in
     (r .0 ∙ e, (r .1 .0 ∙ sym (ap length none), r .1 .1 ∙ sym (ap padded none)))
-
-layout-plan-requires : tie.Need-layout-plan-requires
-layout-plan-requires c κs = search needs
 
 -- the layout's entries are within the array
 within : (c : tie.After-layout-plan) → c .layout-plan .result .count ≤ length (c .layout-plan .result .entries)
@@ -43,12 +34,6 @@ array-share-prefix-e c = within (c .before)
 
 slice-aggregate-decode : tie.Need-slice-aggregate-decode
 slice-aggregate-decode c = sym (length-take-le _ _ (within (c .before .before)))
-
-decode-requires : tie.Need-decode-requires
-decode-requires c κs = search needs
-
-refused-requires-2 : tie.Need-refused-requires-2
-refused-requires-2 c κs = search needs
 
 returns-2 : tie.Need-returns-2
 unfolding decoded
@@ -80,13 +65,13 @@ pub read-message-spec : {M : Type 1} → statement M
 read-message-spec =
     tie.close
     (tie.spec
-    head-refusal-requires
-    refused-requires
+    (λ c κs. search needs)
+    (λ c κs. search needs)
     returns
-    layout-plan-requires
+    (λ c κs. search needs)
     array-share-prefix-e
     slice-aggregate-decode
-    decode-requires
-    refused-requires-2
+    (λ c κs. search needs)
+    (λ c κs. search needs)
     returns-2
     returns-3)

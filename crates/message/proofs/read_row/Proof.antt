@@ -14,9 +14,6 @@ use borrow.Author.Needs.{needs}
 use Rattle.message.proofs.read_row.Statement.{statement}
 use Rattle.message.proofs.read_row.Tie as tie
 
-read-message-requires : tie.Need-read-message-requires
-read-message-requires c κs = search needs
-
 returns : tie.Need-returns
 returns c = let a = c .before .before .before .args in row-refused (a .s .now) (a .row .now) _ (c .before .read-message .ensures .0) (c .if1 .taken)
 
@@ -42,9 +39,6 @@ slice-aggregate-fill c = sym (length-take-le _ _ (within (c .before .before .bef
 fill-requires : tie.Need-fill-requires
 fill-requires c κs = rw (length-take-le _ _ (within (c .before .before .before .before .before))) (c .before .before .before .if2 .left)
 
-same-length : tie.Need-same-length
-same-length c = search needs
-
 returns-3 : tie.Need-returns-3
 returns-3 c =
     let a = c .before .before .before .before .before .before .before .before .before .args in
@@ -58,11 +52,11 @@ pub read-row-spec : {M : Type 1} → statement M
 read-row-spec =
     tie.close
     (tie.spec
-    read-message-requires
+    (λ c κs. search needs)
     returns
     returns-2
     array-share-prefix-values
     slice-aggregate-fill
     fill-requires
-    same-length
+    (λ c. search needs)
     returns-3)

@@ -11,14 +11,8 @@ use borrow.Author.Needs.{needs}
 use Rattle.message.proofs.row_plan.Statement.{statement}
 use Rattle.message.proofs.row_plan.Tie as tie
 
-counter-at-requires : tie.Need-counter-at-requires
-counter-at-requires c κs = search needs
-
 add-counter-at : tie.Need-add-counter-at
 add-counter-at c = omega (arith, c .counter-at .ensures, counter-most (at (c .before .args .row .now)) 1)
-
-counter-at-requires-2 : tie.Need-counter-at-requires-2
-counter-at-requires-2 c κs = search needs
 
 plan-of-requires : tie.Need-plan-of-requires
 plan-of-requires c κs = let v = at (c .before .before .args .row .now) in (omega (arith, c .before .counter-at .ensures, counter-most v 1), omega (arith, c .counter-at2 .ensures, counter-most v (2 + c .before .counter-at .result)))
@@ -34,4 +28,4 @@ returns c =
 pub row-plan-spec : {M : Type 1} → statement M
 row-plan-spec =
     tie.close
-    (tie.spec counter-at-requires add-counter-at counter-at-requires-2 plan-of-requires returns)
+    (tie.spec (λ c κs. search needs) add-counter-at (λ c κs. search needs) plan-of-requires returns)

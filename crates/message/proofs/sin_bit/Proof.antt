@@ -12,23 +12,14 @@ use borrow.Author.Needs.{needs}
 use Rattle.message.proofs.sin_bit.Statement.{statement}
 use Rattle.message.proofs.sin_bit.Tie as tie
 
-field-at-requires : tie.Need-field-at-requires
-field-at-requires c κs = search needs
-
 returns : tie.Need-returns
 returns c = let s = c .before .before .before .args .s .now in let e = c .before .field-at .ensures ∙ number-read s (head-of s (c .before .before .before .pre) .long) in rw (lt-leb (numberOf s) 1022 (rw e at (c .if1 .taken)))
-
-field-at-requires-2 : tie.Need-field-at-requires-2
-field-at-requires-2 c κs = search needs
 
 mul-field-at : tie.Need-mul-field-at
 mul-field-at c = omega (arith, fieldAt-lt (c .before .before .before .before .args .s .now) 12 5, c .field-at2 .ensures)
 
 add-field-at : tie.Need-add-field-at
 add-field-at c = omega (arith, fieldAt-lt (c .before .before .before .before .args .s .now) 12 5, c .field-at2 .ensures)
-
-field-at-requires-3 : tie.Need-field-at-requires-3
-field-at-requires-3 c κs = search needs
 
 add-result : tie.Need-add-result
 add-result c = let s = c .before .before .before .before .before .args .s .now in omega (arith, fieldAt-lt s 12 5, c .before .field-at2 .ensures, fieldAt-lt s (17 + 8 * c .before .field-at2 .result) 5, c .field-at3 .ensures)
@@ -53,12 +44,12 @@ pub sin-bit-spec : {M : Type 1} → statement M
 sin-bit-spec =
     tie.close
     (tie.spec
-    field-at-requires
+    (λ c κs. search needs)
     returns
-    field-at-requires-2
+    (λ c κs. search needs)
     mul-field-at
     add-field-at
-    field-at-requires-3
+    (λ c κs. search needs)
     add-result
     mul-result
     add-result-2

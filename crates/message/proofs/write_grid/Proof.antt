@@ -13,9 +13,6 @@ array-share-prefix-values c = numbers-within _ _ _ (c .before .grid-row .ensures
 slice-aggregate-write-kind : tie.Need-slice-aggregate-write-kind
 slice-aggregate-write-kind c = sym (length-take-le _ _ (numbers-within _ _ _ (c .before .before .grid-row .ensures)))
 
-same-length : tie.Need-same-length
-same-length c = search needs
-
 returns : tie.Need-returns
 returns c =
     let a = c .before .before .before .before .before .before .before .before .args in
@@ -24,4 +21,4 @@ returns c =
     (w .0 ∙ e .0, w .1 ∙ e .1)
 
 pub write-grid-spec : {M : Type 1} → statement M
-write-grid-spec = tie.close (tie.spec (λ c κs. tt) array-share-prefix-values slice-aggregate-write-kind (λ c κs. tt) same-length returns)
+write-grid-spec = tie.close (tie.spec (λ c κs. tt) array-share-prefix-values slice-aggregate-write-kind (λ c κs. tt) (λ c. search needs) returns)

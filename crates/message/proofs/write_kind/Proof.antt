@@ -12,20 +12,11 @@ use Rattle.message.proofs.write_kind.Tie as tie
 returns : tie.Need-returns
 returns c = let a = c .before .before .args in refused-write _ 4 (message (a .row .now)) (a .out .now) (record-bad (a .lo) (a .hi) (a .row .now) (length (a .out .now)) (a .good) (not-true _ (c .if1 .taken)))
 
-natural-at-requires : tie.Need-natural-at-requires
-natural-at-requires c κs = tt
-
 returns-2 : tie.Need-returns-2
 returns-2 c = let a = c .before .before .before .before .args in refused-write _ 4 (message (a .row .now)) (a .out .now) (record-low (a .lo) (a .hi) (a .row .now) (length (a .out .now)) (a .good) (not-false _ (c .before .before .if1 .left)) (rw (c .before .natural-at .ensures) at (c .if2 .taken)))
 
 returns-3 : tie.Need-returns-3
 returns-3 c = let a = c .before .before .before .before .before .args in let n = c .before .before .natural-at .ensures in refused-write _ 4 (message (a .row .now)) (a .out .now) (record-high (a .lo) (a .hi) (a .row .now) (length (a .out .now)) (a .good) (not-false _ (c .before .before .before .if1 .left)) (rw n at (c .before .if2 .left)) (rw n at (c .if3 .taken)))
-
-write-row-requires : tie.Need-write-row-requires
-write-row-requires c κs = tt
-
-same-length : tie.Need-same-length
-same-length c = search needs
 
 returns-4 : tie.Need-returns-4
 returns-4 c =
@@ -39,9 +30,9 @@ write-kind-spec =
     tie.close
     (tie.spec
     returns
-    natural-at-requires
+    (λ c κs. tt)
     returns-2
     returns-3
-    write-row-requires
-    same-length
+    (λ c κs. tt)
+    (λ c. search needs)
     returns-4)

@@ -12,17 +12,11 @@ use borrow.Author.Needs.{needs}
 use Rattle.message.proofs.write_row.Statement.{statement}
 use Rattle.message.proofs.write_row.Tie as tie
 
-natural-at-requires : tie.Need-natural-at-requires
-natural-at-requires c κs = search needs
-
 returns : tie.Need-returns
 returns c = let a = c .before .before .before .args in refused-write _ 4 (message (a .row .now)) (a .out .now) (write-low (a .row .now) (a .out .now) (rw (c .before .natural-at .ensures) at (c .if1 .taken)))
 
 returns-2 : tie.Need-returns-2
 returns-2 c = let a = c .before .before .before .before .args in let n = c .before .before .natural-at .ensures in refused-write _ 4 (message (a .row .now)) (a .out .now) (write-high (a .row .now) (a .out .now) (rw n at (c .before .if1 .left)) (rw n at (c .if2 .taken)))
-
-row-plan-requires : tie.Need-row-plan-requires
-row-plan-requires c κs = search needs
 
 -- the layout's entries are within the array
 within : (c : tie.After-row-plan) → c .row-plan .result .count ≤ length (c .row-plan .result .entries)
@@ -33,12 +27,6 @@ array-share-prefix-e c = within (c .before)
 
 slice-aggregate-encode : tie.Need-slice-aggregate-encode
 slice-aggregate-encode c = sym (length-take-le _ _ (within (c .before .before)))
-
-encode-requires : tie.Need-encode-requires
-encode-requires c κs = search needs
-
-same-length : tie.Need-same-length
-same-length c = search needs
 
 returns-3 : tie.Need-returns-3
 unfolding message
@@ -56,12 +44,12 @@ pub write-row-spec : {M : Type 1} → statement M
 write-row-spec =
     tie.close
     (tie.spec
-    natural-at-requires
+    (λ c κs. search needs)
     returns
     returns-2
-    row-plan-requires
+    (λ c κs. search needs)
     array-share-prefix-e
     slice-aggregate-encode
-    encode-requires
-    same-length
+    (λ c κs. search needs)
+    (λ c. search needs)
     returns-3)

@@ -7,33 +7,6 @@ use borrow.Author.Needs.{needs}
 use Rattle.records.proofs.append_grid_end.Statement.{statement}
 use Rattle.records.proofs.append_grid_end.Tie as tie
 
-pair-row-requires : tie.Need-pair-row-requires
-pair-row-requires c κs = search needs
-
-slice-aggregate-append : tie.Need-slice-aggregate-append
-slice-aggregate-append c = search needs
-
-append-requires : tie.Need-append-requires
-append-requires c κs = search needs
-
-pair-row-requires-2 : tie.Need-pair-row-requires-2
-pair-row-requires-2 c κs = search needs
-
-slice-aggregate-append-2 : tie.Need-slice-aggregate-append-2
-slice-aggregate-append-2 c = search needs
-
-append-requires-2 : tie.Need-append-requires-2
-append-requires-2 c κs = search needs
-
-slice-aggregate-append-3 : tie.Need-slice-aggregate-append-3
-slice-aggregate-append-3 c = search needs
-
-append-requires-3 : tie.Need-append-requires-3
-append-requires-3 c κs = search needs
-
-same-length : tie.Need-same-length
-same-length c = search needs
-
 returns : tie.Need-returns
 returns c =
     let s = c .before .before .before .before .before .before .before .before .before .before .before .before .before .before in
@@ -45,13 +18,13 @@ pub append-grid-end-spec : {M : Type 1} → statement M
 append-grid-end-spec =
     tie.close
     (tie.spec
-    pair-row-requires
-    slice-aggregate-append
-    append-requires
-    pair-row-requires-2
-    slice-aggregate-append-2
-    append-requires-2
-    slice-aggregate-append-3
-    append-requires-3
-    same-length
+    (λ c κs. search needs)
+    (λ c. search needs)
+    (λ c κs. search needs)
+    (λ c κs. search needs)
+    (λ c. search needs)
+    (λ c κs. search needs)
+    (λ c. search needs)
+    (λ c κs. search needs)
+    (λ c. search needs)
     returns)

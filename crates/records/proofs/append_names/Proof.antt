@@ -8,20 +8,8 @@ use borrow.Author.Needs.{needs}
 use Rattle.records.proofs.append_names.Statement.{statement}
 use Rattle.records.proofs.append_names.Tie as tie
 
-slice-aggregate-append : tie.Need-slice-aggregate-append
-slice-aggregate-append c = search needs
-
-append-requires : tie.Need-append-requires
-append-requires c κs = search needs
-
-append-name-requires : tie.Need-append-name-requires
-append-name-requires c κs = search needs
-
 append-name-requires-2 : tie.Need-append-name-requires-2
 append-name-requires-2 c κs = (omega arith, omega (arith, c .before .before .before .before .before .append .ensures .place, c .before .before .append-name .ensures .place, length-nameRow (c .before .before .before .before .before .before .before .before .args .source)))
-
-same-length : tie.Need-same-length
-same-length c = search needs
 
 returns : tie.Need-returns
 returns c =
@@ -32,9 +20,9 @@ pub append-names-spec : {M : Type 1} → statement M
 append-names-spec =
     tie.close
     (tie.spec
-    slice-aggregate-append
-    append-requires
-    append-name-requires
+    (λ c. search needs)
+    (λ c κs. search needs)
+    (λ c κs. search needs)
     append-name-requires-2
-    same-length
+    (λ c. search needs)
     returns)

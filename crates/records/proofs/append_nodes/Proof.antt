@@ -20,22 +20,10 @@ loop-holds : tie.Need-loop-holds Inv-loop μ-loop
 unfolding nodesRow
 loop-holds c = (omega arith, (refl, nothing (c .args .dst .now) (c .args .at) (omega arith)))
 
-mul-append-shifts : tie.Need-mul-append-shifts Inv-loop μ-loop
-mul-append-shifts c = omega arith
-
-array-copy-out-append-shifts : tie.Need-array-copy-out-append-shifts Inv-loop μ-loop
-array-copy-out-append-shifts c = omega arith
-
 append-shifts-requires : tie.Need-append-shifts-requires Inv-loop μ-loop
 append-shifts-requires c κs =
     let l = c .before .before .before .loop in
     omega (arith, l .inv .1 .1 .place, length-nodes (l .i) (c .before .before .before .before .args .t3))
-
-add-i : tie.Need-add-i Inv-loop μ-loop
-add-i c = omega arith
-
-loop-less : tie.Need-loop-less Inv-loop μ-loop
-loop-less c = omega arith
 
 loop-again : tie.Need-loop-again Inv-loop μ-loop
 loop-again c =
@@ -66,11 +54,11 @@ append-nodes-spec =
     Inv-loop
     μ-loop
     loop-holds
-    mul-append-shifts
-    array-copy-out-append-shifts
+    (λ c. omega arith)
+    (λ c. omega arith)
     append-shifts-requires
-    add-i
-    loop-less
+    (λ c. omega arith)
+    (λ c. omega arith)
     loop-again
     same-length
     returns)

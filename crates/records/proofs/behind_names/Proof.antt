@@ -9,21 +9,6 @@ use borrow.Author.Needs.{needs}
 use Rattle.records.proofs.behind_names.Statement.{statement}
 use Rattle.records.proofs.behind_names.Tie as tie
 
-counter-at-requires : tie.Need-counter-at-requires
-counter-at-requires c κs = search needs
-
-add-counter-at : tie.Need-add-counter-at
-add-counter-at c = search needs
-
-counter-at-requires-2 : tie.Need-counter-at-requires-2
-counter-at-requires-2 c κs = search needs
-
-add-result : tie.Need-add-result
-add-result c = search needs
-
-add-result-2 : tie.Need-add-result-2
-add-result-2 c = search needs
-
 returns : tie.Need-returns
 returns c =
     let v = c .before .before .args .v .now in
@@ -35,9 +20,9 @@ pub behind-names-spec : {M : Type 1} → statement M
 behind-names-spec =
     tie.close
     (tie.spec
-    counter-at-requires
-    add-counter-at
-    counter-at-requires-2
-    add-result
-    add-result-2
+    (λ c κs. search needs)
+    (λ c. search needs)
+    (λ c κs. search needs)
+    (λ c. search needs)
+    (λ c. search needs)
     returns)

@@ -8,11 +8,8 @@ use Rattle.records.proofs.char_good.Tie as tie
 returns : tie.Need-returns
 returns c = search tests
 
-element-copy-out-result : tie.Need-element-copy-out-result
-element-copy-out-result c = search needs
-
 returns-2 : tie.Need-returns-2
 returns-2 c = search tests
 
 pub char-good-spec : {M : Type 1} → statement M
-char-good-spec = tie.close (tie.spec returns element-copy-out-result returns-2)
+char-good-spec = tie.close (tie.spec returns (λ c. search needs) returns-2)

@@ -7,12 +7,6 @@ use native.Mathlib.Omega.{arith}
 use Rattle.records.proofs.counter_at.Statement.{statement}
 use Rattle.records.proofs.counter_at.Tie as tie
 
-mul-n : tie.Need-mul-n
-mul-n c = search needs
-
-element-copy-out-n : tie.Need-element-copy-out-n
-element-copy-out-n c = search needs
-
 returns : tie.Need-returns
 returns c = let a = c .before .before .args in (no-counter (at (a .v .now) (a .k)) (c .before .n .given) (c .if1 .taken), omega arith)
 
@@ -27,4 +21,4 @@ returns-3 c = let a = c .before .before .before .args in let z = at (a .v .now) 
 
 pub counter-at-spec : {M : Type 1} → statement M
 counter-at-spec =
-    tie.close (tie.spec mul-n element-copy-out-n returns returns-2 cast-result returns-3)
+    tie.close (tie.spec (λ c. search needs) (λ c. search needs) returns returns-2 cast-result returns-3)

@@ -25,9 +25,6 @@ returns c = search tests
 loop-holds : tie.Need-loop-holds Inv-loop μ-loop
 loop-holds c = (omega arith, refl)
 
-char-good-requires : tie.Need-char-good-requires Inv-loop μ-loop
-char-good-requires c κs = omega arith
-
 returns-2 : tie.Need-returns-2 Inv-loop μ-loop
 unfolding goodName
 returns-2 c =
@@ -35,12 +32,6 @@ returns-2 c =
     let n = l .before .before .args .n in
     rw
     (le-leb (n .length) 31 (l .before .if1 .left), all-stops (charGood n) (l .loop .j) 31 (is (c .before .char-good .ensures) (not-true _ (c .if2 .taken))) (omega arith))
-
-add-j : tie.Need-add-j Inv-loop μ-loop
-add-j c = omega arith
-
-loop-less : tie.Need-loop-less Inv-loop μ-loop
-loop-less c = omega arith
 
 loop-again : tie.Need-loop-again Inv-loop μ-loop
 loop-again c =
@@ -63,9 +54,9 @@ good-name-spec =
     μ-loop
     returns
     loop-holds
-    char-good-requires
+    (λ c κs. omega arith)
     returns-2
-    add-j
-    loop-less
+    (λ c. omega arith)
+    (λ c. omega arith)
     loop-again
     returns-3)

@@ -7,36 +7,6 @@ use borrow.Author.Needs.{needs}
 use Rattle.records.proofs.grid_of.Statement.{statement}
 use Rattle.records.proofs.grid_of.Tie as tie
 
-element-copy-out-t4 : tie.Need-element-copy-out-t4
-element-copy-out-t4 c = search needs
-
-element-copy-out-t7 : tie.Need-element-copy-out-t7
-element-copy-out-t7 c = search needs
-
-pair-at-requires : tie.Need-pair-at-requires
-pair-at-requires c κs = search needs
-
-place-at-requires : tie.Need-place-at-requires
-place-at-requires c κs = search needs
-
-place-at-requires-2 : tie.Need-place-at-requires-2
-place-at-requires-2 c κs = search needs
-
-shifts-at-requires : tie.Need-shifts-at-requires
-shifts-at-requires c κs = search needs
-
-nodes-at-requires : tie.Need-nodes-at-requires
-nodes-at-requires c κs = search needs
-
-pair-at-requires-2 : tie.Need-pair-at-requires-2
-pair-at-requires-2 c κs = search needs
-
-pair-at-requires-3 : tie.Need-pair-at-requires-3
-pair-at-requires-3 c κs = search needs
-
-element-copy-out-t17 : tie.Need-element-copy-out-t17
-element-copy-out-t17 c = search needs
-
 returns : tie.Need-returns
 unfolding gridOf
 returns c =
@@ -58,14 +28,14 @@ pub grid-of-spec : {M : Type 1} → statement M
 grid-of-spec =
     tie.close
     (tie.spec
-    element-copy-out-t4
-    element-copy-out-t7
-    pair-at-requires
-    place-at-requires
-    place-at-requires-2
-    shifts-at-requires
-    nodes-at-requires
-    pair-at-requires-2
-    pair-at-requires-3
-    element-copy-out-t17
+    (λ c. search needs)
+    (λ c. search needs)
+    (λ c κs. search needs)
+    (λ c κs. search needs)
+    (λ c κs. search needs)
+    (λ c κs. search needs)
+    (λ c κs. search needs)
+    (λ c κs. search needs)
+    (λ c κs. search needs)
+    (λ c. search needs)
     returns)

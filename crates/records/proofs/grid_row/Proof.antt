@@ -10,23 +10,11 @@ use borrow.Author.Needs.{needs}
 use Rattle.records.proofs.grid_row.Statement.{statement}
 use Rattle.records.proofs.grid_row.Tie as tie
 
-slice-aggregate-append-grid-start : tie.Need-slice-aggregate-append-grid-start
-slice-aggregate-append-grid-start c = search needs
-
-append-grid-start-requires : tie.Need-append-grid-start-requires
-append-grid-start-requires c κs = search needs
-
-slice-aggregate-append-nodes : tie.Need-slice-aggregate-append-nodes
-slice-aggregate-append-nodes c = search needs
-
 append-nodes-requires : tie.Need-append-nodes-requires
 unfolding padded
 append-nodes-requires c κs =
     let r = c .before .before .before .before .before .before .before .before .before .before .before .before .args .r in
     omega (arith, (start-left (r .shifts) (r .origin) (r .spacing) (r .mean) (c .before .before .append-grid-start .ensures) (omega arith)))
-
-slice-aggregate-append-grid-end : tie.Need-slice-aggregate-append-grid-end
-slice-aggregate-append-grid-end c = search needs
 
 append-grid-end-requires : tie.Need-append-grid-end-requires
 unfolding padded
@@ -52,10 +40,10 @@ pub grid-row-spec : {M : Type 1} → statement M
 grid-row-spec =
     tie.close
     (tie.spec
-    slice-aggregate-append-grid-start
-    append-grid-start-requires
-    slice-aggregate-append-nodes
+    (λ c. search needs)
+    (λ c κs. search needs)
+    (λ c. search needs)
     append-nodes-requires
-    slice-aggregate-append-grid-end
+    (λ c. search needs)
     append-grid-end-requires
     returns)

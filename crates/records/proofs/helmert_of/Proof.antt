@@ -9,45 +9,6 @@ use borrow.Author.Needs.{needs}
 use Rattle.records.proofs.helmert_of.Statement.{statement}
 use Rattle.records.proofs.helmert_of.Tie as tie
 
-behind-names-requires : tie.Need-behind-names-requires
-behind-names-requires c κs = search needs
-
-element-copy-out-t5 : tie.Need-element-copy-out-t5
-element-copy-out-t5 c = search needs
-
-name-at-requires : tie.Need-name-at-requires
-name-at-requires c κs = search needs
-
-target-of-requires : tie.Need-target-of-requires
-target-of-requires c κs = search needs
-
-system-at-requires : tie.Need-system-at-requires
-system-at-requires c κs = search needs
-
-add-area-at : tie.Need-add-area-at
-add-area-at c = search needs
-
-area-at-requires : tie.Need-area-at-requires
-area-at-requires c κs = search needs
-
-add-parameters-at : tie.Need-add-parameters-at
-add-parameters-at c = search needs
-
-parameters-at-requires : tie.Need-parameters-at-requires
-parameters-at-requires c κs = search needs
-
-add-ellipsoids-at : tie.Need-add-ellipsoids-at
-add-ellipsoids-at c = search needs
-
-ellipsoids-at-requires : tie.Need-ellipsoids-at-requires
-ellipsoids-at-requires c κs = search needs
-
-add-pair-at : tie.Need-add-pair-at
-add-pair-at c = search needs
-
-pair-at-requires : tie.Need-pair-at-requires
-pair-at-requires c κs = search needs
-
 returns : tie.Need-returns
 unfolding helmertOf
 returns c =
@@ -68,17 +29,17 @@ pub helmert-of-spec : {M : Type 1} → statement M
 helmert-of-spec =
     tie.close
     (tie.spec
-    behind-names-requires
-    element-copy-out-t5
-    name-at-requires
-    target-of-requires
-    system-at-requires
-    add-area-at
-    area-at-requires
-    add-parameters-at
-    parameters-at-requires
-    add-ellipsoids-at
-    ellipsoids-at-requires
-    add-pair-at
-    pair-at-requires
+    (λ c κs. search needs)
+    (λ c. search needs)
+    (λ c κs. search needs)
+    (λ c κs. search needs)
+    (λ c κs. search needs)
+    (λ c. search needs)
+    (λ c κs. search needs)
+    (λ c. search needs)
+    (λ c κs. search needs)
+    (λ c. search needs)
+    (λ c κs. search needs)
+    (λ c. search needs)
+    (λ c κs. search needs)
     returns)

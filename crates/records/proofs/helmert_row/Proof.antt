@@ -12,26 +12,11 @@ use borrow.Author.Needs.{needs}
 use Rattle.records.proofs.helmert_row.Statement.{statement}
 use Rattle.records.proofs.helmert_row.Tie as tie
 
-good-name-requires : tie.Need-good-name-requires
-good-name-requires c κs = search needs
-
-no-numbers-requires : tie.Need-no-numbers-requires
-no-numbers-requires c κs = search needs
-
 returns : tie.Need-returns
 returns c = none _ _ (c .no-numbers .ensures) (first-bad _ _ (is (c .before .before .good-name .ensures) (not-true _ (c .before .if1 .taken))))
 
-good-name-requires-2 : tie.Need-good-name-requires-2
-good-name-requires-2 c κs = search needs
-
-no-numbers-requires-2 : tie.Need-no-numbers-requires-2
-no-numbers-requires-2 c κs = search needs
-
 returns-2 : tie.Need-returns-2
 returns-2 c = let r = c .before .before .before .before .before .before .before .args .r in none _ _ (c .no-numbers2 .ensures) (second-bad (goodName (r .source)) _ (is (c .before .before .good-name2 .ensures) (not-true _ (c .before .if2 .taken))))
-
-slice-aggregate-append-names : tie.Need-slice-aggregate-append-names
-slice-aggregate-append-names c = search needs
 
 append-names-requires : tie.Need-append-names-requires
 append-names-requires c κs =
@@ -40,9 +25,6 @@ append-names-requires c κs =
     let h = is (c .before .before .before .before .before .before .before .before .good-name2 .ensures) (not-false _ (c .before .before .before .before .before .before .before .if2 .left)) in
     (good-length (r .source) g, (good-length (r .target) h, omega arith))
 
-slice-aggregate-append-frame : tie.Need-slice-aggregate-append-frame
-slice-aggregate-append-frame c = search needs
-
 append-frame-requires : tie.Need-append-frame-requires
 unfolding padded
 append-frame-requires c κs =
@@ -50,9 +32,6 @@ append-frame-requires c κs =
     let g = is (c .before .before .before .before .before .before .before .before .before .before .before .before .before .good-name .ensures) (not-false _ (c .before .before .before .before .before .before .before .before .before .before .before .before .if1 .left)) in
     let h = is (c .before .before .before .before .before .before .before .before .before .before .before .good-name2 .ensures) (not-false _ (c .before .before .before .before .before .before .before .before .before .before .if2 .left)) in
     omega (arith, (names-left (r .source) (r .target) g h (c .before .before .append-names .ensures) (omega arith)))
-
-slice-aggregate-append-end : tie.Need-slice-aggregate-append-end
-slice-aggregate-append-end c = search needs
 
 append-end-requires : tie.Need-append-end-requires
 unfolding padded
@@ -78,16 +57,16 @@ pub helmert-row-spec : {M : Type 1} → statement M
 helmert-row-spec =
     tie.close
     (tie.spec
-    good-name-requires
-    no-numbers-requires
+    (λ c κs. search needs)
+    (λ c κs. search needs)
     returns
-    good-name-requires-2
-    no-numbers-requires-2
+    (λ c κs. search needs)
+    (λ c κs. search needs)
     returns-2
-    slice-aggregate-append-names
+    (λ c. search needs)
     append-names-requires
-    slice-aggregate-append-frame
+    (λ c. search needs)
     append-frame-requires
-    slice-aggregate-append-end
+    (λ c. search needs)
     append-end-requires
     returns-3)

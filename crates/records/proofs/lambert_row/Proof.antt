@@ -8,15 +8,9 @@ use borrow.Author.Needs.{needs}
 use Rattle.records.proofs.lambert_row.Statement.{statement}
 use Rattle.records.proofs.lambert_row.Tie as tie
 
-slice-aggregate-numbers-of : tie.Need-slice-aggregate-numbers-of
-slice-aggregate-numbers-of c = search needs
-
-numbers-of-requires : tie.Need-numbers-of-requires
-numbers-of-requires c κs = search needs
-
 returns : tie.Need-returns
 unfolding lambertRow
 returns c = c .numbers-of .ensures ∙ ap (numbers true) (backs (lambertRow (c .before .before .before .args .r)) _ (c .before .before .struct-told .given))
 
 pub lambert-row-spec : {M : Type 1} → statement M
-lambert-row-spec = tie.close (tie.spec slice-aggregate-numbers-of numbers-of-requires returns)
+lambert-row-spec = tie.close (tie.spec (λ c. search needs) (λ c κs. search needs) returns)

@@ -14,26 +14,11 @@ use borrow.Author.Needs.{needs}
 use Rattle.records.proofs.molodenski_badekas_row.Statement.{statement}
 use Rattle.records.proofs.molodenski_badekas_row.Tie as tie
 
-good-name-requires : tie.Need-good-name-requires
-good-name-requires c κs = search needs
-
-no-numbers-requires : tie.Need-no-numbers-requires
-no-numbers-requires c κs = search needs
-
 returns : tie.Need-returns
 returns c = none _ _ (c .no-numbers .ensures) (first-bad _ _ (is (c .before .before .good-name .ensures) (not-true _ (c .before .if1 .taken))))
 
-good-name-requires-2 : tie.Need-good-name-requires-2
-good-name-requires-2 c κs = search needs
-
-no-numbers-requires-2 : tie.Need-no-numbers-requires-2
-no-numbers-requires-2 c κs = search needs
-
 returns-2 : tie.Need-returns-2
 returns-2 c = let r = c .before .before .before .before .before .before .before .args .r in none _ _ (c .no-numbers2 .ensures) (second-bad (goodName (r .source)) _ (is (c .before .before .good-name2 .ensures) (not-true _ (c .before .if2 .taken))))
-
-slice-aggregate-append-names : tie.Need-slice-aggregate-append-names
-slice-aggregate-append-names c = search needs
 
 append-names-requires : tie.Need-append-names-requires
 append-names-requires c κs =
@@ -41,9 +26,6 @@ append-names-requires c κs =
     let g = is (c .before .before .before .before .before .before .before .before .before .before .before .good-name .ensures) (not-false _ (c .before .before .before .before .before .before .before .before .before .before .if1 .left)) in
     let h = is (c .before .before .before .before .before .before .before .before .before .good-name2 .ensures) (not-false _ (c .before .before .before .before .before .before .before .before .if2 .left)) in
     (good-length (r .source) g, (good-length (r .target) h, omega arith))
-
-slice-aggregate-append-frame : tie.Need-slice-aggregate-append-frame
-slice-aggregate-append-frame c = search needs
 
 append-frame-requires : tie.Need-append-frame-requires
 unfolding padded
@@ -53,15 +35,6 @@ append-frame-requires c κs =
     let h = is (c .before .before .before .before .before .before .before .before .before .before .before .before .good-name2 .ensures) (not-false _ (c .before .before .before .before .before .before .before .before .before .before .before .if2 .left)) in
     omega (arith, (names-left (r .source) (r .target) g h (c .before .before .append-names .ensures) (omega arith)))
 
-point-row-requires : tie.Need-point-row-requires
-point-row-requires c κs = search needs
-
-slice-aggregate-append : tie.Need-slice-aggregate-append
-slice-aggregate-append c = search needs
-
-slice-aggregate-append-2 : tie.Need-slice-aggregate-append-2
-slice-aggregate-append-2 c = search needs
-
 append-requires : tie.Need-append-requires
 unfolding padded
 append-requires c κs =
@@ -69,9 +42,6 @@ append-requires c κs =
     let g = is (c .before .before .before .before .before .before .before .before .before .before .before .before .before .before .before .before .before .before .before .good-name .ensures) (not-false _ (c .before .before .before .before .before .before .before .before .before .before .before .before .before .before .before .before .before .before .if1 .left)) in
     let h = is (c .before .before .before .before .before .before .before .before .before .before .before .before .before .before .before .before .before .good-name2 .ensures) (not-false _ (c .before .before .before .before .before .before .before .before .before .before .before .before .before .before .before .before .if2 .left)) in
     omega (arith, (frame-left (r .system) (r .area) (r .parameters) (c .before .before .before .before .append-frame .ensures) (names-left (r .source) (r .target) g h (c .before .before .before .before .before .before .before .append-names .ensures) (omega arith))), ap length (c .before .before .point-row .ensures))
-
-slice-aggregate-append-end : tie.Need-slice-aggregate-append-end
-slice-aggregate-append-end c = search needs
 
 append-end-requires : tie.Need-append-end-requires
 unfolding padded
@@ -97,20 +67,20 @@ pub molodenski-badekas-row-spec : {M : Type 1} → statement M
 molodenski-badekas-row-spec =
     tie.close
     (tie.spec
-    good-name-requires
-    no-numbers-requires
+    (λ c κs. search needs)
+    (λ c κs. search needs)
     returns
-    good-name-requires-2
-    no-numbers-requires-2
+    (λ c κs. search needs)
+    (λ c κs. search needs)
     returns-2
-    slice-aggregate-append-names
+    (λ c. search needs)
     append-names-requires
-    slice-aggregate-append-frame
+    (λ c. search needs)
     append-frame-requires
-    point-row-requires
-    slice-aggregate-append
-    slice-aggregate-append-2
+    (λ c κs. search needs)
+    (λ c. search needs)
+    (λ c. search needs)
     append-requires
-    slice-aggregate-append-end
+    (λ c. search needs)
     append-end-requires
     returns-3)

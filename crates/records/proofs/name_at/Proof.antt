@@ -21,35 +21,8 @@ Inv-loop v k n chars₀ j₀ chars j = (j ≤ n) × (chars ≡ upTo (λ i. natur
 abbrev μ-loop : tie.MeasureT-loop
 μ-loop v k n chars₀ j₀ chars j = n - j
 
-counter-at-requires : tie.Need-counter-at-requires Inv-loop μ-loop
-counter-at-requires c κs = omega arith
-
 loop-holds : tie.Need-loop-holds Inv-loop μ-loop
 loop-holds c = (omega arith, refl)
-
-add-char-of : tie.Need-add-char-of Inv-loop μ-loop
-add-char-of c = omega arith
-
-add-char-of-2 : tie.Need-add-char-of-2 Inv-loop μ-loop
-add-char-of-2 c = omega arith
-
-mul-char-of : tie.Need-mul-char-of Inv-loop μ-loop
-mul-char-of c = omega arith
-
-element-copy-out-char-of : tie.Need-element-copy-out-char-of Inv-loop μ-loop
-element-copy-out-char-of c = omega arith
-
-char-of-requires : tie.Need-char-of-requires Inv-loop μ-loop
-char-of-requires c κs = tt
-
-array-write-chars : tie.Need-array-write-chars Inv-loop μ-loop
-array-write-chars c = omega arith
-
-add-j : tie.Need-add-j Inv-loop μ-loop
-add-j c = omega arith
-
-loop-less : tie.Need-loop-less Inv-loop μ-loop
-loop-less c = omega arith
 
 loop-again : tie.Need-loop-again Inv-loop μ-loop
 loop-again c =
@@ -85,15 +58,15 @@ name-at-spec =
     (tie.spec
     Inv-loop
     μ-loop
-    counter-at-requires
+    (λ c κs. omega arith)
     loop-holds
-    add-char-of
-    add-char-of-2
-    mul-char-of
-    element-copy-out-char-of
-    char-of-requires
-    array-write-chars
-    add-j
-    loop-less
+    (λ c. omega arith)
+    (λ c. omega arith)
+    (λ c. omega arith)
+    (λ c. omega arith)
+    (λ c κs. tt)
+    (λ c. omega arith)
+    (λ c. omega arith)
+    (λ c. omega arith)
     loop-again
     returns)

@@ -21,27 +21,6 @@ abbrev μ-loop : tie.MeasureT-loop
 loop-holds : tie.Need-loop-holds Inv-loop μ-loop
 loop-holds c = (omega arith, refl)
 
-mul-shifts-at : tie.Need-mul-shifts-at Inv-loop μ-loop
-mul-shifts-at c = omega arith
-
-add-shifts-at : tie.Need-add-shifts-at Inv-loop μ-loop
-add-shifts-at c = omega arith
-
-shifts-at-requires : tie.Need-shifts-at-requires Inv-loop μ-loop
-shifts-at-requires c κs = omega arith
-
-mul-nodes : tie.Need-mul-nodes Inv-loop μ-loop
-mul-nodes c = omega arith
-
-array-set-from-nodes : tie.Need-array-set-from-nodes Inv-loop μ-loop
-array-set-from-nodes c = omega arith
-
-add-i : tie.Need-add-i Inv-loop μ-loop
-add-i c = omega arith
-
-loop-less : tie.Need-loop-less Inv-loop μ-loop
-loop-less c = omega arith
-
 loop-again : tie.Need-loop-again Inv-loop μ-loop
 loop-again c =
     let l = c .before .before .loop in
@@ -62,12 +41,12 @@ nodes-at-spec =
     Inv-loop
     μ-loop
     loop-holds
-    mul-shifts-at
-    add-shifts-at
-    shifts-at-requires
-    mul-nodes
-    array-set-from-nodes
-    add-i
-    loop-less
+    (λ c. omega arith)
+    (λ c. omega arith)
+    (λ c κs. omega arith)
+    (λ c. omega arith)
+    (λ c. omega arith)
+    (λ c. omega arith)
+    (λ c. omega arith)
     loop-again
     returns)

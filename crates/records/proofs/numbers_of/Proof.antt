@@ -6,15 +6,9 @@ use borrow.Author.Needs.{needs}
 use Rattle.records.proofs.numbers_of.Statement.{statement}
 use Rattle.records.proofs.numbers_of.Tie as tie
 
-slice-aggregate-append : tie.Need-slice-aggregate-append
-slice-aggregate-append c = search needs
-
-append-requires : tie.Need-append-requires
-append-requires c κs = search needs
-
 returns : tie.Need-returns
 unfolding padded
 returns c = all-good _ (c .before .append .ensures)
 
 pub numbers-of-spec : {M : Type 1} → statement M
-numbers-of-spec = tie.close (tie.spec slice-aggregate-append append-requires returns)
+numbers-of-spec = tie.close (tie.spec (λ c. search needs) (λ c κs. search needs) returns)

@@ -8,16 +8,10 @@ use borrow.Author.Needs.{needs}
 use Rattle.records.proofs.oblique_mercator_row.Statement.{statement}
 use Rattle.records.proofs.oblique_mercator_row.Tie as tie
 
-slice-aggregate-numbers-of : tie.Need-slice-aggregate-numbers-of
-slice-aggregate-numbers-of c = search needs
-
-numbers-of-requires : tie.Need-numbers-of-requires
-numbers-of-requires c κs = search needs
-
 returns : tie.Need-returns
 unfolding obliqueMercatorRow
 returns c = c .numbers-of .ensures ∙ ap (numbers true) (backs (obliqueMercatorRow (c .before .before .before .args .r)) _ (c .before .before .struct-told .given))
 
 pub oblique-mercator-row-spec : {M : Type 1} → statement M
 oblique-mercator-row-spec =
-    tie.close (tie.spec slice-aggregate-numbers-of numbers-of-requires returns)
+    tie.close (tie.spec (λ c. search needs) (λ c κs. search needs) returns)

@@ -8,17 +8,8 @@ use borrow.Author.Needs.{needs}
 use Rattle.records.proofs.target_of.Statement.{statement}
 use Rattle.records.proofs.target_of.Tie as tie
 
-counter-at-requires : tie.Need-counter-at-requires
-counter-at-requires c κs = search needs
-
-add-name-at : tie.Need-add-name-at
-add-name-at c = search needs
-
-name-at-requires : tie.Need-name-at-requires
-name-at-requires c κs = search needs
-
 returns : tie.Need-returns
 returns c = c .name-at .ensures ∙ ap (λ (k : ℕ). nameAt (at (c .before .before .args .v .now)) (2 + k)) (c .before .counter-at .ensures .0)
 
 pub target-of-spec : {M : Type 1} → statement M
-target-of-spec = tie.close (tie.spec counter-at-requires add-name-at name-at-requires returns)
+target-of-spec = tie.close (tie.spec (λ c κs. search needs) (λ c. search needs) (λ c κs. search needs) returns)

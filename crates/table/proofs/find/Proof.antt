@@ -15,15 +15,6 @@ use borrow.Author.Needs.{needs}
 use Rattle.table.proofs.find.Statement.{statement}
 use Rattle.table.proofs.find.Tie as tie
 
-table-marks-requires : tie.Need-table-marks-requires
-table-marks-requires c κs = search needs
-
-sound-marks-requires : tie.Need-sound-marks-requires
-sound-marks-requires c κs = search needs
-
-not-found-requires : tie.Need-not-found-requires
-not-found-requires c κs = search needs
-
 -- what is known where a slot has been looked for
 placed : (c : tie.After-mark-place) → (wellFormed (c .before .before .before .before .before .before .before .before .before .args .table .now) ≡ true) × (c .mark-place .result ≡ keyPlace (c .before .before .before .before .before .before .before .before .before .args .table .now) (c .before .before .before .before .before .before .before .before .before .args .sin) (c .before .before .before .before .before .before .before .before .before .args .group))
 placed c =
@@ -46,9 +37,6 @@ returns c =
     found-is t s g (find-table t s g (row-formed t _ (c .before .before .before .before .table-marks .ensures) (c .before .before .sound-marks .ensures) ∙ not-true _ (c .before .if1 .taken)))
     (r .0) (r .1 .0) (r .1 .1)
 
-not-found-requires-2 : tie.Need-not-found-requires-2
-not-found-requires-2 c κs = search needs
-
 returns-2 : tie.Need-returns-2
 returns-2 c =
     let t = c .before .before .before .before .before .before .before .args .table .now in
@@ -58,18 +46,6 @@ returns-2 c =
     let w = row-formed t _ (c .before .before .before .before .before .table-marks .ensures) (c .before .before .before .sound-marks .ensures) ∙ not-false _ (c .before .before .if1 .left) in
     let e : keyPlace t s g ≡ slots = keyPlace-out t s g (c .before .if2 .taken) in
     found-is t s g (find-none t s g w (omega arith)) (r .0) (r .1 .0) (r .1 .1)
-
-tag-of-requires : tie.Need-tag-of-requires
-tag-of-requires c κs = search needs
-
-mark-place-requires : tie.Need-mark-place-requires
-mark-place-requires c κs = search needs
-
-mul-a : tie.Need-mul-a
-mul-a c = search needs
-
-add-t13 : tie.Need-add-t13
-add-t13 c = search needs
 
 shared-slice-read-t15 : tie.Need-shared-slice-read-t15
 shared-slice-read-t15 c =
@@ -89,9 +65,6 @@ returns-3 c =
     found-is t s g (find-done t s g (p .0) (omega arith)) refl (ap (λ i. i * slotSize + 1) e)
     (ap (λ i. getD t (i * slotSize) 0) e ∙ sym (slot-first t (keyPlace t s g)))
 
-not-found-requires-3 : tie.Need-not-found-requires-3
-not-found-requires-3 c κs = search needs
-
 returns-4 : tie.Need-returns-4
 returns-4 c =
     let t = c .before .before .before .before .before .before .before .before .before .before .before .args .table .now in
@@ -106,18 +79,18 @@ pub find-spec : {M : Type 1} → statement M
 find-spec =
     tie.close
     (tie.spec
-    table-marks-requires
-    sound-marks-requires
-    not-found-requires
+    (λ c κs. search needs)
+    (λ c κs. search needs)
+    (λ c κs. search needs)
     returns
-    not-found-requires-2
+    (λ c κs. search needs)
     returns-2
-    tag-of-requires
-    mark-place-requires
-    mul-a
-    add-t13
+    (λ c κs. search needs)
+    (λ c κs. search needs)
+    (λ c. search needs)
+    (λ c. search needs)
     shared-slice-read-t15
     cast-t16
     returns-3
-    not-found-requires-3
+    (λ c κs. search needs)
     returns-4)

@@ -6,12 +6,6 @@ use borrow.Author.Needs.{needs}
 use Rattle.table.proofs.flawed_mark.Statement.{statement}
 use Rattle.table.proofs.flawed_mark.Tie as tie
 
-mul-g : tie.Need-mul-g
-mul-g c = search needs
-
-element-copy-out-g : tie.Need-element-copy-out-g
-element-copy-out-g c = search needs
-
 returns : tie.Need-returns
 unfolding flawedMark
 returns c = rw (eq-eqb _ _ (c .if1 .taken))
@@ -20,13 +14,10 @@ returns-2 : tie.Need-returns-2
 unfolding flawedMark
 returns-2 c = rw (ne-eqb _ _ (c .before .if1 .left), eq-eqb _ _ (c .if2 .taken))
 
-mark-place-requires : tie.Need-mark-place-requires
-mark-place-requires c κs = search needs
-
 returns-3 : tie.Need-returns-3
 unfolding flawedMark
 returns-3 c = rw (ne-eqb _ _ (c .before .before .if1 .left), ne-eqb _ _ (c .before .if2 .left), c .mark-place .ensures)
 
 pub flawed-mark-spec : {M : Type 1} → statement M
 flawed-mark-spec =
-    tie.close (tie.spec mul-g element-copy-out-g returns returns-2 mark-place-requires returns-3)
+    tie.close (tie.spec (λ c. search needs) (λ c. search needs) returns returns-2 (λ c κs. search needs) returns-3)

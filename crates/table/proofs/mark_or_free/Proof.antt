@@ -7,15 +7,9 @@ use borrow.Author.Needs.{needs}
 use Rattle.table.proofs.mark_or_free.Statement.{statement}
 use Rattle.table.proofs.mark_or_free.Tie as tie
 
-mark-place-requires : tie.Need-mark-place-requires
-mark-place-requires c κs = search needs
-
 returns : tie.Need-returns
 unfolding markOrFree
 returns c = rw (← c .before .mark-place .ensures, lt-ltb _ slots (c .if1 .taken))
-
-mark-place-requires-2 : tie.Need-mark-place-requires-2
-mark-place-requires-2 c κs = search needs
 
 returns-2 : tie.Need-returns-2
 unfolding markOrFree
@@ -23,4 +17,4 @@ returns-2 c = rw (← c .before .before .mark-place .ensures, le-ltb _ slots (c 
 
 pub mark-or-free-spec : {M : Type 1} → statement M
 mark-or-free-spec =
-    tie.close (tie.spec mark-place-requires returns mark-place-requires-2 returns-2)
+    tie.close (tie.spec (λ c κs. search needs) returns (λ c κs. search needs) returns-2)

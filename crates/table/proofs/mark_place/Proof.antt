@@ -20,24 +20,12 @@ loop-holds : tie.Need-loop-holds Inv-loop μ-loop
 unfolding markPlace
 loop-holds c = let e : c .args .n - 0 ≡ c .args .n = omega arith in (omega arith, rw e)
 
-mul-if1 : tie.Need-mul-if1 Inv-loop μ-loop
-mul-if1 c = omega arith
-
-element-copy-out-if1 : tie.Need-element-copy-out-if1 Inv-loop μ-loop
-element-copy-out-if1 c = omega arith
-
 returns : tie.Need-returns Inv-loop μ-loop
 unfolding hasMark
 returns c =
     let row = c .before .before .before .before .args .row .now in
     let g = c .before .before .before .before .args .g in
     sym (c .before .before .before .loop .inv .1 ∙ turn-hit (hasMark row g) _ _ (c .before .before .loop-test .taken) (eq-eqb _ _ (c .if1 .taken)))
-
-add-at : tie.Need-add-at Inv-loop μ-loop
-add-at c = omega arith
-
-loop-less : tie.Need-loop-less Inv-loop μ-loop
-loop-less c = omega arith
 
 loop-again : tie.Need-loop-again Inv-loop μ-loop
 unfolding hasMark
@@ -58,10 +46,10 @@ mark-place-spec =
     Inv-loop
     μ-loop
     loop-holds
-    mul-if1
-    element-copy-out-if1
+    (λ c. omega arith)
+    (λ c. omega arith)
     returns
-    add-at
-    loop-less
+    (λ c. omega arith)
+    (λ c. omega arith)
     loop-again
     returns-2)

@@ -12,12 +12,6 @@ use borrow.Author.Needs.{needs}
 use Rattle.table.proofs.remove.Statement.{statement}
 use Rattle.table.proofs.remove.Tie as tie
 
-find-requires : tie.Need-find-requires
-find-requires c κs = search needs
-
-same-length : tie.Need-same-length
-same-length c = search needs
-
 -- what is known where find answered 0
 record Held (t : List ℕ) (s g i : ℕ) : Type 0 where
   whole : wellFormed t ≡ true
@@ -43,16 +37,10 @@ returns c =
     let e = says t s g _ (c .before .find .ensures) in
     (e .number, sym (remove-kept t s g (λ z. c .if1 .taken (e .number ∙ z))))
 
-slice-aggregate-replace : tie.Need-slice-aggregate-replace
-slice-aggregate-replace c = search needs
-
 replace-requires : tie.Need-replace-requires
 replace-requires c κs =
     let h = found (c .before .before .before) in
     (formed _ (h .whole) .size, (subst⁻¹ (λ i. i < slots) (h .place) (h .low), omega arith))
-
-same-length-2 : tie.Need-same-length-2
-same-length-2 c = search needs
 
 returns-2 : tie.Need-returns-2
 returns-2 c =
@@ -67,10 +55,10 @@ pub remove-spec : {M : Type 1} → statement M
 remove-spec =
     tie.close
     (tie.spec
-    find-requires
-    same-length
+    (λ c κs. search needs)
+    (λ c. search needs)
     returns
-    slice-aggregate-replace
+    (λ c. search needs)
     replace-requires
-    same-length-2
+    (λ c. search needs)
     returns-2)

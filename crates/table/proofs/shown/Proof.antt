@@ -10,9 +10,6 @@ use borrow.Author.Needs.{needs}
 use Rattle.table.proofs.shown.Statement.{statement}
 use Rattle.table.proofs.shown.Tie as tie
 
-find-requires : tie.Need-find-requires
-find-requires c κs = search needs
-
 -- the part ends within the table
 inside : (c : tie.After-struct-known) → c .before .find .result .at + c .before .find .result .length ≤ length (c .before .before .before .args .table .now)
 inside c =
@@ -24,12 +21,6 @@ inside c =
 
 add-e : tie.Need-add-e
 add-e c = omega (arith, inside c)
-
-sub-result : tie.Need-sub-result
-sub-result c = search needs
-
-part-result-start : tie.Need-part-result-start
-part-result-start c = search needs
 
 part-result-end : tie.Need-part-result-end
 part-result-end c = inside c
@@ -51,4 +42,4 @@ returns c =
 
 pub shown-spec : {M : Type 1} → statement M
 shown-spec =
-    tie.close (tie.spec find-requires add-e sub-result part-result-start part-result-end returns)
+    tie.close (tie.spec (λ c κs. search needs) add-e (λ c. search needs) (λ c. search needs) part-result-end returns)

@@ -6,17 +6,8 @@ use borrow.Author.Needs.{needs}
 use Rattle.table.proofs.slot_byte.Statement.{statement}
 use Rattle.table.proofs.slot_byte.Tie as tie
 
-cast-result : tie.Need-cast-result
-cast-result c = search needs
-
 returns : tie.Need-returns
 returns c = byte-first _ _ (c .if1 .taken)
-
-sub-k : tie.Need-sub-k
-sub-k c = search needs
-
-shared-slice-read-result : tie.Need-shared-slice-read-result
-shared-slice-read-result c = search needs
 
 returns-2 : tie.Need-returns-2
 returns-2 c = byte-in _ _ (c .before .before .if1 .left) (c .before .if2 .taken)
@@ -26,4 +17,4 @@ returns-3 c = byte-after _ _ (c .before .if1 .left) (c .if2 .left) (omega arith)
 
 pub slot-byte-spec : {M : Type 1} → statement M
 slot-byte-spec =
-    tie.close (tie.spec cast-result returns sub-k shared-slice-read-result returns-2 returns-3)
+    tie.close (tie.spec (λ c. search needs) returns (λ c. search needs) (λ c. search needs) returns-2 returns-3)

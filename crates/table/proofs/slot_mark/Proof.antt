@@ -13,14 +13,8 @@ use borrow.Author.Needs.{needs}
 use Rattle.table.proofs.slot_mark.Statement.{statement}
 use Rattle.table.proofs.slot_mark.Tie as tie
 
-shared-slice-read-n : tie.Need-shared-slice-read-n
-shared-slice-read-n c = search needs
-
 cast-n : tie.Need-cast-n
 cast-n c = omega (arith, c .shared-slice-known2 .given 0)
-
-zeros-requires : tie.Need-zeros-requires
-zeros-requires c κs = search needs
 
 returns : tie.Need-returns
 returns c =
@@ -38,50 +32,17 @@ returns-3 c =
     let s = c .before .before .before .before .args .s .now in
     sym (mark-ill s (sym (well-long s (c .before .before .before .before .pre) (omega arith))))
 
-add-e : tie.Need-add-e
-add-e c = search needs
-
-sub-zeros : tie.Need-sub-zeros
-sub-zeros c = search needs
-
-part-zeros-start : tie.Need-part-zeros-start
-part-zeros-start c = search needs
-
-part-zeros-end : tie.Need-part-zeros-end
-part-zeros-end c = search needs
-
-zeros-requires-2 : tie.Need-zeros-requires-2
-zeros-requires-2 c κs = search needs
-
 returns-4 : tie.Need-returns-4
 returns-4 c =
     let s = c .before .before .before .before .before .before .before .args .s .now in
     let z = ap allZero (sym (part-rest s (1 + getD s 0 0))) ∙ sym (c .before .zeros2 .ensures) ∙ not-true _ (c .if4 .taken) in
     sym (mark-ill s (sym (well-rest s (c .before .before .before .before .if1 .left) z)))
 
-sub-read-header : tie.Need-sub-read-header
-sub-read-header c = search needs
-
-part-read-header-start : tie.Need-part-read-header-start
-part-read-header-start c = search needs
-
-part-read-header-end : tie.Need-part-read-header-end
-part-read-header-end c = search needs
-
-read-header-requires : tie.Need-read-header-requires
-read-header-requires c κs = search needs
-
 returns-5 : tie.Need-returns-5
 returns-5 c =
     let s = c .before .before .before .before .before .before .before .before .before .before .before .args .s .now in
     let e = header-refusal _ _ (c .before .before .read-header .ensures) ∙ ap refusal (part-held s) in
     sym (mark-ill s (sym (well-refused s (c .before .before .before .before .before .before .before .before .if1 .left) (λ q. c .if5 .taken (e ∙ q)))))
-
-group-of-requires : tie.Need-group-of-requires
-group-of-requires c κs = search needs
-
-tag-of-requires : tie.Need-tag-of-requires
-tag-of-requires c κs = search needs
 
 returns-6 : tie.Need-returns-6
 returns-6 c =
@@ -99,23 +60,23 @@ pub slot-mark-spec : {M : Type 1} → statement M
 slot-mark-spec =
     tie.close
     (tie.spec
-    shared-slice-read-n
+    (λ c. search needs)
     cast-n
-    zeros-requires
+    (λ c κs. search needs)
     returns
     returns-2
     returns-3
-    add-e
-    sub-zeros
-    part-zeros-start
-    part-zeros-end
-    zeros-requires-2
+    (λ c. search needs)
+    (λ c. search needs)
+    (λ c. search needs)
+    (λ c. search needs)
+    (λ c κs. search needs)
     returns-4
-    sub-read-header
-    part-read-header-start
-    part-read-header-end
-    read-header-requires
+    (λ c. search needs)
+    (λ c. search needs)
+    (λ c. search needs)
+    (λ c κs. search needs)
     returns-5
-    group-of-requires
-    tag-of-requires
+    (λ c κs. search needs)
+    (λ c κs. search needs)
     returns-6)

@@ -20,9 +20,6 @@ abbrev μ-loop : tie.MeasureT-loop
 loop-holds : tie.Need-loop-holds Inv-loop μ-loop
 loop-holds c = (omega arith, refl)
 
-flawed-mark-requires : tie.Need-flawed-mark-requires Inv-loop μ-loop
-flawed-mark-requires c κs = omega arith
-
 returns : tie.Need-returns Inv-loop μ-loop
 unfolding soundMarks
 returns c =
@@ -30,12 +27,6 @@ returns c =
     let l = c .before .before .loop-test .taken in
     let e = c .before .before .before .loop .inv .1 ∙ turn-hit (flawedMark (c .before .before .before .before .args .row .now)) i slots l (sym (c .before .flawed-mark .ensures) ∙ c .if1 .taken) in
     sym (ne-eqb i slots (λ z. omega arith)) ∙ ap (λ k. eqb k slots) (sym e)
-
-add-i : tie.Need-add-i Inv-loop μ-loop
-add-i c = omega arith
-
-loop-less : tie.Need-loop-less Inv-loop μ-loop
-loop-less c = omega arith
 
 loop-again : tie.Need-loop-again Inv-loop μ-loop
 loop-again c = (
@@ -59,9 +50,9 @@ sound-marks-spec =
     Inv-loop
     μ-loop
     loop-holds
-    flawed-mark-requires
+    (λ c κs. omega arith)
     returns
-    add-i
-    loop-less
+    (λ c. omega arith)
+    (λ c. omega arith)
     loop-again
     returns-2)

@@ -16,15 +16,6 @@ use borrow.Author.Needs.{needs}
 use Rattle.table.proofs.store.Statement.{statement}
 use Rattle.table.proofs.store.Tie as tie
 
-table-marks-requires : tie.Need-table-marks-requires
-table-marks-requires c κs = search needs
-
-sound-marks-requires : tie.Need-sound-marks-requires
-sound-marks-requires c κs = search needs
-
-same-length : tie.Need-same-length
-same-length c = search needs
-
 -- what is known where a slot has been looked for
 record Placed (t m : List ℕ) (i : ℕ) : Type 0 where
   whole : wellFormed t ≡ true
@@ -56,12 +47,6 @@ returns c =
     let s = store-table t m (row-formed t _ (c .before .before .before .table-marks .ensures) (c .before .sound-marks .ensures) ∙ not-true _ (c .if1 .taken)) in
     (sym (s .number), sym (s .table))
 
-read-header-requires : tie.Need-read-header-requires
-read-header-requires c κs = search needs
-
-same-length-2 : tie.Need-same-length-2
-same-length-2 c = search needs
-
 returns-2 : tie.Need-returns-2
 returns-2 c =
     let t = c .before .before .before .before .before .before .before .before .before .args .table .now in
@@ -70,18 +55,6 @@ returns-2 c =
     let e = header-refusal m _ (c .before .read-header .ensures) in
     let s = store-refused t m w (λ q. c .if2 .taken (e ∙ q)) in
     (e ∙ sym (s .number), sym (s .table))
-
-group-of-requires : tie.Need-group-of-requires
-group-of-requires c κs = search needs
-
-tag-of-requires : tie.Need-tag-of-requires
-tag-of-requires c κs = search needs
-
-mark-or-free-requires : tie.Need-mark-or-free-requires
-mark-or-free-requires c κs = search needs
-
-same-length-3 : tie.Need-same-length-3
-same-length-3 c = search needs
 
 returns-3 : tie.Need-returns-3
 returns-3 c =
@@ -96,9 +69,6 @@ replace-requires c κs =
     let p = placed (c .before .before) in
     (formed _ (p .whole) .size, (c .before .if3 .left, accepted-size _ (p .accepted) .1))
 
-same-length-4 : tie.Need-same-length-4
-same-length-4 c = search needs
-
 returns-4 : tie.Need-returns-4
 returns-4 c =
     let t = c .before .before .before .before .before .before .before .before .before .before .before .before .before .before .before .before .before .before .args .table .now in
@@ -111,18 +81,18 @@ pub store-spec : {M : Type 1} → statement M
 store-spec =
     tie.close
     (tie.spec
-    table-marks-requires
-    sound-marks-requires
-    same-length
+    (λ c κs. search needs)
+    (λ c κs. search needs)
+    (λ c. search needs)
     returns
-    read-header-requires
-    same-length-2
+    (λ c κs. search needs)
+    (λ c. search needs)
     returns-2
-    group-of-requires
-    tag-of-requires
-    mark-or-free-requires
-    same-length-3
+    (λ c κs. search needs)
+    (λ c κs. search needs)
+    (λ c κs. search needs)
+    (λ c. search needs)
     returns-3
     replace-requires
-    same-length-4
+    (λ c. search needs)
     returns-4)

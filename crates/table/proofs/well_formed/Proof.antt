@@ -6,14 +6,8 @@ use borrow.Author.Needs.{needs}
 use Rattle.table.proofs.well_formed.Statement.{statement}
 use Rattle.table.proofs.well_formed.Tie as tie
 
-table-marks-requires : tie.Need-table-marks-requires
-table-marks-requires c κs = search needs
-
-sound-marks-requires : tie.Need-sound-marks-requires
-sound-marks-requires c κs = search needs
-
 returns : tie.Need-returns
 returns c = sym (row-formed (c .before .before .before .before .args .table .now) _ (c .before .before .table-marks .ensures) (c .sound-marks .ensures))
 
 pub well-formed-spec : {M : Type 1} → statement M
-well-formed-spec = tie.close (tie.spec table-marks-requires sound-marks-requires returns)
+well-formed-spec = tie.close (tie.spec (λ c κs. search needs) (λ c κs. search needs) returns)

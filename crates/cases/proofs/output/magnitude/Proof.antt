@@ -16,14 +16,8 @@ cast-result c = let s = c .before in rw (flipped-z (s .args .n) (s .fits .n) (c 
 add-result : tie.Need-add-result
 add-result c = let s = c .before in rw (flipped-z (s .args .n) (s .fits .n) (c .if1 .taken)) (omega (arith, s .fits .n .sfits))
 
-returns : tie.Need-returns
-returns c = search needs
-
 cast-result-2 : tie.Need-cast-result-2
 cast-result-2 c = let s = c .before in rw (kept (s .args .n) (s .fits .n) (c .if1 .left)) (tt, omega (arith, s .fits .n .sfits))
 
-returns-2 : tie.Need-returns-2
-returns-2 c = search needs
-
 pub magnitude-spec : {M : Type 1} → statement M
-magnitude-spec = tie.close (tie.spec sub-result cast-result add-result returns cast-result-2 returns-2)
+magnitude-spec = tie.close (tie.spec sub-result cast-result add-result (λ c. search needs) cast-result-2 (λ c. search needs))

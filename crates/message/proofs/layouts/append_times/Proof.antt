@@ -16,29 +16,11 @@ abbrev μ-loop : tie.MeasureT-loop
 loop-holds : tie.Need-loop-holds Inv-loop μ-loop
 loop-holds c = let a = c .args in (omega arith, (refl, paste-zero (a .dst .now) (a .at) (replicate (a .n) (a .e))))
 
-add-i : tie.Need-add-i Inv-loop μ-loop
-add-i c = omega arith
-
-mul-dst : tie.Need-mul-dst Inv-loop μ-loop
-mul-dst c = omega arith
-
-slice-write-dst : tie.Need-slice-write-dst Inv-loop μ-loop
-slice-write-dst c = omega arith
-
-add-k : tie.Need-add-k Inv-loop μ-loop
-add-k c = omega arith
-
-loop-less : tie.Need-loop-less Inv-loop μ-loop
-loop-less c = omega arith
-
 loop-again : tie.Need-loop-again Inv-loop μ-loop
 loop-again c =
     let a = c .before .before .args in
     let l = c .before .loop in
     (omega arith, (simp length-set (l .inv .1 .0), paste-more (a .dst .now) (a .at) (replicate (a .n) (a .e)) (l .dst) (l .k) (a .e) (l .inv .1 .1) (sym (getD-replicate (a .n) (l .k) (a .e) 0 (omega arith))) (omega arith) (omega (arith, length-replicate (a .n) (a .e)))))
-
-add-result : tie.Need-add-result Inv-loop μ-loop
-add-result c = omega arith
 
 same-length : tie.Need-same-length Inv-loop μ-loop
 same-length c = c .before .loop .inv .1 .0
@@ -56,12 +38,12 @@ append-times-spec =
     Inv-loop
     μ-loop
     loop-holds
-    add-i
-    mul-dst
-    slice-write-dst
-    add-k
-    loop-less
+    (λ c. omega arith)
+    (λ c. omega arith)
+    (λ c. omega arith)
+    (λ c. omega arith)
+    (λ c. omega arith)
     loop-again
-    add-result
+    (λ c. omega arith)
     same-length
     returns)

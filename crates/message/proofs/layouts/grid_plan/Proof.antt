@@ -11,27 +11,6 @@ use borrow.Author.Needs.{needs}
 use Rattle.message.proofs.layouts.grid_plan.Statement.{statement}
 use Rattle.message.proofs.layouts.grid_plan.Tie as tie
 
-slice-aggregate-append : tie.Need-slice-aggregate-append
-slice-aggregate-append c = search needs
-
-append-requires : tie.Need-append-requires
-append-requires c κs = search needs
-
-slice-aggregate-append-times : tie.Need-slice-aggregate-append-times
-slice-aggregate-append-times c = search needs
-
-append-times-requires : tie.Need-append-times-requires
-append-times-requires c κs = search needs
-
-slice-aggregate-append-2 : tie.Need-slice-aggregate-append-2
-slice-aggregate-append-2 c = search needs
-
-slice-aggregate-append-3 : tie.Need-slice-aggregate-append-3
-slice-aggregate-append-3 c = search needs
-
-append-requires-2 : tie.Need-append-requires-2
-append-requires-2 c κs = search needs
-
 -- the residuals and the tail are the layout's points
 behind : (h : List ℕ) → h ++ replicate 48 (int 9) ++ (uint 2 ∷ uint 2 ∷ uint 3 ∷ uint 3 ∷ uint 16 ∷ []) ≡ h ++ points
 behind h = append-assoc h (replicate 48 (int 9)) _
@@ -51,11 +30,11 @@ pub grid-plan-spec : {M : Type 1} → statement M
 grid-plan-spec =
     tie.close
     (tie.spec
-    slice-aggregate-append
-    append-requires
-    slice-aggregate-append-times
-    append-times-requires
-    slice-aggregate-append-2
-    slice-aggregate-append-3
-    append-requires-2
+    (λ c. search needs)
+    (λ c κs. search needs)
+    (λ c. search needs)
+    (λ c κs. search needs)
+    (λ c. search needs)
+    (λ c. search needs)
+    (λ c κs. search needs)
     returns)

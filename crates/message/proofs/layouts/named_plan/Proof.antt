@@ -11,60 +11,6 @@ use borrow.Author.Needs.{needs}
 use Rattle.message.proofs.layouts.named_plan.Statement.{statement}
 use Rattle.message.proofs.layouts.named_plan.Tie as tie
 
-slice-aggregate-append : tie.Need-slice-aggregate-append
-slice-aggregate-append c = search needs
-
-slice-aggregate-append-2 : tie.Need-slice-aggregate-append-2
-slice-aggregate-append-2 c = search needs
-
-append-requires : tie.Need-append-requires
-append-requires c κs = search needs
-
-slice-aggregate-append-times : tie.Need-slice-aggregate-append-times
-slice-aggregate-append-times c = search needs
-
-append-times-requires : tie.Need-append-times-requires
-append-times-requires c κs = search needs
-
-slice-aggregate-append-3 : tie.Need-slice-aggregate-append-3
-slice-aggregate-append-3 c = search needs
-
-slice-aggregate-append-4 : tie.Need-slice-aggregate-append-4
-slice-aggregate-append-4 c = search needs
-
-append-requires-2 : tie.Need-append-requires-2
-append-requires-2 c κs = search needs
-
-slice-aggregate-append-times-2 : tie.Need-slice-aggregate-append-times-2
-slice-aggregate-append-times-2 c = search needs
-
-append-times-requires-2 : tie.Need-append-times-requires-2
-append-times-requires-2 c κs = search needs
-
-slice-aggregate-append-5 : tie.Need-slice-aggregate-append-5
-slice-aggregate-append-5 c = search needs
-
-slice-aggregate-append-6 : tie.Need-slice-aggregate-append-6
-slice-aggregate-append-6 c = search needs
-
-append-requires-3 : tie.Need-append-requires-3
-append-requires-3 c κs = search needs
-
-slice-aggregate-append-times-3 : tie.Need-slice-aggregate-append-times-3
-slice-aggregate-append-times-3 c = search needs
-
-append-times-requires-3 : tie.Need-append-times-requires-3
-append-times-requires-3 c κs = search needs
-
-slice-aggregate-append-7 : tie.Need-slice-aggregate-append-7
-slice-aggregate-append-7 c = search needs
-
-slice-aggregate-append-8 : tie.Need-slice-aggregate-append-8
-slice-aggregate-append-8 c = search needs
-
-append-requires-4 : tie.Need-append-requires-4
-append-requires-4 c κs = search needs
-
 -- the fields behind the names, with the rotation point among them
 behind : (h p : List ℕ)
     → h
@@ -90,22 +36,22 @@ pub named-plan-spec : {M : Type 1} → statement M
 named-plan-spec =
     tie.close
     (tie.spec
-    slice-aggregate-append
-    slice-aggregate-append-2
-    append-requires
-    slice-aggregate-append-times
-    append-times-requires
-    slice-aggregate-append-3
-    slice-aggregate-append-4
-    append-requires-2
-    slice-aggregate-append-times-2
-    append-times-requires-2
-    slice-aggregate-append-5
-    slice-aggregate-append-6
-    append-requires-3
-    slice-aggregate-append-times-3
-    append-times-requires-3
-    slice-aggregate-append-7
-    slice-aggregate-append-8
-    append-requires-4
+    (λ c. search needs)
+    (λ c. search needs)
+    (λ c κs. search needs)
+    (λ c. search needs)
+    (λ c κs. search needs)
+    (λ c. search needs)
+    (λ c. search needs)
+    (λ c κs. search needs)
+    (λ c. search needs)
+    (λ c κs. search needs)
+    (λ c. search needs)
+    (λ c. search needs)
+    (λ c κs. search needs)
+    (λ c. search needs)
+    (λ c κs. search needs)
+    (λ c. search needs)
+    (λ c. search needs)
+    (λ c κs. search needs)
     returns)

@@ -7,42 +7,6 @@ use borrow.Author.Needs.{needs}
 use Rattle.message.proofs.layouts.plan_of.Statement.{statement}
 use Rattle.message.proofs.layouts.plan_of.Tie as tie
 
-named-plan-requires : tie.Need-named-plan-requires
-named-plan-requires c κs = search needs
-
-named-plan-requires-2 : tie.Need-named-plan-requires-2
-named-plan-requires-2 c κs = search needs
-
-slice-aggregate-grid-plan : tie.Need-slice-aggregate-grid-plan
-slice-aggregate-grid-plan c = search needs
-
-grid-plan-requires : tie.Need-grid-plan-requires
-grid-plan-requires c κs = search needs
-
-slice-aggregate-grid-plan-2 : tie.Need-slice-aggregate-grid-plan-2
-slice-aggregate-grid-plan-2 c = search needs
-
-grid-plan-requires-2 : tie.Need-grid-plan-requires-2
-grid-plan-requires-2 c κs = search needs
-
-slice-aggregate-fixed-plan : tie.Need-slice-aggregate-fixed-plan
-slice-aggregate-fixed-plan c = search needs
-
-fixed-plan-requires : tie.Need-fixed-plan-requires
-fixed-plan-requires c κs = search needs
-
-slice-aggregate-fixed-plan-2 : tie.Need-slice-aggregate-fixed-plan-2
-slice-aggregate-fixed-plan-2 c = search needs
-
-fixed-plan-requires-2 : tie.Need-fixed-plan-requires-2
-fixed-plan-requires-2 c κs = search needs
-
-slice-aggregate-fixed-plan-3 : tie.Need-slice-aggregate-fixed-plan-3
-slice-aggregate-fixed-plan-3 c = search needs
-
-fixed-plan-requires-3 : tie.Need-fixed-plan-requires-3
-fixed-plan-requires-3 c κs = search needs
-
 returns : tie.Need-returns
 unfolding layoutOf layout1021 tail1021
 returns c = rw (c .before .match .keys1) (c .named-plan .ensures)
@@ -81,18 +45,18 @@ pub plan-of-spec : {M : Type 1} → statement M
 plan-of-spec =
     tie.close
     (tie.spec
-    named-plan-requires
-    named-plan-requires-2
-    slice-aggregate-grid-plan
-    grid-plan-requires
-    slice-aggregate-grid-plan-2
-    grid-plan-requires-2
-    slice-aggregate-fixed-plan
-    fixed-plan-requires
-    slice-aggregate-fixed-plan-2
-    fixed-plan-requires-2
-    slice-aggregate-fixed-plan-3
-    fixed-plan-requires-3
+    (λ c κs. search needs)
+    (λ c κs. search needs)
+    (λ c. search needs)
+    (λ c κs. search needs)
+    (λ c. search needs)
+    (λ c κs. search needs)
+    (λ c. search needs)
+    (λ c κs. search needs)
+    (λ c. search needs)
+    (λ c κs. search needs)
+    (λ c. search needs)
+    (λ c κs. search needs)
     returns
     returns-2
     returns-3
