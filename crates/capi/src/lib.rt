@@ -3,6 +3,7 @@ ghost use mathlib.Core.Path.{_≡_};
 ghost use lib.ListN.{length};
 ghost use Rattle.bits.specs.Layout.{answered, stored};
 ghost use Rattle.message.specs.Message.{header, rowRefusal, rowRead, writeRefusal, message};
+ghost use Rattle.capi.specs.Counted.{countedShift};
 ghost use Rattle.table.specs.Table.{storeRefusal, storeTable, findRefusal, foundOf, removeTable};
 
 // The number, the length and the system identification number of a message.
@@ -29,6 +30,25 @@ pub extern "C" fn tarnoklej_write_fields(fields: &[i64], out: &mut [u8]) -> bits
     ensures output { λ r. ⌜ now (out .exit) ≡ stored (writeRefusal (now (fields .entry)) (length (now (out .entry)))) (message (now (fields .entry))) (now (out .entry)) ⌝ }
 {
     message::write_row(fields, out)
+}
+
+// A shift as a refusal and a count.
+#[repr(C)]
+pub struct Counted {
+    pub refusal: u8,
+    pub count: i64,
+}
+
+// The shift of a component at a position, in counts.
+#[no_mangle]
+pub extern "C" fn tarnoklej_shift_at(s: &[u8], component: u8, north: i64, east: i64) -> Counted
+    ensures { λ r. ⌜ r ≡ countedShift (now (s .entry)) component north east ⌝ }
+{
+    let r = grid::shift_at(s, component, north, east);
+    Counted {
+        refusal: r.refusal,
+        count: r.count,
+    }
 }
 
 // Stores a message under its key.

@@ -11,6 +11,11 @@ pub enum Integer {
     Bad,
 }
 
+pub enum Byte {
+    Is(u8),
+    Bad,
+}
+
 pub type Bytes = [u8; 140];
 
 pub type Numbers = [i64; 100];
@@ -182,6 +187,17 @@ fn longer(n: usize, b: u8) -> Count {
         return Count::Bad;
     }
     Count::Is(n * 10 + (d as usize))
+}
+
+// A natural number below 256 in decimal digits.
+pub fn small(s: &[u8]) -> Byte {
+    let Count::Is(n) = natural(s) else {
+        return Byte::Bad;
+    };
+    if n < 256 {
+        return Byte::Is(n as u8);
+    }
+    Byte::Bad
 }
 
 // A whole number in decimal digits, with `-` before a negative one.

@@ -1,3 +1,4 @@
 pub mod Messages
 pub mod Worked
 pub mod Tables
+pub mod Grids

@@ -1,15 +1,54 @@
 -- Document 01, "Numbers worked out": one table of rows, each a message, what is asked of it, and the number and count that must be answered.
+-- The bytes are those of the second program's cases p1 to p12.
 -- Assumes nothing.
 use Prim.Native.Nat.{ℕ}
 use mathlib.Core.Path.{_≡_}
 use mathlib.Core.List.{List, [], _∷_}
-use lib.IntN.{ℤ, pos}
+use lib.IntN.{ℤ, pos, negsuc}
 use Rattle.bits.specs.Layout.{blank}
-use Rattle.message.specs.Message.{refusal}
+use Rattle.message.specs.Message.{refusal, row}
+use Rattle.grid.specs.declared.Answer.{Answer}
+use Rattle.grid.specs.declared.Answer.the-variants.{Metres}
+use Rattle.grid.specs.Shift.{unitsOf, messageShift}
 
--- what is asked of a message: to read it
+-- ---- messages
+
+-- Grid K: 1023, SIN 7, origin raw 352,800 and 79,200, spacings raw 720, DF190 0, DF191 1, DF198 4,692, height node i raw i, all else 0
+unfoldable pub gridK : List ℕ
+gridK =
+    63 ∷ 240 ∷ 116 ∷ 172 ∷ 68 ∷ 0 ∷ 154 ∷ 176 ∷ 22 ∷ 129 ∷ 104 ∷ 0 ∷ 0 ∷ 18 ∷ 84 ∷ 0 ∷ 0 ∷ 0 ∷ 32 ∷ 0 ∷ 0 ∷ 8 ∷ 0 ∷ 0 ∷ 1 ∷ 128 ∷ 0 ∷ 0 ∷ 64 ∷ 0 ∷ 0 ∷ 10 ∷ 0 ∷ 0 ∷ 1 ∷ 128 ∷ 0 ∷ 0 ∷ 56 ∷ 0 ∷ 0 ∷ 8 ∷ 0 ∷ 0 ∷ 1 ∷ 32 ∷ 0 ∷ 0 ∷ 40 ∷ 0 ∷ 0 ∷ 5 ∷ 128 ∷ 0 ∷ 0 ∷ 192 ∷ 0 ∷ 0 ∷ 26 ∷ 0 ∷ 0 ∷ 3 ∷ 128 ∷ 0 ∷ 0 ∷ 120 ∷ 0 ∷ 0 ∷ 16 ∷ 0 ∷ 0 ∷ 0 ∷ 0 ∷ []
+
+-- Grid K "with all nodes negated"
+unfoldable pub gridKNegated : List ℕ
+gridKNegated =
+    63 ∷ 240 ∷ 116 ∷ 172 ∷ 68 ∷ 0 ∷ 154 ∷ 176 ∷ 22 ∷ 129 ∷ 104 ∷ 0 ∷ 0 ∷ 18 ∷ 84 ∷ 0 ∷ 0 ∷ 63 ∷ 224 ∷ 0 ∷ 7 ∷ 248 ∷ 0 ∷ 0 ∷ 254 ∷ 128 ∷ 0 ∷ 31 ∷ 192 ∷ 0 ∷ 3 ∷ 246 ∷ 0 ∷ 0 ∷ 126 ∷ 128 ∷ 0 ∷ 15 ∷ 200 ∷ 0 ∷ 1 ∷ 248 ∷ 0 ∷ 0 ∷ 62 ∷ 224 ∷ 0 ∷ 7 ∷ 216 ∷ 0 ∷ 0 ∷ 250 ∷ 128 ∷ 0 ∷ 31 ∷ 64 ∷ 0 ∷ 3 ∷ 230 ∷ 0 ∷ 0 ∷ 124 ∷ 128 ∷ 0 ∷ 15 ∷ 136 ∷ 0 ∷ 1 ∷ 240 ∷ 0 ∷ 0 ∷ 0 ∷ 0 ∷ []
+
+-- Grid K with "node 7 raw -256"
+unfoldable pub gridKNode7 : List ℕ
+gridKNode7 =
+    63 ∷ 240 ∷ 116 ∷ 172 ∷ 68 ∷ 0 ∷ 154 ∷ 176 ∷ 22 ∷ 129 ∷ 104 ∷ 0 ∷ 0 ∷ 18 ∷ 84 ∷ 0 ∷ 0 ∷ 0 ∷ 32 ∷ 0 ∷ 0 ∷ 8 ∷ 0 ∷ 0 ∷ 1 ∷ 128 ∷ 0 ∷ 0 ∷ 64 ∷ 0 ∷ 0 ∷ 10 ∷ 0 ∷ 0 ∷ 1 ∷ 128 ∷ 0 ∷ 8 ∷ 0 ∷ 0 ∷ 0 ∷ 8 ∷ 0 ∷ 0 ∷ 1 ∷ 32 ∷ 0 ∷ 0 ∷ 40 ∷ 0 ∷ 0 ∷ 5 ∷ 128 ∷ 0 ∷ 0 ∷ 192 ∷ 0 ∷ 0 ∷ 26 ∷ 0 ∷ 0 ∷ 3 ∷ 128 ∷ 0 ∷ 0 ∷ 120 ∷ 0 ∷ 0 ∷ 16 ∷ 0 ∷ 0 ∷ 0 ∷ 0 ∷ []
+
+-- Grid K with a spacing north of 0
+unfoldable pub gridKNorth0 : List ℕ
+gridKNorth0 =
+    63 ∷ 240 ∷ 116 ∷ 172 ∷ 68 ∷ 0 ∷ 154 ∷ 176 ∷ 0 ∷ 1 ∷ 104 ∷ 0 ∷ 0 ∷ 18 ∷ 84 ∷ 0 ∷ 0 ∷ 0 ∷ 32 ∷ 0 ∷ 0 ∷ 8 ∷ 0 ∷ 0 ∷ 1 ∷ 128 ∷ 0 ∷ 0 ∷ 64 ∷ 0 ∷ 0 ∷ 10 ∷ 0 ∷ 0 ∷ 1 ∷ 128 ∷ 0 ∷ 0 ∷ 56 ∷ 0 ∷ 0 ∷ 8 ∷ 0 ∷ 0 ∷ 1 ∷ 32 ∷ 0 ∷ 0 ∷ 40 ∷ 0 ∷ 0 ∷ 5 ∷ 128 ∷ 0 ∷ 0 ∷ 192 ∷ 0 ∷ 0 ∷ 26 ∷ 0 ∷ 0 ∷ 3 ∷ 128 ∷ 0 ∷ 0 ∷ 120 ∷ 0 ∷ 0 ∷ 16 ∷ 0 ∷ 0 ∷ 0 ∷ 0 ∷ []
+
+-- Grid K with a spacing east of 0
+unfoldable pub gridKEast0 : List ℕ
+gridKEast0 =
+    63 ∷ 240 ∷ 116 ∷ 172 ∷ 68 ∷ 0 ∷ 154 ∷ 176 ∷ 22 ∷ 128 ∷ 0 ∷ 0 ∷ 0 ∷ 18 ∷ 84 ∷ 0 ∷ 0 ∷ 0 ∷ 32 ∷ 0 ∷ 0 ∷ 8 ∷ 0 ∷ 0 ∷ 1 ∷ 128 ∷ 0 ∷ 0 ∷ 64 ∷ 0 ∷ 0 ∷ 10 ∷ 0 ∷ 0 ∷ 1 ∷ 128 ∷ 0 ∷ 0 ∷ 56 ∷ 0 ∷ 0 ∷ 8 ∷ 0 ∷ 0 ∷ 1 ∷ 32 ∷ 0 ∷ 0 ∷ 40 ∷ 0 ∷ 0 ∷ 5 ∷ 128 ∷ 0 ∷ 0 ∷ 192 ∷ 0 ∷ 0 ∷ 26 ∷ 0 ∷ 0 ∷ 3 ∷ 128 ∷ 0 ∷ 0 ∷ 120 ∷ 0 ∷ 0 ∷ 16 ∷ 0 ∷ 0 ∷ 0 ∷ 0 ∷ []
+
+-- Grid K with both spacings 0
+unfoldable pub gridKBoth0 : List ℕ
+gridKBoth0 =
+    63 ∷ 240 ∷ 116 ∷ 172 ∷ 68 ∷ 0 ∷ 154 ∷ 176 ∷ 0 ∷ 0 ∷ 0 ∷ 0 ∷ 0 ∷ 18 ∷ 84 ∷ 0 ∷ 0 ∷ 0 ∷ 32 ∷ 0 ∷ 0 ∷ 8 ∷ 0 ∷ 0 ∷ 1 ∷ 128 ∷ 0 ∷ 0 ∷ 64 ∷ 0 ∷ 0 ∷ 10 ∷ 0 ∷ 0 ∷ 1 ∷ 128 ∷ 0 ∷ 0 ∷ 56 ∷ 0 ∷ 0 ∷ 8 ∷ 0 ∷ 0 ∷ 1 ∷ 32 ∷ 0 ∷ 0 ∷ 40 ∷ 0 ∷ 0 ∷ 5 ∷ 128 ∷ 0 ∷ 0 ∷ 192 ∷ 0 ∷ 0 ∷ 26 ∷ 0 ∷ 0 ∷ 3 ∷ 128 ∷ 0 ∷ 0 ∷ 120 ∷ 0 ∷ 0 ∷ 16 ∷ 0 ∷ 0 ∷ 0 ∷ 0 ∷ []
+
+-- ---- what is asked, and answered
+
+-- to read the message, or the shift of a component at a position, north first
 pub data Asked : Type 0 where
   read : Asked
+  shift : ℕ → ℤ → ℤ → Asked
 
 pub record Answered : Type 0 where
   pub number : ℕ
@@ -17,17 +56,31 @@ pub record Answered : Type 0 where
 
 unfoldable pub answerTo : List ℕ → Asked → Answered
 answerTo s read = record { number = refusal s; count = pos 0 }
+answerTo s (shift c n e) = record { number = messageShift s c n e .refusal; count = messageShift s c n e .count }
 
 pub record Worked : Type 0 where
   pub message : List ℕ
   pub asked : Asked
   pub answer : Answered
 
--- P12: "1021 with empty names, other fields zero: 52 bytes accepted; with a 53rd, LENGTH"
 unfoldable pub table : List Worked
 table =
-    record { message = 63 ∷ 208 ∷ blank 50; asked = read; answer = record { number = 0; count = pos 0 } }
-    ∷ record { message = 63 ∷ 208 ∷ blank 51; asked = read; answer = record { number = 3; count = pos 0 } }
+    record { message = gridK; asked = shift 2 (pos 1764000000) (pos 396000000); answer = record { number = 0; count = pos 469285 } }  -- P1
+    ∷ record { message = gridK; asked = shift 2 (pos 1769400000) (pos 390600000); answer = record { number = 0; count = pos 469210 } }  -- P2
+    ∷ record { message = gridK; asked = shift 2 (pos 1769400001) (pos 390600000); answer = record { number = 14; count = pos 0 } }  -- P3
+    ∷ record { message = gridK; asked = shift 2 (pos 1758600000) (pos 401400000); answer = record { number = 0; count = pos 469360 } }  -- P4
+    ∷ record { message = gridK; asked = shift 2 (pos 1765800000) (pos 394380000); answer = record { number = 0; count = pos 469261 } }  -- P5
+    ∷ record { message = gridK; asked = shift 2 (pos 1765800000) (pos 394379999); answer = record { number = 0; count = pos 469260 } }  -- P6
+    ∷ record { message = gridKNegated; asked = shift 2 (pos 1765800000) (pos 394380000); answer = record { number = 0; count = pos 469139 } }  -- P7
+    ∷ record { message = gridKNode7; asked = shift 2 (pos 1765800000) (pos 394200000); answer = record { number = 0; count = pos 469260 } }  -- P8
+    ∷ record { message = gridKNode7; asked = shift 2 (pos 1765800000) (pos 394200001); answer = record { number = 15; count = pos 0 } }  -- P9
+    ∷ record { message = gridK; asked = shift 0 (pos 1764000000) (pos 396000000); answer = record { number = 10; count = pos 0 } }  -- P10
+    ∷ record { message = gridK; asked = shift 1 (pos 1764000000) (pos 396000000); answer = record { number = 10; count = pos 0 } }  -- P10, east
+    ∷ record { message = gridKNorth0; asked = shift 2 (pos 1764000000) (pos 396000000); answer = record { number = 13; count = pos 0 } }  -- P11, north
+    ∷ record { message = gridKEast0; asked = shift 2 (pos 1764000000) (pos 396000000); answer = record { number = 13; count = pos 0 } }  -- P11, east
+    ∷ record { message = gridKBoth0; asked = shift 2 (pos 1764000000) (pos 396000000); answer = record { number = 13; count = pos 0 } }  -- P11, both
+    ∷ record { message = 63 ∷ 208 ∷ blank 50; asked = read; answer = record { number = 0; count = pos 0 } }  -- P12
+    ∷ record { message = 63 ∷ 208 ∷ blank 51; asked = read; answer = record { number = 3; count = pos 0 } }  -- P12, with a 53rd byte
     ∷ []
 
 -- what is answered to each row, and what must be
@@ -41,3 +94,15 @@ wanted (w ∷ ws) = w .answer ∷ wanted ws
 
 abbrev pub WorkedNumbers : Type 0
 WorkedNumbers = given table ≡ wanted table
+
+-- P1 for the add-on: "46.9285 m"
+abbrev pub WorkedMetres : Type 0
+WorkedMetres = messageShift gridK 2 (pos 1764000000) (pos 396000000) .answer ≡ Metres (unitsOf 10000 (pos 469285))
+
+-- the bytes of Grid K read as document 01 gives them
+abbrev pub GridKRead : Type 0
+GridKRead =
+    row gridK
+    ≡ pos 1023 ∷ pos 7 ∷ pos 0 ∷ pos 1 ∷ pos 352800 ∷ pos 79200 ∷ pos 720 ∷ pos 720 ∷ pos 0 ∷ pos 0 ∷ pos 4692
+    ∷ pos 0 ∷ pos 0 ∷ pos 1 ∷ pos 0 ∷ pos 0 ∷ pos 2 ∷ pos 0 ∷ pos 0 ∷ pos 3 ∷ pos 0 ∷ pos 0 ∷ pos 4 ∷ pos 0 ∷ pos 0 ∷ pos 5 ∷ pos 0 ∷ pos 0 ∷ pos 6 ∷ pos 0 ∷ pos 0 ∷ pos 7 ∷ pos 0 ∷ pos 0 ∷ pos 8 ∷ pos 0 ∷ pos 0 ∷ pos 9 ∷ pos 0 ∷ pos 0 ∷ pos 10 ∷ pos 0 ∷ pos 0 ∷ pos 11 ∷ pos 0 ∷ pos 0 ∷ pos 12 ∷ pos 0 ∷ pos 0 ∷ pos 13 ∷ pos 0 ∷ pos 0 ∷ pos 14 ∷ pos 0 ∷ pos 0 ∷ pos 15 ∷ pos 0 ∷ pos 0 ∷ pos 16
+    ∷ pos 0 ∷ pos 0 ∷ pos 0 ∷ pos 0 ∷ pos 0 ∷ []

@@ -4,7 +4,8 @@ pub mod promises;
 ghost use Prim.Native.Nat.{ℕ};
 ghost use mathlib.Core.List.{List};
 ghost use Rattle.demands.specs.Messages.{Bytes, FirstThatApplies, CounterCut, AcceptedLengths, SinFound, ReportedLength, MessageAgain, RowAgain, RecordsAgain, RecordsBack};
-ghost use Rattle.demands.specs.Worked.{WorkedNumbers};
+ghost use Rattle.demands.specs.Worked.{WorkedNumbers, WorkedMetres, GridKRead};
+ghost use Rattle.demands.specs.Grids.{GridAnswer, SharedEdges, Lipschitz, PlainSteps};
 ghost use Rattle.demands.specs.Tables.{LikeADictionary, LastStored, StaysFormed, RefusedKeeps};
 
 // Demand 1 of reading: the first refusal that applies, and only then.
@@ -36,7 +37,21 @@ pub fn tables()
     ensures refused { λ r. ⌜ RefusedKeeps ⌝ }
 {}
 
-// Document 01, "Numbers worked out".
+// Demand 2 of the shift at a position: the mean plus the nearest whole number, the same from every cell that holds the place.
+pub fn shifts()
+    ensures answer { λ r. ⌜ GridAnswer ⌝ }
+    ensures edges { λ r. ⌜ SharedEdges ⌝ }
+{}
+
+// Demand 3: one Lipschitz bound over the whole grid.
+pub fn lipschitz()
+    ensures bound { λ r. ⌜ Lipschitz ⌝ }
+    ensures steps { λ r. ⌜ PlainSteps ⌝ }
+{}
+
+// Document 01, "Numbers worked out": P1 to P12.
 pub fn worked_numbers()
-    ensures { λ r. ⌜ WorkedNumbers ⌝ }
+    ensures table { λ r. ⌜ WorkedNumbers ⌝ }
+    ensures metres { λ r. ⌜ WorkedMetres ⌝ }
+    ensures read { λ r. ⌜ GridKRead ⌝ }
 {}

@@ -9,6 +9,7 @@ ghost use Rattle.bits.specs.Layout as Bits;
 ghost use Rattle.records.specs.Records.{goodName, helmertOf, helmertRow, molodenskiBadekasOf, molodenskiBadekasRow, gridOf, gridRow, projectionOf, projectionRow, lambertOf, lambertRow, obliqueMercatorOf, obliqueMercatorRow, numbers};
 ghost use Rattle.message.specs.Message.{header, rowRefusal, rowRead, writeRefusal, message};
 ghost use Rattle.message.specs.Kinds.{readHelmert, readMolodenskiBadekas, readGrid, readProjection, readLambert, readObliqueMercator, recordRefusal};
+ghost use Rattle.grid.specs.Shift.{messageShift, recordShift};
 ghost use Rattle.table.specs.Table.{wellFormed, storeRefusal, storeTable, findRefusal, foundOf, removeTable};
 ghost use Rattle.table.specs.Shown.{Shows};
 
@@ -231,4 +232,16 @@ pub fn remove(t: &mut [u8], sin: u8, group: u8) -> u8
     ensures output { λ r. ⌜ now (t .exit) ≡ removeTable (now (t .entry)) sin group ⌝ }
 {
     table::remove(t, sin, group)
+}
+
+pub fn shift_at(s: &[u8], component: u8, north: i64, east: i64) -> grid::Shift
+    ensures { λ r. ⌜ r ≡ messageShift (now (s .entry)) component north east ⌝ }
+{
+    grid::shift_at(s, component, north, east)
+}
+
+pub fn shift_of(g: records::Grid, component: u8, north: i64, east: i64) -> grid::Shift
+    ensures { λ r. ⌜ r ≡ recordShift g component north east ⌝ }
+{
+    grid::shift_of(g, component, north, east)
 }

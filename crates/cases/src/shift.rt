@@ -1,0 +1,71 @@
+// `NAME shift HEX COMPONENT NORTH EAST`: the shift from a grid message, and whether the one from its record is the same.
+use crate::output;
+use crate::output::Out;
+use crate::text;
+use crate::text::Byte;
+use crate::text::Bytes;
+use crate::text::Count;
+use crate::text::Integer;
+use grid::Answer;
+
+pub fn answer(given: &[u8], out: &mut Out, at: usize) -> usize {
+    let mut bytes = [0u8; 140];
+    let Count::Is(n) = text::hex(text::word(given), &mut bytes) else {
+        return output::put(out, at, b'?');
+    };
+    put_case(&bytes, n, text::rest(given), out, at)
+}
+
+// All that is printed of the message in the first `n` bytes and of the component and the position that are given.
+fn put_case(bytes: &Bytes, n: usize, given: &[u8], out: &mut Out, at: usize) -> usize {
+    let rest = text::rest(given);
+    let Byte::Is(component) = text::small(text::word(given)) else {
+        return output::put(out, at, b'?');
+    };
+    let Integer::Is(north) = text::whole(text::word(rest)) else {
+        return output::put(out, at, b'?');
+    };
+    let Integer::Is(east) = text::whole(text::rest(rest)) else {
+        return output::put(out, at, b'?');
+    };
+    put_shift(text::before(bytes, n), component, north, east, out, at)
+}
+
+// REFUSAL COUNT KIND, and whether the record's shift differs
+fn put_shift(s: &[u8], component: u8, north: i64, east: i64, out: &mut Out, at: usize) -> usize {
+    let r = grid::shift_at(s, component, north, east);
+    let refusal = r.refusal;
+    let count = r.count;
+    let kind = r.answer;
+    let to = output::put_small(out, at, refusal);
+    let to = output::put(out, to, b' ');
+    let to = output::put_whole(out, to, count);
+    let to = put_kind(kind, out, to);
+    if differs(s, component, north, east, refusal, count) {
+        return output::put_all(out, to, b" differs");
+    }
+    to
+}
+
+// KIND, with a space before it.
+fn put_kind(kind: Answer, out: &mut Out, at: usize) -> usize {
+    match kind {
+        Answer::Seconds(_) => output::put_all(out, at, b" seconds"),
+        Answer::Metres(_) => output::put_all(out, at, b" metres"),
+        Answer::Refused(_) => output::put_all(out, at, b" refused"),
+    }
+}
+
+// Whether the message has a record whose shift has another refusal or count.
+fn differs(s: &[u8], component: u8, north: i64, east: i64, refusal: u8, count: i64) -> bool {
+    let g = message::read_grid(s);
+    if g.refusal != 0 {
+        return false;
+    }
+    let value = g.value;
+    let r = grid::shift_of(value, component, north, east);
+    if r.refusal != refusal {
+        return true;
+    }
+    r.count != count
+}

@@ -1,0 +1,206 @@
+-- From tests to answers: lists of tests one behind the other, what the tests on the fields say, and the answer of each way out.
+-- Assumes nothing.
+use mathlib.Core.Path.{_≡_, refl, sym, ap, _∙_}
+use mathlib.Core.Bool.{Bool, true, false, not, cond, _&&_, _||_}
+use mathlib.Core.List.{List, [], _∷_, _++_}
+use Prim.Native.Nat.{ℕ, zero, suc, _+_, _*_, _-_, _≤_, _<_}
+use native.Mathlib.Nat.{le-trans}
+use native.Mathlib.Omega.{arith}
+use borrow.Author.Tests.{eq-eqb, ne-eqb, ltb-false}
+use lib.Dec.{T, ltb, lit≤}
+use lib.IntN.{ℤ, pos, negsuc, natAbs, _+ℤ_, _*ℤ_}
+use Rattle.arith.specs.First.{Test, first}
+use Rattle.arith.specs.Whole.{natural, sameZ}
+use Rattle.arith.proofs.First.{first-append, positive, passed, or-false}
+use Rattle.arith.proofs.Tests.{false-ne-true}
+use Rattle.records.specs.declared.Grid.{Grid}
+use Rattle.bilinear.specs.Bilinear.{nearest, fromEdge, outside, cell, inCell, exact, interpolated, lacks, absent, absentIn}
+use Rattle.bilinear.proofs.Place.{steps-most, cell-le, cell-from, cell-upto}
+use Rattle.grid.specs.Shift.{side, originAvailable, stepsOf, nodeFactor, surface, northOf, eastOf, beyond, fieldTests, gridTests, answerOf, outcome, shiftWith, available, meanWidth, meanFactor, part}
+use Rattle.grid.specs.Private.{Stands, Placed, Most, cornersOf, sumOf, nodesLack, inside}
+use Rattle.grid.proofs.Machine.{lit, arg, mul, add}
+use Rattle.grid.proofs.Sum.{near-most}
+use Rattle.grid.specs.declared.Answer.the-variants.{Refused}
+use Rattle.grid.specs.declared.Shift.{Shift}
+use Rattle.grid.specs.declared.Along.{Along}
+use Rattle.grid.specs.declared.Corners.{Corners}
+
+-- ---- lists of tests one behind the other
+
+pub stops : (a b : List Test) → T (positive a) → {r : ℕ} → r ≡ first a → (r ≡ 0 → ⊥) → r ≡ first (a ++ b)
+stops a b p {r} e h = e ∙ sym (first-append a b p ∙ ap (λ (t : Bool). cond t (first b) (first a)) (ne-eqb (first a) 0 (λ z. h (e ∙ z))))
+
+pub goes-on : (a b : List Test) → T (positive a) → first a ≡ 0 → first b ≡ first (a ++ b)
+goes-on a b p e = sym (first-append a b p ∙ ap (λ (t : Bool). cond t (first b) (first a)) (eq-eqb (first a) 0 e))
+
+-- ---- a refusal
+
+abbrev pub Refuses : ℕ → Shift → Type 0
+Refuses r s = (s .refusal ≡ r) × (s .count ≡ pos 0) × (s .answer ≡ Refused r)
+
+pub refuses : (number : ℤ) (c r : ℕ) (count : ℤ) (s : Shift) → Refuses r s → (r ≡ 0 → ⊥) → s ≡ outcome number c r count
+unfolding outcome answerOf
+refuses number c r count s h n = (λ i. record { refusal = h .0 i; count = h .1 i; answer = h .2 i }) ∙ rw (ne-eqb r 0 n)
+
+-- ---- what the tests on the fields say
+
+pub record Early (g : Grid) (n e : ℤ) : Type 0 where
+  pub north : natAbs n ≤ 1000000000000
+  pub east : natAbs e ≤ 1000000000000
+  pub rows : sameZ (g .spacing .north) (pos 0) ≡ false
+  pub columns : sameZ (g .spacing .east) (pos 0) ≡ false
+
+not-beyond : (b : Bool) (n e : ℕ) → cond b (ltb 3240000000 n || ltb 6480000000 e) (ltb 1000000000000 n || ltb 1000000000000 e) ≡ false →
+    (n ≤ 1000000000000) × (e ≤ 1000000000000)
+not-beyond true n e h =
+    let t = or-false (ltb 3240000000 n) (ltb 6480000000 e) h in
+    (omega (arith, ltb-false 3240000000 n (t .0)), omega (arith, ltb-false 6480000000 e (t .1)))
+not-beyond false n e h =
+    let t = or-false (ltb 1000000000000 n) (ltb 1000000000000 e) h in
+    (ltb-false 1000000000000 n (t .0), ltb-false 1000000000000 e (t .1))
+
+two-of : (a b c d f h : Bool) → first ((8, a) ∷ (9, b) ∷ (10, c) ∷ (11, d) ∷ (12, f) ∷ (13, h) ∷ []) ≡ 0 → (b ≡ false) × (h ≡ false)
+two-of a b c d f h e =
+    let p = passed 8 b _ (passed 7 a _ e .1) in
+    (p .0, passed 12 h _ (passed 11 f _ (passed 10 d _ (passed 9 c _ (p .1) .1) .1) .1) .0)
+
+pub early : (g : Grid) (c : ℕ) (n e : ℤ) → first (fieldTests g c n e) ≡ 0 → Early g n e
+early g c n e h =
+    let p =
+    two-of (ltb 2 c) (beyond (g .number) n e) (sameZ (side c (g .shifts)) (pos 0)) (not (sameZ (side c (g .methods)) (pos 0)))
+    (not (originAvailable (g .number) (g .origin .north) (g .origin .east)))
+    (sameZ (g .spacing .north) (pos 0) || sameZ (g .spacing .east) (pos 0)) h in
+    let far = not-beyond (sameZ (g .number) (pos 1023)) (natAbs n) (natAbs e) (p .0) in
+    let some = or-false (sameZ (g .spacing .north) (pos 0)) (sameZ (g .spacing .east) (pos 0)) (p .1) in
+    record { north = far .0; east = far .1; rows = some .0; columns = some .1 }
+
+pub above-zero : (z : ℤ) → z ≡ pos (natural z) → sameZ z (pos 0) ≡ false → 0 < natural z
+unfolding sameZ
+above-zero (pos zero) e h = absurd (false-ne-true (sym h))
+above-zero (pos (suc n)) e h = omega arith
+above-zero (negsuc n) e h = let z : _≡_ {A = ℕ} 0 1 = cc in absurd (omega arith)
+
+-- ---- a place along one direction
+
+module _ (d : ℕ) (u : ℤ) (a : Along) (p : 0 < d) (s : Stands d u a) (h : outside d u ≡ false) where
+  abbrev t : ℕ
+  t = natAbs (fromEdge d u)
+
+  pub in-cell : (a .cell ≤ 2) × (a .cell * a .spacing ≤ a .steps) × (a .steps - a .cell * a .spacing ≤ a .spacing)
+  in-cell =
+      rw (s .spacing, s .inside h .0, s .inside h .1)
+      (cell-le d t, cell-from d t, omega (arith, cell-upto d t p (steps-most d u h)))
+
+pub outside-yes : {r : ℕ} (b : Bool) → r ≡ cond b 14 0 → (r ≡ 0 → ⊥) → b ≡ true
+outside-yes true e h = refl
+outside-yes false e h = absurd (h e)
+
+pub outside-no : {r : ℕ} (b : Bool) → r ≡ cond b 14 0 → r ≡ 0 → b ≡ false
+outside-no true e h = absurd (omega (arith, e, h))
+outside-no false e h = refl
+
+-- ---- the ways out
+
+module _ (g : Grid) (c : ℕ) (n e : ℤ) where
+  abbrev late : List Test
+  late =
+      (14, outside (surface g c .H) (northOf g n) || outside (surface g c .W) (eastOf g e))
+      ∷ (15, absent (surface g c) (northOf g n) (eastOf g e))
+      ∷ []
+
+  abbrev count : ℤ
+  count = interpolated (surface g c) (northOf g n) (eastOf g e)
+
+  with-refusal : {r : ℕ} (s : Shift) → Refuses r s → (r ≡ 0 → ⊥) → r ≡ first (gridTests g c n e) → s ≡ shiftWith g c n e (first (gridTests g c n e))
+  unfolding shiftWith
+  with-refusal {r} s h k f = refuses (g .number) c r count s h k ∙ ap (λ (m : ℕ). outcome (g .number) c m count) f
+
+  pub early-out : {r : ℕ} (s : Shift) → r ≡ first (fieldTests g c n e) → (r ≡ 0 → ⊥) → Refuses r s → s ≡ shiftWith g c n e (first (gridTests g c n e))
+  early-out s f k h = with-refusal s h k (stops (fieldTests g c n e) late tt f k)
+
+  module _ (f : first (fieldTests g c n e) ≡ 0) where
+    first-is : first late ≡ first (gridTests g c n e)
+    first-is = goes-on (fieldTests g c n e) late tt f
+
+    pub north-out : (s : Shift) → outside (surface g c .H) (northOf g n) ≡ true → Refuses 14 s → s ≡ shiftWith g c n e (first (gridTests g c n e))
+    north-out s o h = let is : 14 ≡ first late = rw o in with-refusal s h (λ z. absurd (omega arith)) (is ∙ first-is)
+
+    module _ (a : outside (surface g c .H) (northOf g n) ≡ false) where
+      pub east-out : (s : Shift) → outside (surface g c .W) (eastOf g e) ≡ true → Refuses 14 s → s ≡ shiftWith g c n e (first (gridTests g c n e))
+      east-out s o h = let is : 14 ≡ first late = rw (a, o) in with-refusal s h (λ z. absurd (omega arith)) (is ∙ first-is)
+
+      abbrev y : ℕ
+      y = natAbs (fromEdge (surface g c .H) (northOf g n))
+
+      abbrev x : ℕ
+      x = natAbs (fromEdge (surface g c .W) (eastOf g e))
+
+      pub in-out : (s : Shift) → outside (surface g c .W) (eastOf g e) ≡ false
+          → s ≡ inside g c (cell (surface g c .H) y) (cell (surface g c .W) x) y x
+          → s ≡ shiftWith g c n e (first (gridTests g c n e))
+      unfolding shiftWith interpolated exact absent
+      in-out s o h =
+          let is : cond (absent (surface g c) (northOf g n) (eastOf g e)) 15 0 ≡ first late = rw (a, o) in
+          h ∙ ap (λ (m : ℕ). outcome (g .number) c m count) (is ∙ first-is)
+
+-- ---- the cell of a surface
+
+pub steps-some : (number : ℤ) → (0 < stepsOf number) × (stepsOf number ≤ 10000)
+steps-some number = by (sameZ number (pos 1023))
+  where
+    by : (b : Bool) → (0 < cond b 5000 10000) × (cond b 5000 10000 ≤ 10000)
+    by true = (omega arith, omega arith)
+    by false = (omega arith, omega arith)
+
+pub factor-most : (number : ℤ) (c : ℕ) → nodeFactor number c ≤ 10
+factor-most number c = by (sameZ number (pos 1023) && ltb c 2)
+  where
+    by : (b : Bool) → cond b 3 10 ≤ 10
+    by true = omega arith
+    by false = omega arith
+
+in-front : (m : Bool) (h w y x : ℕ) (n : Corners) →
+    (m || lacks ((w - x) * (h - y)) (available 9 (n .sw)) || lacks (x * (h - y)) (available 9 (n .se)) || lacks ((w - x) * y) (available 9 (n .nw)) || lacks (x * y) (available 9 (n .ne)))
+    ≡ (m || nodesLack h w y x n)
+in-front true h w y x n = refl
+in-front false h w y x n = refl
+
+module _ {g : Grid} {c k l y x h w : ℕ} (p : Placed g c k l y x h w) where
+  abbrev n : Corners
+  n = cornersOf (g .nodes) c k l
+
+  pub absent-is : absentIn (surface g c) k l y x ≡ (not (available (meanWidth (g .number) c) (part c (g .mean))) || nodesLack h w (y - k * h) (x - l * w) n)
+  unfolding absentIn surface
+  absent-is =
+      rw (p .high, p .wide)
+      (in-front (not (available (meanWidth (g .number) c) (part c (g .mean)))) (surface g c .H) (surface g c .W) (y - k * surface g c .H) (x - l * surface g c .W) n)
+
+  pub count-is :
+      surface g c .mean +ℤ nearest (inCell (surface g c) k l y x) (surface g c .H * surface g c .W)
+      ≡ pos meanFactor *ℤ part c (g .mean) +ℤ nearest (sumOf (nodeFactor (g .number) c) h w (y - k * h) (x - l * w) n) (h * w)
+  unfolding inCell surface
+  count-is = rw (p .high, p .wide)
+
+  pub corners-most : Most 256 n
+  corners-most =
+      let f = p .fields .nodes c in
+      record { sw = f (3 - k) l; se = f (3 - k) (l + 1); nw = f (2 - k) l; ne = f (2 - k) (l + 1) }
+
+  abbrev value : ℤ
+  value = pos meanFactor *ℤ part c (g .mean) +ℤ nearest (sumOf (nodeFactor (g .number) c) h w (y - k * h) (x - l * w) n) (h * w)
+
+  pub absent-out : (s : Shift) → absentIn (surface g c) k l y x ≡ true → Refuses 15 s → s ≡ inside g c k l y x
+  absent-out s e r =
+      refuses (g .number) c 15 (surface g c .mean +ℤ nearest (inCell (surface g c) k l y x) (surface g c .H * surface g c .W)) s r (λ z. absurd (omega arith))
+      ∙ rw e
+
+  pub present-out : (s : Shift) → absentIn (surface g c) k l y x ≡ false → s ≡ outcome (g .number) c 0 value → s ≡ inside g c k l y x
+  present-out s e f = f ∙ rw (e, count-is)
+
+  pub value-most : natAbs value ≤ 9007199254740992
+  value-most =
+      le-trans
+      (add (mul (lit 100 tt) (arg (part c (g .mean)) 16384 (p .fields .mean c) tt) tt)
+      (arg (nearest (sumOf (nodeFactor (g .number) c) h w (y - k * h) (x - l * w) n) (h * w)) 2560
+      (near-most (p .within) (nodeFactor (g .number) c) n (factor-most (g .number) c) corners-most) tt) tt .le)
+      (lit≤ tt)
