@@ -1,4 +1,5 @@
--- Laws of bits and fields. Assumes nothing.
+-- Laws of bits and fields.
+-- Assumes nothing.
 use mathlib.Core.Path.{_≡_, refl, sym, ap, _∙_}
 use mathlib.Core.Logic.{_≢_, _⊎_, ⊎-elim, ⊎-map}
 use mathlib.Core.List.{List}

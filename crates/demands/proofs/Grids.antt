@@ -1,6 +1,7 @@
 -- The demands on the shift hold: each statement of specs/Grids.antt, from the laws of `bilinear` and `grid`.
 -- Assumes nothing.
 use Prim.Native.Nat.{ℕ, _*_}
+use native.Mathlib.Nat.{mul-pos}
 use mathlib.Core.Path.{_≡_, refl, sym, ap, _∙_}
 use mathlib.Core.List.{List}
 use lib.IntN.{ℤ}
@@ -8,8 +9,7 @@ use Rattle.bilinear.specs.Bilinear.{interpolated, nearest}
 use Rattle.bilinear.proofs.Nearest.{nearest-close, nearest-half, nearest-only}
 use Rattle.bilinear.proofs.Edges.{shared-exact, shared-absent}
 use Rattle.grid.specs.Shift.{outcome, shiftWith, shiftRefusal, messageShift}
-use Rattle.grid.proofs.Lipschitz.{lipschitz-message, counted, east-steps}
-use Rattle.grid.proofs.Counted.{area}
+use Rattle.grid.proofs.Lipschitz.{lipschitz-message, spaced, counted, east-steps}
 use Rattle.demands.specs.Grids.{gridAt, surfaceAt, AnsweredAt, exactAt, IsNearest, GridAnswer, SharedEdges, Lipschitz, PlainSteps}
 
 -- the refusal answered is the one defined
@@ -21,7 +21,8 @@ pub grid-answer : GridAnswer
 grid-answer s c n e h =
     let r = refusal-is s c n e h in
     let d : ℕ = surfaceAt s c .H * surfaceAt s c .W in
-    let a = area s c n e r in
+    let p = spaced s c n e r in
+    let a = mul-pos (p .0) (p .1) in
     record {
       area = a;
       rounded = nearest (exactAt s c n e) d;

@@ -7,14 +7,14 @@ use mathlib.Core.Logic.{_⊎_, inl, inr}
 use Prim.Native.Nat.{ℕ, zero, suc, _+_, _*_, _-_, _/_, _≤_, _<_, _^_}
 use native.Mathlib.Nat.{le-trans, not-suc-le-zero, le-of-suc-le-suc, eq-or-lt-of-le}
 use native.Mathlib.Omega.{arith}
-use borrow.Author.Tests.{eq-eqb, ne-eqb, ltb-true, leb-true, le-leb}
+use borrow.Author.Tests.{eq-eqb, ltb-true, leb-true, le-leb}
 use lib.Dec.{T, eqb, ltb, leb, leb→le}
 use lib.IntN.{ℤ, pos, negsuc, natAbs}
 use lib.ListN.{length, getD, take, length-append}
 use Rattle.arith.specs.First.{Test, first}
 use Rattle.arith.specs.Row.{at}
 use Rattle.arith.specs.Whole.{natural}
-use Rattle.arith.proofs.First.{first-append, positive, passed, not-false}
+use Rattle.arith.proofs.First.{passed, not-false}
 use Rattle.arith.proofs.Tests.{false-ne-true, both-first, both-second}
 use Rattle.bits.specs.Layout.{allTake, takes, fits, signed, width, int, size, total}
 use Rattle.bits.proofs.Loop.{take-length}
@@ -31,7 +31,7 @@ use Rattle.message.proofs.Rows.{length-row}
 use Rattle.message.proofs.Trips.{row-layout-of, row-number}
 use Rattle.grid.specs.Shift.{part, nodeRaw, gridTests, recordRefusal, shiftRefusal}
 use Rattle.grid.specs.Private.{Fields}
-use Rattle.grid.proofs.Parts.{stops, goes-on}
+use Rattle.grid.proofs.Parts.{stops, goes-on, passes}
 
 -- ---- a number that its field takes
 
@@ -234,14 +234,6 @@ range-is v = by (kind (natural (at v 0))) refl
         )
     by false e = rw e
 
--- no test of a list held
-pub passes : (a b : List Test) → T (positive a) → first (a ++ b) ≡ 0 → (first a ≡ 0) × (first b ≡ 0)
-passes a b p e = by (first a) refl (sym (first-append a b p) ∙ e)
-  where
-    by : (n : ℕ) → first a ≡ n → cond (eqb (first a) 0) (first b) (first a) ≡ 0 → (first a ≡ 0) × (first b ≡ 0)
-    by zero f h = (f, rw (eq-eqb (first a) 0 f) at h)
-    by (suc n) f h = let z : first a ≡ 0 = rw (ne-eqb (first a) 0 (λ q. absurd (omega arith))) at h in absurd (omega arith)
-
 module _ (g : Grid) (c : ℕ) (n e : ℤ) {r : ℕ} (w : r ≡ Kinds.recordRefusal 1023 1024 true (gridRow g) 80) where
   pub record-refused : (r ≡ 0 → ⊥) → r ≡ recordRefusal g c n e
   unfolding recordRefusal gridRow
@@ -274,6 +266,10 @@ module _ (s : List ℕ) (c : ℕ) (n e : ℤ) where
   pub message-refused : {r : ℕ} → r ≡ kindRefusal 1023 1024 s → (r ≡ 0 → ⊥) → r ≡ shiftRefusal s c n e
   unfolding kindRefusal shiftRefusal
   message-refused w h = stops reading (gridTests g c n e) tt w h
+
+  pub message-none : shiftRefusal s c n e ≡ 0 → (kindRefusal 1023 1024 s ≡ 0) × (first (gridTests g c n e) ≡ 0)
+  unfolding kindRefusal shiftRefusal
+  message-none h = passes reading (gridTests g c n e) tt h
 
   module _ (h : kindRefusal 1023 1024 s ≡ 0) where
     pub message-passed : first (gridTests g c n e) ≡ shiftRefusal s c n e

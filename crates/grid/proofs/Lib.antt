@@ -4,4 +4,3 @@ pub mod Sum
 pub mod Parts
 pub mod Accepted
 pub mod Lipschitz
-pub mod Counted

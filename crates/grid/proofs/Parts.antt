@@ -4,10 +4,10 @@ use mathlib.Core.Path.{_≡_, refl, sym, ap, _∙_}
 use mathlib.Core.Bool.{Bool, true, false, not, cond, _&&_, _||_}
 use mathlib.Core.List.{List, [], _∷_, _++_}
 use Prim.Native.Nat.{ℕ, zero, suc, _+_, _*_, _-_, _≤_, _<_}
-use native.Mathlib.Nat.{le-trans}
+use native.Mathlib.Nat.{mul-pos, mul-le-mul, le-trans}
 use native.Mathlib.Omega.{arith}
 use borrow.Author.Tests.{eq-eqb, ne-eqb, ltb-false}
-use lib.Dec.{T, ltb, lit≤}
+use lib.Dec.{T, eqb, ltb, lit≤}
 use lib.IntN.{ℤ, pos, negsuc, natAbs, _+ℤ_, _*ℤ_}
 use Rattle.arith.specs.First.{Test, first}
 use Rattle.arith.specs.Whole.{natural, sameZ}
@@ -17,7 +17,7 @@ use Rattle.records.specs.declared.Grid.{Grid}
 use Rattle.bilinear.specs.Bilinear.{nearest, fromEdge, outside, cell, inCell, exact, interpolated, lacks, absent, absentIn}
 use Rattle.bilinear.proofs.Place.{steps-most, cell-le, cell-from, cell-upto}
 use Rattle.grid.specs.Shift.{side, originAvailable, stepsOf, nodeFactor, surface, northOf, eastOf, beyond, fieldTests, gridTests, answerOf, outcome, shiftWith, available, meanWidth, meanFactor, part}
-use Rattle.grid.specs.Private.{Stands, Placed, Most, cornersOf, sumOf, nodesLack, inside}
+use Rattle.grid.specs.Private.{Fields, Stands, Placed, Most, cornersOf, sumOf, nodesLack, inside}
 use Rattle.grid.proofs.Machine.{lit, arg, mul, add}
 use Rattle.grid.proofs.Sum.{near-most}
 use Rattle.grid.specs.declared.Answer.the-variants.{Refused}
@@ -32,6 +32,14 @@ stops a b p {r} e h = e ∙ sym (first-append a b p ∙ ap (λ (t : Bool). cond 
 
 pub goes-on : (a b : List Test) → T (positive a) → first a ≡ 0 → first b ≡ first (a ++ b)
 goes-on a b p e = sym (first-append a b p ∙ ap (λ (t : Bool). cond t (first b) (first a)) (eq-eqb (first a) 0 e))
+
+-- no test of both held
+pub passes : (a b : List Test) → T (positive a) → first (a ++ b) ≡ 0 → (first a ≡ 0) × (first b ≡ 0)
+passes a b p e = by (first a) refl (sym (first-append a b p) ∙ e)
+  where
+    by : (n : ℕ) → first a ≡ n → cond (eqb (first a) 0) (first b) (first a) ≡ 0 → (first a ≡ 0) × (first b ≡ 0)
+    by zero f h = (f, rw (eq-eqb (first a) 0 f) at h)
+    by (suc n) f h = let z : first a ≡ 0 = rw (ne-eqb (first a) 0 (λ q. absurd (omega arith))) at h in absurd (omega arith)
 
 -- ---- a refusal
 
@@ -80,6 +88,23 @@ above-zero (pos zero) e h = absurd (false-ne-true (sym h))
 above-zero (pos (suc n)) e h = omega arith
 above-zero (negsuc n) e h = let z : _≡_ {A = ℕ} 0 1 = cc in absurd (omega arith)
 
+pub steps-some : (number : ℤ) → (0 < stepsOf number) × (stepsOf number ≤ 10000)
+steps-some number = by (sameZ number (pos 1023))
+  where
+    by : (b : Bool) → (0 < cond b 5000 10000) × (cond b 5000 10000 ≤ 10000)
+    by true = (omega arith, omega arith)
+    by false = (omega arith, omega arith)
+
+-- the spacings in steps
+pub spacings : (g : Grid) (c : ℕ) (n e : ℤ) → Fields g → Early g n e →
+    ((0 < surface g c .H) × (surface g c .H ≤ 40950000)) × ((0 < surface g c .W) × (surface g c .W ≤ 40950000))
+unfolding surface
+spacings g c n e f p =
+    let u = steps-some (g .number) in (
+      (mul-pos (above-zero (g .spacing .north) (f .rows .0) (p .rows)) (u .0), mul-le-mul (f .rows .1) (u .1)),
+      (mul-pos (above-zero (g .spacing .east) (f .columns .0) (p .columns)) (u .0), mul-le-mul (f .columns .1) (u .1)),
+    )
+
 -- ---- a place along one direction
 
 module _ (d : ℕ) (u : ℤ) (a : Along) (p : 0 < d) (s : Stands d u a) (h : outside d u ≡ false) where
@@ -101,6 +126,11 @@ outside-no false e h = refl
 
 -- ---- the ways out
 
+pub record Answered (g : Grid) (c : ℕ) (n e : ℤ) : Type 0 where
+  pub early : Early g n e
+  pub north : outside (surface g c .H) (northOf g n) ≡ false
+  pub east : outside (surface g c .W) (eastOf g e) ≡ false
+
 module _ (g : Grid) (c : ℕ) (n e : ℤ) where
   abbrev late : List Test
   late =
@@ -110,6 +140,13 @@ module _ (g : Grid) (c : ℕ) (n e : ℤ) where
 
   abbrev count : ℤ
   count = interpolated (surface g c) (northOf g n) (eastOf g e)
+
+  -- a position that is answered
+  pub answered : first (gridTests g c n e) ≡ 0 → Answered g c n e
+  answered h =
+      let p = passes (fieldTests g c n e) late tt h in
+      let o = or-false (outside (surface g c .H) (northOf g n)) (outside (surface g c .W) (eastOf g e)) (passed 13 _ _ (p .1) .0) in
+      record { early = early g c n e (p .0); north = o .0; east = o .1 }
 
   with-refusal : {r : ℕ} (s : Shift) → Refuses r s → (r ≡ 0 → ⊥) → r ≡ first (gridTests g c n e) → s ≡ shiftWith g c n e (first (gridTests g c n e))
   unfolding shiftWith
@@ -144,13 +181,6 @@ module _ (g : Grid) (c : ℕ) (n e : ℤ) where
           h ∙ ap (λ (m : ℕ). outcome (g .number) c m count) (is ∙ first-is)
 
 -- ---- the cell of a surface
-
-pub steps-some : (number : ℤ) → (0 < stepsOf number) × (stepsOf number ≤ 10000)
-steps-some number = by (sameZ number (pos 1023))
-  where
-    by : (b : Bool) → (0 < cond b 5000 10000) × (cond b 5000 10000 ≤ 10000)
-    by true = (omega arith, omega arith)
-    by false = (omega arith, omega arith)
 
 pub factor-most : (number : ℤ) (c : ℕ) → nodeFactor number c ≤ 10
 factor-most number c = by (sameZ number (pos 1023) && ltb c 2)

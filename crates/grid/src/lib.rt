@@ -3,16 +3,15 @@ use records::Grid;
 use records::Pair;
 use records::Shifts;
 ghost use mathlib.Core.Path.{_≡_};
-ghost use mathlib.Core.Bool.{false, not, cond, _||_};
+ghost use mathlib.Core.Bool.{not, cond, _||_};
 ghost use mathlib.Core.List.{[], _∷_};
-ghost use Prim.Native.Nat.{_+_, _-_, _*_, _≤_, _<_};
+ghost use Prim.Native.Nat.{_*_, _≤_, _<_};
 ghost use lib.Dec.{ltb};
 ghost use lib.IntN.{pos, natAbs, _+ℤ_, _-ℤ_, _*ℤ_};
-ghost use lib.Signed.{_≤ℤ_, _<ℤ_};
 ghost use Rattle.arith.specs.First.{first};
 ghost use Rattle.arith.specs.Whole.{natural, sameZ};
-ghost use Rattle.bilinear.specs.Bilinear.{fromEdge, outside, cell, weighted, nearest, exact, lacks, absentIn};
-ghost use Rattle.grid.specs.Shift.{stepsOf, part, side, nodeFactor, meanFactor, available, meanWidth, originAvailable, nodeRaw, surface, beyond, fieldTests, gridTests, unitsOf, answerOf, outcome, shiftWith, recordShift, messageShift};
+ghost use Rattle.bilinear.specs.Bilinear.{cell, weighted, nearest, lacks};
+ghost use Rattle.grid.specs.Shift.{stepsOf, part, side, nodeFactor, meanFactor, available, meanWidth, originAvailable, nodeRaw, beyond, fieldTests, gridTests, unitsOf, answerOf, outcome, shiftWith, recordShift, messageShift};
 ghost use Rattle.grid.specs.Private.{Fields, Stands, Within, Placed, Most, cornersOf, sumOf, nodesLack, inside};
 
 // What the add-on gets: arc seconds, metres, or the refusal number.

@@ -1,4 +1,5 @@
--- A loop that stores a list behind the first places of another. Assumes nothing.
+-- A loop that stores a list behind the first places of another.
+-- Assumes nothing.
 use mathlib.Core.Path.{_≡_, sym, ap, _∙_}
 use mathlib.Core.List.{List, _++_}
 use Prim.Native.Nat.{ℕ, _+_, _≤_, _<_}

@@ -1,3 +1,5 @@
+-- `bits::fill_is_zero` meets its contract.
+-- Assumes nothing.
 use borrow.Author.Needs.{needs}
 use mathlib.Core.Path.{ap}
 use native.Mathlib.Nat.{mul-comm}

@@ -1,3 +1,5 @@
+-- `bits::join_bits` meets its contract.
+-- Assumes nothing.
 use Prim.Native.Nat.{_/_}
 use native.Mathlib.Nat.{mod-lt}
 use native.Mathlib.Omega.{arith}

@@ -1,3 +1,5 @@
+-- `bits::magnitude` meets its contract.
+-- Assumes nothing.
 use native.Mathlib.Omega.{arith}
 use Rattle.bits.proofs.Sign.{flipped, flipped-z, kept}
 use Rattle.bits.proofs.magnitude.Statement.{statement}

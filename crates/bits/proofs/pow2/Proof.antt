@@ -1,3 +1,5 @@
+-- `bits::pow2` meets its contract.
+-- Assumes nothing.
 use native.Mathlib.Nat.{one-mul, mod-eq-of-lt}
 use lib.Pow.{pow-lt}
 use borrow.Author.Needs.{needs}

@@ -1,3 +1,5 @@
+-- `bits::put_bits` meets its contract.
+-- Assumes nothing.
 use native.Mathlib.Omega.{arith}
 use lib.Pow.{pow-pos}
 use borrow.Author.Needs.{needs}

@@ -1,3 +1,5 @@
+-- `bits::read_all` meets its contract.
+-- Assumes nothing.
 use mathlib.Core.Path.{_∙_}
 use Prim.Native.Nat.{_-_}
 use native.Mathlib.Omega.{arith}

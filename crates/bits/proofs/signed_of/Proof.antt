@@ -1,3 +1,5 @@
+-- `bits::signed_of` meets its contract.
+-- Assumes nothing.
 use borrow.Author.Needs.{needs}
 use Prim.Native.Nat.{_-_, _^_}
 use native.Mathlib.Omega.{arith}

@@ -3,7 +3,6 @@
 use mathlib.Core.Path.{_≡_, sym, ap, _∙_}
 use mathlib.Core.Bool.{false}
 use Prim.Native.Nat.{ℕ, _*_, _-_, _≤_, _<_}
-use native.Mathlib.Nat.{mul-pos, mul-le-mul}
 use lib.IntN.{ℤ, pos, natAbs, _-ℤ_, _*ℤ_}
 use mir.Syntax.{w64}
 use mir.Val.{toZ, ofZ}
@@ -15,7 +14,7 @@ use Rattle.records.specs.declared.Grid.{Grid}
 use Rattle.grid.specs.Shift.{stepsOf, surface, northOf, eastOf, fieldTests}
 use Rattle.grid.specs.Private.{Stands, Placed, inside}
 use Rattle.grid.specs.declared.Along.{Along}
-use Rattle.grid.proofs.Parts.{Early, early, above-zero, in-cell, outside-yes, outside-no, early-out, north-out, east-out, in-out, steps-some}
+use Rattle.grid.proofs.Parts.{Early, early, above-zero, in-cell, outside-yes, outside-no, early-out, north-out, east-out, in-out, steps-some, spacings}
 use Rattle.grid.proofs.Machine.{is-back}
 use Rattle.grid.proofs.shift_in.Statement.{statement}
 use Rattle.grid.proofs.shift_in.Tie as tie
@@ -95,8 +94,7 @@ module _ (m : tie.After-place) where
   stands-north = moved (is-back (s (k b) .fits .north)) (origin-north b) (rows b) (steps b) (m .place .ensures)
 
   high : (0 < h) × (h ≤ 40950000)
-  unfolding surface
-  high = (mul-pos (some-rows b) (steps-some (g (k b) .number) .0), mul-le-mul (s (k b) .pre .rows .1) (steps-some (g (k b) .number) .1))
+  high = spacings (g (k b)) (s (k b) .args .component) (s (k b) .args .north) (s (k b) .args .east) (s (k b) .pre) (known b) .0
 
 returns-2 : tie.Need-returns-2
 returns-2 c =
@@ -147,8 +145,7 @@ module _ (m : tie.After-place2) where
   stands-east = moved (is-back (s (a f) .fits .east)) (origin-east f) (columns f) (steps (b (n f))) (m .place2 .ensures)
 
   wide : (0 < w) × (w ≤ 40950000)
-  unfolding surface
-  wide = (mul-pos (some-columns f) (steps-some (g (a f) .number) .0), mul-le-mul (s (a f) .pre .columns .1) (steps-some (g (a f) .number) .1))
+  wide = spacings (g (a f)) (s (a f) .args .component) (s (a f) .args .north) (s (a f) .args .east) (s (a f) .pre) (known (b (n f))) .1
 
 returns-3 : tie.Need-returns-3
 returns-3 c =

@@ -1,3 +1,5 @@
+-- `message::read_message` meets its contract.
+-- Assumes nothing.
 use Prim.Native.Nat.{_≤_}
 -- `message::read_message` meets its contract: each return is a case of the definition.
 -- Assumes nothing.

@@ -1,3 +1,5 @@
+-- `message::layouts::append_times` meets its contract.
+-- Assumes nothing.
 use mathlib.Core.Path.{_≡_, refl, sym}
 use Prim.Native.Nat.{_-_, _≤_}
 use native.Mathlib.Omega.{arith}
