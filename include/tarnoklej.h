@@ -1,4 +1,10 @@
-/* Tarnoklej: RTCM messages 1021 to 1027. Every call ends with an answer for every input. */
+/* Tarnoklej: RTCM messages 1021 to 1027.
+ *
+ * The functions are in target/staticlib/libcapi.a, which `rt staticlib capi` writes for x86-64.
+ * Every call ends with an answer for every input, keeps nothing between calls and allocates nothing.
+ * A refusal number says why a call was refused; refusals are tested in the order given at each call.
+ * No pointer may be null, not even where its length is 0, and no buffer that a call writes may overlap another.
+ */
 #ifndef TARNOKLEJ_H
 #define TARNOKLEJ_H
 #include <stddef.h>
@@ -7,13 +13,255 @@
 extern "C" {
 #endif
 
-/* Zeros with a refusal. */
+/* The refusal numbers. */
+enum {
+    TARNOKLEJ_DONE = 0,
+    TARNOKLEJ_SHORT = 1,      /* under 2 bytes */
+    TARNOKLEJ_NUMBER = 2,     /* not 1021 to 1027 */
+    TARNOKLEJ_LENGTH = 3,     /* not exactly the length called for, or a name counter cannot be read */
+    TARNOKLEJ_FILL = 4,       /* a fill bit is set */
+    TARNOKLEJ_RANGE = 5,      /* a field outside its range or width, or a wrong count of fields */
+    TARNOKLEJ_ROOM = 6,       /* output shorter than the message or its row */
+    TARNOKLEJ_KIND = 7,       /* a grid call on a message other than 1023 or 1024 */
+    TARNOKLEJ_COMPONENT = 8,  /* not 0 to 2 */
+    TARNOKLEJ_POSITION = 9,   /* 1023: beyond +-3,240,000,000 or +-6,480,000,000; 1024: either beyond +-10^12 */
+    TARNOKLEJ_OFF = 10,       /* DF190 is 0 (components 0, 1) or DF191 is 0 (component 2) */
+    TARNOKLEJ_METHOD = 11,    /* DF212 (components 0, 1) or DF213 (component 2) is not 0 */
+    TARNOKLEJ_ORIGIN = 12,    /* an origin field is not available */
+    TARNOKLEJ_SPACING = 13,   /* a spacing is 0 */
+    TARNOKLEJ_OUTSIDE = 14,   /* the position is not on or within the grid's outer rectangle */
+    TARNOKLEJ_ABSENT = 15,    /* the mean, or a node of non-zero weight, is not available */
+    TARNOKLEJ_FULL = 16,      /* no slot of that key and no free slot */
+    TARNOKLEJ_NONE = 17,      /* no such key, or group not 0 to 2 */
+    TARNOKLEJ_TABLE = 18      /* the table has a wrong size or is not well formed */
+};
+
+/* Sizes. */
+enum {
+    TARNOKLEJ_TABLE_SIZE = 4096, /* bytes of a table; 4,096 zeros are an empty table */
+    TARNOKLEJ_SLOTS = 32,        /* messages that a table holds */
+    TARNOKLEJ_SLOT_SIZE = 128,   /* bytes of a slot: a length byte, a message, zeros */
+    TARNOKLEJ_MOST_BYTES = 127,  /* bytes of the longest message, a 1022 of two names of 31 characters */
+    TARNOKLEJ_MOST_FIELDS = 90   /* numbers of the longest row, of the same message */
+};
+
+/* The components of a shift. */
+enum {
+    TARNOKLEJ_NORTH_SOUTH = 0, /* counts of 0.00001 arc second (1023) or 0.1 mm (1024) */
+    TARNOKLEJ_EAST_WEST = 1,   /* counts of 0.00001 arc second (1023) or 0.1 mm (1024) */
+    TARNOKLEJ_HEIGHT = 2       /* counts of 0.1 mm */
+};
+
+/* The groups of a table's keys. */
+enum {
+    TARNOKLEJ_TRANSFORMATION = 0, /* 1021 and 1022 */
+    TARNOKLEJ_GRID = 1,           /* 1023 and 1024 */
+    TARNOKLEJ_PROJECTION = 2      /* 1025, 1026 and 1027 */
+};
+
+/* With a refusal all other members of these are 0. */
 typedef struct { uint8_t refusal; uint16_t number; uint8_t sin; size_t length; } tarnoklej_header;
 typedef struct { uint8_t refusal; size_t length; } tarnoklej_written;
+typedef struct { uint8_t refusal; int64_t count; } tarnoklej_shift;
+typedef struct { uint8_t refusal; size_t at; size_t length; } tarnoklej_found;
 
+/* Gives the number (DF002), the length in bytes and the system identification number (DF147) of a message
+ * after all of its fields are checked.
+ * Refusals in order: SHORT, NUMBER, LENGTH, FILL, RANGE.
+ * Buffers: message is only read.
+ */
 tarnoklej_header tarnoklej_read(const uint8_t *message, size_t message_length);
+
+/* Gives the raw numbers of a message in wire order, DF002 first, at the positions listed at the end of this file.
+ * A name is its counter and then its characters, one number each.
+ * Refusals in order: SHORT, NUMBER, LENGTH, FILL, RANGE, ROOM where room is less than the message's numbers.
+ * Buffers: message is only read; the first places of fields hold the numbers and the rest keep theirs;
+ * with a refusal all of fields keep theirs.
+ */
 uint8_t tarnoklej_read_fields(const uint8_t *message, size_t message_length, int64_t *fields, size_t room);
+
+/* Writes the message of a row of raw numbers, as tarnoklej_read_fields gives it, and gives its length in bytes.
+ * The fill bits are zero.
+ * Refusals in order: RANGE (an unknown number or a wrong count of fields included), ROOM where room is less than
+ * the message's bytes.
+ * Buffers: fields is only read; the first bytes of out hold the message and the rest keep theirs;
+ * with a refusal all of out keeps its bytes.
+ */
 tarnoklej_written tarnoklej_write_fields(const int64_t *fields, size_t count, uint8_t *out, size_t room);
+
+/* Gives the shift of a component at a position from a message 1023 or 1024, by bilinear interpolation: the mean
+ * and the whole count nearest to the exact weighted mean of the cell's nodes, halves away from zero.
+ * A position is in steps of 0.0001 arc second (1023) or 1 mm (1024), north and east positive.
+ * The count over 100,000 is arc seconds, over 10,000 metres (see the components above).
+ * Refusals in order: SHORT, NUMBER, LENGTH, FILL, RANGE, KIND, COMPONENT, POSITION, OFF, METHOD, ORIGIN, SPACING,
+ * OUTSIDE, ABSENT.
+ * Buffers: message is only read.
+ */
+tarnoklej_shift tarnoklej_shift_at(const uint8_t *message, size_t message_length, uint8_t component, int64_t north,
+                                   int64_t east);
+
+/* Stores a message under its key, system identification number and group: in the slot of that key, otherwise in the
+ * first free slot.
+ * Refusals in order: TABLE, SHORT, NUMBER, LENGTH, FILL, RANGE, FULL.
+ * Buffers: message is only read and must not lie in the table; the slot holds the message and zeros behind it, and
+ * the other slots keep their bytes; with a refusal all of the table keeps its bytes.
+ */
+uint8_t tarnoklej_store(uint8_t *table, size_t size, const uint8_t *message, size_t message_length);
+
+/* Gives where the message of a key stands in the table: at is the place of its first byte, length its bytes.
+ * Refusals in order: TABLE, NONE.
+ * Buffers: table is only read.
+ */
+tarnoklej_found tarnoklej_find(const uint8_t *table, size_t size, uint8_t sin, uint8_t group);
+
+/* Removes the message of a key.
+ * Refusals in order: TABLE, NONE.
+ * Buffers: the slot of the key is all zero and the other slots keep their bytes; with a refusal all of the table
+ * keeps its bytes.
+ */
+uint8_t tarnoklej_remove(uint8_t *table, size_t size, uint8_t sin, uint8_t group);
+
+/* Positions in a row by DF number: position, field, type, resolution, name.
+ * N is the number at position 1, M the number at position 2+N; i is 0 to 15 for nodes 1 to 16.
+ * A signed field's most negative number means "not available"; docs/FIELDS.md has the ranges.
+ *
+ * 1021, 25+N+M numbers:
+ *   0            DF002  uint12   1                   Message Number
+ *   1            DF143  uint5    1                   Source-Name Counter
+ *   2..1+N       DF144  char8    1                   Source-Name
+ *   2+N          DF145  uint5    1                   Target-Name Counter
+ *   3+N..2+N+M   DF146  char8    1                   Target-Name
+ *   3+N+M        DF147  uint8    1                   System Identification Number
+ *   4+N+M        DF148  bit(10)  1                   Utilized Transformation Message Indicator
+ *   5+N+M        DF149  uint5    1                   Plate Number
+ *   6+N+M        DF150  uint4    1                   Computation Indicator
+ *   7+N+M        DF151  uint2    1                   Height Indicator
+ *   8+N+M        DF152  int19    2 arc seconds       Latitude of Origin, Area of Validity
+ *   9+N+M        DF153  int20    2 arc seconds       Longitude of Origin, Area of Validity
+ *   10+N+M       DF154  uint14   2 arc seconds       N/S Extension, Area of Validity
+ *   11+N+M       DF155  uint14   2 arc seconds       E/W Extension, Area of Validity
+ *   12+N+M       DF156  int23    0.001 m             Translation in X-direction
+ *   13+N+M       DF157  int23    0.001 m             Translation in Y-direction
+ *   14+N+M       DF158  int23    0.001 m             Translation in Z-direction
+ *   15+N+M       DF159  int32    0.00002 arc second  Rotation Around the X-axis
+ *   16+N+M       DF160  int32    0.00002 arc second  Rotation Around the Y-axis
+ *   17+N+M       DF161  int32    0.00002 arc second  Rotation Around the Z-axis
+ *   18+N+M       DF162  int25    0.00001 ppm         Scale Correction
+ *   19+N+M       DF166  uint24   0.001 m             Semi-major Axis of Source System Ellipsoid
+ *   20+N+M       DF167  uint25   0.001 m             Semi-minor Axis of Source System Ellipsoid
+ *   21+N+M       DF168  uint24   0.001 m             Semi-major Axis of Target System Ellipsoid
+ *   22+N+M       DF169  uint25   0.001 m             Semi-minor Axis of Target System Ellipsoid
+ *   23+N+M       DF214  uint3    1                   Horizontal Helmert/Molodenski Quality Indicator
+ *   24+N+M       DF215  uint3    1                   Vertical Helmert/Molodenski Quality Indicator
+ *
+ * 1022, 28+N+M numbers:
+ *   0            DF002  uint12   1                   Message Number
+ *   1            DF143  uint5    1                   Source-Name Counter
+ *   2..1+N       DF144  char8    1                   Source-Name
+ *   2+N          DF145  uint5    1                   Target-Name Counter
+ *   3+N..2+N+M   DF146  char8    1                   Target-Name
+ *   3+N+M        DF147  uint8    1                   System Identification Number
+ *   4+N+M        DF148  bit(10)  1                   Utilized Transformation Message Indicator
+ *   5+N+M        DF149  uint5    1                   Plate Number
+ *   6+N+M        DF150  uint4    1                   Computation Indicator
+ *   7+N+M        DF151  uint2    1                   Height Indicator
+ *   8+N+M        DF152  int19    2 arc seconds       Latitude of Origin, Area of Validity
+ *   9+N+M        DF153  int20    2 arc seconds       Longitude of Origin, Area of Validity
+ *   10+N+M       DF154  uint14   2 arc seconds       N/S Extension, Area of Validity
+ *   11+N+M       DF155  uint14   2 arc seconds       E/W Extension, Area of Validity
+ *   12+N+M       DF156  int23    0.001 m             Translation in X-direction
+ *   13+N+M       DF157  int23    0.001 m             Translation in Y-direction
+ *   14+N+M       DF158  int23    0.001 m             Translation in Z-direction
+ *   15+N+M       DF159  int32    0.00002 arc second  Rotation Around the X-axis
+ *   16+N+M       DF160  int32    0.00002 arc second  Rotation Around the Y-axis
+ *   17+N+M       DF161  int32    0.00002 arc second  Rotation Around the Z-axis
+ *   18+N+M       DF162  int25    0.00001 ppm         Scale Correction
+ *   19+N+M       DF163  int35    0.001 m             X Coordinate for M-B Rotation Point
+ *   20+N+M       DF164  int35    0.001 m             Y Coordinate for M-B Rotation Point
+ *   21+N+M       DF165  int35    0.001 m             Z Coordinate for M-B Rotation Point
+ *   22+N+M       DF166  uint24   0.001 m             Semi-major Axis of Source System Ellipsoid
+ *   23+N+M       DF167  uint25   0.001 m             Semi-minor Axis of Source System Ellipsoid
+ *   24+N+M       DF168  uint24   0.001 m             Semi-major Axis of Target System Ellipsoid
+ *   25+N+M       DF169  uint25   0.001 m             Semi-minor Axis of Target System Ellipsoid
+ *   26+N+M       DF214  uint3    1                   Horizontal Helmert/Molodenski Quality Indicator
+ *   27+N+M       DF215  uint3    1                   Vertical Helmert/Molodenski Quality Indicator
+ *
+ * 1023, 64 numbers:
+ *   0            DF002  uint12   1                   Message Number
+ *   1            DF147  uint8    1                   System Identification Number
+ *   2            DF190  bit(1)   1                   Horizontal Shift Indicator
+ *   3            DF191  bit(1)   1                   Vertical Shift Indicator
+ *   4            DF192  int21    0.5 arc second      Latitude of Origin of Grids
+ *   5            DF193  int22    0.5 arc second      Longitude of Origin of Grids
+ *   6            DF194  uint12   0.5 arc second      N/S Grid Area Extension
+ *   7            DF195  uint12   0.5 arc second      E/W Grid Area Extension
+ *   8            DF196  int8     0.001 arc second    Mean Latitude Offset
+ *   9            DF197  int8     0.001 arc second    Mean Longitude Offset
+ *   10           DF198  int15    0.01 m              Mean Height Offset
+ *   11+3i        DF199  int9     0.00003 arc second  Latitude Residual
+ *   12+3i        DF200  int9     0.00003 arc second  Longitude Residual
+ *   13+3i        DF201  int9     0.001 m             Height Residual
+ *   59           DF212  uint2    1                   Horizontal Interpolation Method Indicator
+ *   60           DF213  uint2    1                   Vertical Interpolation Method Indicator
+ *   61           DF216  uint3    1                   Horizontal Grid Quality Indicator
+ *   62           DF217  uint3    1                   Vertical Grid Quality Indicator
+ *   63           DF051  uint16   1                   Modified Julian Day (MJD) Number
+ *
+ * 1024, 64 numbers:
+ *   0            DF002  uint12   1                   Message Number
+ *   1            DF147  uint8    1                   System Identification Number
+ *   2            DF190  bit(1)   1                   Horizontal Shift Indicator
+ *   3            DF191  bit(1)   1                   Vertical Shift Indicator
+ *   4            DF202  int25    10 m                Northing of Origin
+ *   5            DF203  uint26   10 m                Easting of Origin
+ *   6            DF204  uint12   10 m                N/S Grid Area Extension
+ *   7            DF205  uint12   10 m                E/W Grid Area Extension
+ *   8            DF206  int10    0.01 m              Mean Local Northing Offset
+ *   9            DF207  int10    0.01 m              Mean Local Easting Offset
+ *   10           DF208  int15    0.01 m              Mean Local Height Offset
+ *   11+3i        DF209  int9     0.001 m             Residual in Local Northing
+ *   12+3i        DF210  int9     0.001 m             Residual in Local Easting
+ *   13+3i        DF211  int9     0.001 m             Residual in Local Height
+ *   59           DF212  uint2    1                   Horizontal Interpolation Method Indicator
+ *   60           DF213  uint2    1                   Vertical Interpolation Method Indicator
+ *   61           DF216  uint3    1                   Horizontal Grid Quality Indicator
+ *   62           DF217  uint3    1                   Vertical Grid Quality Indicator
+ *   63           DF051  uint16   1                   Modified Julian Day (MJD) Number
+ *
+ * 1025, 8 numbers:
+ *   0            DF002  uint12   1                   Message Number
+ *   1            DF147  uint8    1                   System Identification Number
+ *   2            DF170  uint6    1                   Projection Type
+ *   3            DF171  int34    0.000000011 degree  Latitude of Natural Origin
+ *   4            DF172  int35    0.000000011 degree  Longitude of Natural Origin
+ *   5            DF173  uint30   0.00001 ppm         Scale Factor at Natural Origin
+ *   6            DF174  uint36   0.001 m             False Easting
+ *   7            DF175  int35    0.001 m             False Northing
+ *
+ * 1026, 9 numbers:
+ *   0            DF002  uint12   1                   Message Number
+ *   1            DF147  uint8    1                   System Identification Number
+ *   2            DF170  uint6    1                   Projection Type
+ *   3            DF176  int34    0.000000011 degree  Latitude of False Origin
+ *   4            DF177  int35    0.000000011 degree  Longitude of False Origin
+ *   5            DF178  int34    0.000000011 degree  Latitude of Standard Parallel No. 1
+ *   6            DF179  int34    0.000000011 degree  Latitude of Standard Parallel No. 2
+ *   7            DF180  uint36   0.001 m             Easting of False Origin
+ *   8            DF181  int35    0.001 m             Northing of False Origin
+ *
+ * 1027, 11 numbers:
+ *   0            DF002  uint12   1                   Message Number
+ *   1            DF147  uint8    1                   System Identification Number
+ *   2            DF170  uint6    1                   Projection Type
+ *   3            DF182  bit(1)   1                   Rectification Flag
+ *   4            DF183  int34    0.000000011 degree  Latitude of Projection Center
+ *   5            DF184  int35    0.000000011 degree  Longitude of Projection Center
+ *   6            DF185  uint35   0.000000011 degree  Azimuth of Initial Line
+ *   7            DF186  int26    0.000000011 degree  Difference, Angle from Rectified to Skew Grid
+ *   8            DF187  uint30   0.00001 ppm         Scale factor on Initial Line
+ *   9            DF188  uint36   0.001 m             Easting at Projection Center
+ *   10           DF189  int35    0.001 m             Northing at Projection Center
+ */
 
 #ifdef __cplusplus
 }

@@ -3,6 +3,7 @@
 //! It is written from document 01 and source document 000 alone, and shares nothing with the proved code.
 
 pub mod bits;
+pub mod example;
 pub mod fields;
 pub mod figures;
 pub mod grid;
@@ -12,6 +13,7 @@ pub mod layouts;
 pub mod message;
 pub mod page;
 pub mod papers;
+pub mod positions;
 pub mod random;
 pub mod record;
 pub mod refusal;

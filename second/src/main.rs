@@ -1,12 +1,12 @@
 //! The command line of the second program.
 
-use second::{figures, page, papers, selfcheck, services, vectors};
+use second::{example, figures, page, papers, positions, selfcheck, services, vectors};
 use std::io::Read;
 use std::path::Path;
 use std::process::ExitCode;
 
 /// What the program can be asked for.
-const USAGE: &str = "second selfcheck | papers FILE | fields | vectors OUTDIR [--shift] [--table] | services DIR | figures DIR | identify";
+const USAGE: &str = "second selfcheck | papers FILE | fields | positions | example LIST | vectors OUTDIR [--shift] [--table] | services DIR | figures DIR | identify";
 
 /// Success or failure from a truth value.
 fn exit(good: bool) -> ExitCode {
@@ -33,6 +33,12 @@ fn write_vectors(dir: &str, flags: &[String]) -> std::io::Result<bool> {
     Ok(true)
 }
 
+/// Prints a text.
+fn print(text: &str) -> std::io::Result<bool> {
+    print!("{text}");
+    Ok(true)
+}
+
 /// Prints what document 01's program prints of the standard input.
 fn identify() -> std::io::Result<bool> {
     let mut input = Vec::new();
@@ -47,10 +53,9 @@ fn run(arguments: &[String]) -> std::io::Result<bool> {
     match words[..] {
         ["selfcheck"] => Ok(selfcheck::run()),
         ["papers", file] => compare_papers(file),
-        ["fields"] => {
-            print!("{}", page::page());
-            Ok(true)
-        }
+        ["fields"] => print(&page::page()),
+        ["positions"] => print(&positions::comment()),
+        ["example", list] => print(&example::all(&std::fs::read_to_string(list)?)?),
         ["vectors", dir, ..] => write_vectors(dir, &arguments[2..]),
         ["services", dir] => services::write(Path::new(dir)).map(|()| true),
         ["figures", dir] => figures::write(Path::new(dir)).map(|()| true),

@@ -43,7 +43,7 @@ fn title(field: &Field) -> String {
 }
 
 /// The resolution with its unit written out.
-fn resolution(field: &Field) -> String {
+pub fn resolution(field: &Field) -> String {
     if field.printed_resolution.is_empty() {
         return "1".to_string();
     }

@@ -1,0 +1,29 @@
+/* Plain C baselines for message 1023 and for a table, with the answers of include/tarnoklej.h. */
+#ifndef BASELINE_H
+#define BASELINE_H
+#include "tarnoklej.h"
+
+/* The numbers of a row of 1023 and the bytes of its message. */
+enum { ROW = 64, BYTES = 73 };
+
+/* One way to do the work; a call that it does not have is null. */
+typedef struct {
+    const char *name;
+    tarnoklej_header (*read)(const uint8_t *message, size_t length);
+    uint8_t (*read_fields)(const uint8_t *message, size_t length, int64_t *fields, size_t room);
+    tarnoklej_written (*write_fields)(const int64_t *fields, size_t count, uint8_t *out, size_t room);
+    tarnoklej_shift (*shift_at)(const uint8_t *message, size_t length, uint8_t component, int64_t north, int64_t east);
+    void (*shifts_at)(const uint8_t *message, size_t length, uint8_t component, const int64_t (*positions)[2],
+                      size_t count, tarnoklej_shift *shifts);
+    uint8_t (*store)(uint8_t *table, size_t size, const uint8_t *message, size_t length);
+    tarnoklej_found (*find)(const uint8_t *table, size_t size, uint8_t sin, uint8_t group);
+} baseline;
+
+/* Fields bit by bit, as GNSS decoders take them. */
+extern const baseline BIT_BY_BIT;
+/* Fields by one load of 64 bits each. */
+extern const baseline ONE_LOAD;
+
+/* A table in which slots are looked up by their bytes alone, without a check that they are well formed. */
+extern const baseline UNCHECKED;
+#endif

@@ -1,0 +1,265 @@
+/* Prints how long the library takes for each call beside plain C, as a Markdown table.
+ * Every call is checked to give the same answers in all of them before it is timed.
+ */
+#include <math.h>
+#include <stdio.h>
+#include <stdlib.h>
+#include <string.h>
+#include <time.h>
+#include "baseline.h"
+
+/* The messages that are gone through in turn, and the positions for each. */
+enum { MESSAGES = 32, POSITIONS = 100 };
+/* The passes over all calls, the rounds of a pass, of all of which the fastest counts, and the shortest round in seconds. */
+enum { PASSES = 5, ROUNDS = 3 };
+static const double SHORTEST_ROUND = 0.006;
+
+static int64_t rows[MESSAGES][ROW];
+static uint8_t messages[MESSAGES][BYTES];
+static int64_t positions[MESSAGES][POSITIONS][2];
+static uint8_t table[TARNOKLEJ_TABLE_SIZE];
+
+/* The library's shifts at many positions, one call each. */
+static void library_shifts_at(const uint8_t *message, size_t length, uint8_t component,
+                              const int64_t (*at)[2], size_t count, tarnoklej_shift *shifts)
+{
+    for (size_t i = 0; i < count; i++)
+        shifts[i] = tarnoklej_shift_at(message, length, component, at[i][0], at[i][1]);
+}
+
+static const baseline LIBRARY = {"library",          tarnoklej_read,    tarnoklej_read_fields, tarnoklej_write_fields,
+                                 tarnoklej_shift_at, library_shifts_at, tarnoklej_store,       tarnoklej_find};
+
+/* All that are timed, the library first. */
+enum { TIMED = 4 };
+static const baseline *const ALL[TIMED] = {&LIBRARY, &BIT_BY_BIT, &ONE_LOAD, &UNCHECKED};
+
+/* A call to time: makes one call in a turn and gives something of its answer. */
+typedef struct {
+    const char *name;
+    uint64_t (*run)(const baseline *by, size_t turn, size_t size);
+    size_t size;    /* positions for each message, or slots in use */
+    size_t answers; /* answers of one call */
+    int on_table;
+} call;
+
+static uint64_t run_read(const baseline *by, size_t turn, size_t size)
+{
+    (void)size;
+    tarnoklej_header header = by->read(messages[turn % MESSAGES], BYTES);
+    return header.refusal + header.sin + header.length;
+}
+
+static uint64_t run_row(const baseline *by, size_t turn, size_t size)
+{
+    (void)size;
+    int64_t row[ROW];
+    uint8_t refusal = by->read_fields(messages[turn % MESSAGES], BYTES, row, ROW);
+    return refusal + (uint64_t)row[turn % ROW];
+}
+
+static uint64_t run_write(const baseline *by, size_t turn, size_t size)
+{
+    (void)size;
+    uint8_t out[BYTES];
+    tarnoklej_written written = by->write_fields(rows[turn % MESSAGES], ROW, out, BYTES);
+    return written.refusal + written.length + out[turn % BYTES];
+}
+
+static uint64_t run_shift(const baseline *by, size_t turn, size_t size)
+{
+    size_t i = turn % MESSAGES;
+    if (size == 1) {
+        const int64_t *at = positions[i][turn % POSITIONS];
+        tarnoklej_shift shift = by->shift_at(messages[i], BYTES, (uint8_t)(turn % 3), at[0], at[1]);
+        return shift.refusal + (uint64_t)shift.count;
+    }
+    tarnoklej_shift shifts[POSITIONS];
+    by->shifts_at(messages[i], BYTES, (uint8_t)(turn % 3), (const int64_t(*)[2])positions[i], size, shifts);
+    return shifts[0].refusal + (uint64_t)shifts[turn % size].count;
+}
+
+static uint64_t run_find(const baseline *by, size_t turn, size_t size)
+{
+    tarnoklej_found found = by->find(table, sizeof table, (uint8_t)(turn % size), TARNOKLEJ_GRID);
+    return found.refusal + found.at + found.length;
+}
+
+static uint64_t run_store(const baseline *by, size_t turn, size_t size)
+{
+    return by->store(table, sizeof table, messages[turn % size], BYTES) + table[turn % sizeof table];
+}
+
+static const call CALLS[] = {
+    {"read, header of a 1023", run_read, 0, 1, 0},
+    {"read_fields, row of a 1023", run_row, 0, 1, 0},
+    {"write_fields, a 1023", run_write, 0, 1, 0},
+    {"shift_at, 1 position of a message", run_shift, 1, 1, 0},
+    {"shift_at, each of 10 positions of a message", run_shift, 10, 10, 0},
+    {"shift_at, each of 100 positions of a message", run_shift, 100, 100, 0},
+    {"find, 1 slot in use", run_find, 1, 1, 1},
+    {"find, 8 slots in use", run_find, 8, 1, 1},
+    {"find, 32 slots in use", run_find, 32, 1, 1},
+    {"store (replaces), 1 slot in use", run_store, 1, 1, 1},
+    {"store (replaces), 8 slots in use", run_store, 8, 1, 1},
+    {"store (replaces), 32 slots in use", run_store, 32, 1, 1},
+};
+
+enum { CALL_COUNT = sizeof CALLS / sizeof *CALLS };
+
+/* The next number from the least to the greatest given (splitmix64). */
+static int64_t within(int64_t least, int64_t greatest)
+{
+    static uint64_t state = 1;
+    uint64_t z = state += 0x9e3779b97f4a7c15u;
+    z = (z ^ z >> 30) * 0xbf58476d1ce4e5b9u;
+    z = (z ^ z >> 27) * 0x94d049bb133111ebu;
+    return least + (int64_t)((z ^ z >> 31) % (uint64_t)(greatest - least + 1));
+}
+
+/* Stops with a line on what went wrong. */
+static void stop(const char *what, const char *name)
+{
+    fprintf(stderr, "bench: %s: %s\n", name, what);
+    exit(1);
+}
+
+/* Makes the row of one grid with all shifts on and all nodes present. */
+static void make_row(int64_t *row, int sin)
+{
+    const int64_t first[] = {1023, sin, 1, 1, within(-640000, 640000), within(-1290000, 1290000), within(100, 4095),
+                             within(100, 4095), within(-127, 127), within(-127, 127), within(-16383, 16383)};
+    memset(row, 0, ROW * sizeof *row);
+    memcpy(row, first, sizeof first);
+    for (int node = 0; node < 48; node++)
+        row[11 + node] = within(-255, 255);
+    row[63] = within(0, 65535);
+}
+
+/* Makes all messages and positions. */
+static void make_inputs(void)
+{
+    for (int i = 0; i < MESSAGES; i++) {
+        make_row(rows[i], i);
+        if (tarnoklej_write_fields(rows[i], ROW, messages[i], BYTES).refusal != TARNOKLEJ_DONE)
+            stop("a row was refused", "inputs");
+        for (int j = 0; j < POSITIONS; j++)
+            for (int axis = 0; axis < 2; axis++) {
+                int64_t reach = rows[i][6 + axis] * 5000 / 2 * 3;
+                positions[i][j][axis] = rows[i][4 + axis] * 5000 + within(-reach, reach);
+            }
+    }
+}
+
+/* Fills the first slots of the table. */
+static void fill_table(size_t slots)
+{
+    memset(table, 0, sizeof table);
+    for (size_t i = 0; i < slots; i++)
+        if (tarnoklej_store(table, sizeof table, messages[i], BYTES) != TARNOKLEJ_DONE)
+            stop("a message was refused", "table");
+}
+
+/* Whether one of those timed has the call. */
+static int has(const baseline *by, const call *c)
+{
+    return c->on_table || by->read != NULL;
+}
+
+/* Stops where one of those timed answers otherwise than the library, and sets no time yet. */
+static void check_answers(const call *c, double *nanoseconds)
+{
+    for (int k = 0; k < TIMED; k++)
+        nanoseconds[k] = HUGE_VAL;
+    for (size_t turn = 0; turn < MESSAGES * POSITIONS; turn++)
+        for (int k = 1; k < TIMED; k++)
+            if (has(ALL[k], c) && c->run(ALL[k], turn, c->size) != c->run(&LIBRARY, turn, c->size))
+                stop("another answer than the library's", c->name);
+}
+
+/* Seconds since some moment. */
+static double now(void)
+{
+    struct timespec t;
+    clock_gettime(CLOCK_MONOTONIC, &t);
+    return (double)t.tv_sec + (double)t.tv_nsec * 1e-9;
+}
+
+/* What was summed up, so that no call is left out by the compiler. */
+volatile uint64_t summed;
+
+/* The seconds of a number of calls. */
+static double seconds_of(const call *c, const baseline *by, size_t calls)
+{
+    uint64_t sum = 0;
+    double start = now();
+    for (size_t turn = 0; turn < calls; turn++)
+        sum += c->run(by, turn, c->size);
+    double seconds = now() - start;
+    summed = sum;
+    return seconds;
+}
+
+/* How many calls last long enough to be timed. */
+static size_t calls_for_a_round(const call *c, const baseline *by)
+{
+    size_t calls = 16;
+    while (seconds_of(c, by, calls) < SHORTEST_ROUND)
+        calls *= 2;
+    return calls;
+}
+
+/* Lowers the nanoseconds of one answer for each that is timed, where an interleaved round was faster. */
+static void time_call(const call *c, double *nanoseconds)
+{
+    size_t calls[TIMED];
+    for (int k = 0; k < TIMED; k++)
+        calls[k] = has(ALL[k], c) ? calls_for_a_round(c, ALL[k]) : 0;
+    for (int round = 0; round < ROUNDS; round++)
+        for (int k = 0; k < TIMED; k++) {
+            if (calls[k] == 0)
+                continue;
+            double each = seconds_of(c, ALL[k], calls[k]) / (double)(calls[k] * c->answers) * 1e9;
+            if (each < nanoseconds[k])
+                nanoseconds[k] = each;
+        }
+}
+
+/* Prints the line of one call. */
+static void print_line(const call *c, const double *nanoseconds)
+{
+    printf("| %s | %.0f | %.1f |", c->name, 1e9 / nanoseconds[0], nanoseconds[0]);
+    for (int k = 1; k < TIMED; k++) {
+        if (has(ALL[k], c))
+            printf(" %.1f | %.2f |", nanoseconds[k], nanoseconds[0] / nanoseconds[k]);
+        else
+            printf(" - | - |");
+    }
+    printf("\n");
+}
+
+/* Does something for every call, on a table of its slots where it needs one. */
+static void for_all_calls(void (*work)(const call *c, double *nanoseconds), double (*nanoseconds)[TIMED])
+{
+    for (size_t i = 0; i < CALL_COUNT; i++) {
+        if (CALLS[i].on_table)
+            fill_table(CALLS[i].size);
+        work(&CALLS[i], nanoseconds[i]);
+    }
+}
+
+int main(void)
+{
+    static double nanoseconds[CALL_COUNT][TIMED];
+    make_inputs();
+    for_all_calls(check_answers, nanoseconds);
+    for (int pass = 0; pass < PASSES; pass++)
+        for_all_calls(time_call, nanoseconds);
+    printf("| call | library, per second | ns |");
+    for (int k = 1; k < TIMED; k++)
+        printf(" %s, ns | ratio |", ALL[k]->name);
+    printf("\n|---|---:|---:|---:|---:|---:|---:|---:|---:|\n");
+    for (size_t i = 0; i < CALL_COUNT; i++)
+        print_line(&CALLS[i], nanoseconds[i]);
+    return 0;
+}

@@ -1,0 +1,251 @@
+//! RTCM messages 1021 to 1027: safe functions over the proved static library.
+//!
+//! Every call ends with an answer for every input, keeps nothing between calls, and gives a [`Refusal`]
+//! where it does not do what it was asked for. The refusals of each function are listed in the order of their tests.
+//! include/tarnoklej.h lists the positions of the data fields in a row.
+
+pub mod ffi;
+mod refusal;
+
+pub use refusal::{NotARefusal, Refusal};
+
+/// The bytes of a table; 4,096 zeros are an empty table.
+pub const TABLE_SIZE: usize = 4_096;
+/// The messages that a table holds.
+pub const SLOTS: usize = 32;
+/// The bytes of the longest message, a 1022 of two names of 31 characters.
+pub const MOST_BYTES: usize = 127;
+/// The numbers of the longest row, of the same message.
+pub const MOST_FIELDS: usize = 90;
+
+/// The component north-south, in counts of 0.00001 arc second (1023) or 0.1 mm (1024).
+pub const NORTH_SOUTH: u8 = 0;
+/// The component east-west, in counts of 0.00001 arc second (1023) or 0.1 mm (1024).
+pub const EAST_WEST: u8 = 1;
+/// The component height, in counts of 0.1 mm.
+pub const HEIGHT: u8 = 2;
+
+/// The group of messages 1021 and 1022.
+pub const TRANSFORMATION: u8 = 0;
+/// The group of messages 1023 and 1024.
+pub const GRID: u8 = 1;
+/// The group of messages 1025, 1026 and 1027.
+pub const PROJECTION: u8 = 2;
+
+/// What stands at the head of an accepted message.
+#[derive(Clone, Copy, PartialEq, Eq, Debug)]
+pub struct Header {
+    /// The message number, DF002.
+    pub number: u16,
+    /// The length in bytes.
+    pub length: usize,
+    /// The system identification number, DF147.
+    pub sin: u8,
+}
+
+/// A message found in a table.
+#[derive(Clone, Copy, PartialEq, Eq, Debug)]
+pub struct Found<'table> {
+    /// The place of the message's first byte in the table.
+    pub at: usize,
+    /// The message, which is the part of the table itself and not a copy.
+    pub message: &'table [u8],
+}
+
+/// Nothing where the number is 0, else the refusal.
+fn done(refusal: u8) -> Result<(), Refusal> {
+    match refusal {
+        0 => Ok(()),
+        number => Err(Refusal::try_from(number).expect("the library gives 0 to 18")),
+    }
+}
+
+/// Gives number, length and system identification number of a message after all of its fields are checked.
+///
+/// Refusals: SHORT, NUMBER, LENGTH, FILL, RANGE.
+///
+/// ```
+/// use tarnoklej::{read, Header, Refusal};
+///
+/// let mut message = vec![0x40, 0x10, 0x50];
+/// message.resize(25, 0);
+/// assert_eq!(read(&message), Ok(Header { number: 1025, length: 25, sin: 5 }));
+/// assert_eq!(read(&message[..24]), Err(Refusal::Length));
+/// ```
+pub fn read(message: &[u8]) -> Result<Header, Refusal> {
+    // SAFETY: the pointer and the length are those of a slice, which the call only reads.
+    let header = unsafe { ffi::tarnoklej_read(message.as_ptr(), message.len()) };
+    done(header.refusal)?;
+    Ok(Header { number: header.number, length: header.length, sin: header.sin })
+}
+
+/// Gives the raw numbers of a message in wire order, DF002 first.
+///
+/// Refusals: SHORT, NUMBER, LENGTH, FILL, RANGE.
+///
+/// ```
+/// let mut message = vec![0x40, 0x10, 0x50];
+/// message.resize(25, 0);
+/// assert_eq!(tarnoklej::read_fields(&message), Ok(vec![1025, 5, 0, 0, 0, 0, 0, 0]));
+/// ```
+pub fn read_fields(message: &[u8]) -> Result<Vec<i64>, Refusal> {
+    let mut fields = vec![0; MOST_FIELDS];
+    let count = read_fields_into(message, &mut fields)?;
+    fields.truncate(count);
+    Ok(fields)
+}
+
+/// Puts the raw numbers of a message into the first places of a row, keeps the rest, and gives their count.
+///
+/// Refusals: SHORT, NUMBER, LENGTH, FILL, RANGE, ROOM; with a refusal the row stays as it was.
+///
+/// ```
+/// use tarnoklej::{read_fields_into, Refusal};
+///
+/// let mut message = vec![0x40, 0x10, 0x50];
+/// message.resize(25, 0);
+/// let mut row = [-1; 10];
+/// assert_eq!(read_fields_into(&message, &mut row), Ok(8));
+/// assert_eq!(row, [1025, 5, 0, 0, 0, 0, 0, 0, -1, -1]);
+/// assert_eq!(read_fields_into(&message, &mut row[..7]), Err(Refusal::Room));
+/// ```
+pub fn read_fields_into(message: &[u8], fields: &mut [i64]) -> Result<usize, Refusal> {
+    // SAFETY: both pointers and lengths are those of slices, and a slice lent for writing overlaps no other.
+    let refusal =
+        unsafe { ffi::tarnoklej_read_fields(message.as_ptr(), message.len(), fields.as_mut_ptr(), fields.len()) };
+    done(refusal)?;
+    Ok(field_count(fields))
+}
+
+/// The count of numbers of an accepted message, whose row begins with them.
+fn field_count(fields: &[i64]) -> usize {
+    let names = || {
+        let source = fields[1] as usize;
+        source + fields[2 + source] as usize
+    };
+    match fields[0] {
+        1021 => 25 + names(),
+        1022 => 28 + names(),
+        1023 | 1024 => 64,
+        1025 => 8,
+        1026 => 9,
+        _ => 11,
+    }
+}
+
+/// Writes the message of a row of raw numbers into the first bytes of a buffer, keeps the rest, and gives its length.
+///
+/// Refusals: RANGE (a wrong count of fields included), ROOM; with a refusal the buffer stays as it was.
+///
+/// ```
+/// use tarnoklej::{write_fields, Refusal, MOST_BYTES};
+///
+/// let mut out = [0xff; MOST_BYTES];
+/// assert_eq!(write_fields(&[1025, 5, 0, 0, 0, 0, 0, 0], &mut out), Ok(25));
+/// assert_eq!(out[..4], [0x40, 0x10, 0x50, 0]);
+/// assert_eq!(out[25], 0xff);
+/// assert_eq!(write_fields(&[1025, 256, 0, 0, 0, 0, 0, 0], &mut out), Err(Refusal::Range));
+/// ```
+pub fn write_fields(fields: &[i64], out: &mut [u8]) -> Result<usize, Refusal> {
+    // SAFETY: both pointers and lengths are those of slices, and a slice lent for writing overlaps no other.
+    let written = unsafe { ffi::tarnoklej_write_fields(fields.as_ptr(), fields.len(), out.as_mut_ptr(), out.len()) };
+    done(written.refusal)?;
+    Ok(written.length)
+}
+
+/// Gives the shift of a component at a position from a message 1023 or 1024, in counts.
+///
+/// A position is in steps of 0.0001 arc second (1023) or 1 mm (1024).
+/// The count over 100,000 is arc seconds, over 10,000 metres; see [`NORTH_SOUTH`], [`EAST_WEST`] and [`HEIGHT`].
+///
+/// Refusals: SHORT, NUMBER, LENGTH, FILL, RANGE, KIND, COMPONENT, POSITION, OFF, METHOD, ORIGIN, SPACING, OUTSIDE,
+/// ABSENT.
+///
+/// ```
+/// use tarnoklej::{shift_at, write_fields, Refusal, HEIGHT, NORTH_SOUTH};
+///
+/// // A grid around 49 degrees north and 11 degrees east, heights only: the mean is 46.92 m, node i has i mm.
+/// let mut row = [0; 64];
+/// row[..8].copy_from_slice(&[1023, 7, 0, 1, 352_800, 79_200, 720, 720]);
+/// row[10] = 4_692;
+/// for i in 0..16 {
+///     row[13 + 3 * i] = i as i64 + 1;
+/// }
+/// let mut message = [0; 73];
+/// write_fields(&row, &mut message)?;
+///
+/// let (north, east) = (49 * 36_000_000, 11 * 36_000_000);
+/// assert_eq!(shift_at(&message, HEIGHT, north, east), Ok(469_285)); // 46.9285 m
+/// assert_eq!(shift_at(&message, NORTH_SOUTH, north, east), Err(Refusal::Off));
+/// # Ok::<(), Refusal>(())
+/// ```
+pub fn shift_at(message: &[u8], component: u8, north: i64, east: i64) -> Result<i64, Refusal> {
+    // SAFETY: the pointer and the length are those of a slice, which the call only reads.
+    let shift = unsafe { ffi::tarnoklej_shift_at(message.as_ptr(), message.len(), component, north, east) };
+    done(shift.refusal)?;
+    Ok(shift.count)
+}
+
+/// Stores a message under its key, system identification number and group, in a table.
+///
+/// Refusals: TABLE, SHORT, NUMBER, LENGTH, FILL, RANGE, FULL; with a refusal the table stays as it was.
+///
+/// ```
+/// use tarnoklej::{store, Refusal, TABLE_SIZE};
+///
+/// let mut message = vec![0x40, 0x10, 0x50];
+/// message.resize(25, 0);
+/// let mut table = [0; TABLE_SIZE];
+/// assert_eq!(store(&mut table, &message), Ok(()));
+/// assert_eq!(table[..4], [25, 0x40, 0x10, 0x50]);
+/// assert_eq!(store(&mut table[1..], &message), Err(Refusal::Table));
+/// ```
+pub fn store(table: &mut [u8], message: &[u8]) -> Result<(), Refusal> {
+    // SAFETY: both pointers and lengths are those of slices, and a slice lent for writing overlaps no other.
+    done(unsafe { ffi::tarnoklej_store(table.as_mut_ptr(), table.len(), message.as_ptr(), message.len()) })
+}
+
+/// Gives the message of a key as the part of the table where it stands.
+///
+/// Refusals: TABLE, NONE.
+///
+/// ```
+/// use tarnoklej::{find, store, Refusal, PROJECTION, TABLE_SIZE, TRANSFORMATION};
+///
+/// let mut message = vec![0x40, 0x10, 0x50];
+/// message.resize(25, 0);
+/// let mut table = [0; TABLE_SIZE];
+/// store(&mut table, &message)?;
+/// let found = find(&table, 5, PROJECTION)?;
+/// assert_eq!(found.at, 1);
+/// assert_eq!(found.message, message);
+/// assert_eq!(find(&table, 5, TRANSFORMATION), Err(Refusal::None));
+/// # Ok::<(), Refusal>(())
+/// ```
+pub fn find(table: &[u8], sin: u8, group: u8) -> Result<Found<'_>, Refusal> {
+    // SAFETY: the pointer and the length are those of a slice, which the call only reads.
+    let found = unsafe { ffi::tarnoklej_find(table.as_ptr(), table.len(), sin, group) };
+    done(found.refusal)?;
+    Ok(Found { at: found.at, message: &table[found.at..found.at + found.length] })
+}
+
+/// Removes the message of a key from a table.
+///
+/// Refusals: TABLE, NONE; with a refusal the table stays as it was.
+///
+/// ```
+/// use tarnoklej::{remove, store, Refusal, PROJECTION, TABLE_SIZE};
+///
+/// let mut message = vec![0x40, 0x10, 0x50];
+/// message.resize(25, 0);
+/// let mut table = [0; TABLE_SIZE];
+/// store(&mut table, &message)?;
+/// assert_eq!(remove(&mut table, 5, PROJECTION), Ok(()));
+/// assert_eq!(table, [0; TABLE_SIZE]);
+/// assert_eq!(remove(&mut table, 5, PROJECTION), Err(Refusal::None));
+/// # Ok::<(), Refusal>(())
+/// ```
+pub fn remove(table: &mut [u8], sin: u8, group: u8) -> Result<(), Refusal> {
+    // SAFETY: the pointer and the length are those of a slice lent for writing.
+    done(unsafe { ffi::tarnoklej_remove(table.as_mut_ptr(), table.len(), sin, group) })
+}

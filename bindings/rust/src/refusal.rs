@@ -1,0 +1,110 @@
+//! The refusal numbers of document 01.
+
+use std::fmt;
+
+/// Why a call was refused.
+#[derive(Clone, Copy, PartialEq, Eq, PartialOrd, Ord, Hash, Debug)]
+#[repr(u8)]
+pub enum Refusal {
+    /// Under 2 bytes.
+    Short = 1,
+    /// Not 1021 to 1027.
+    Number = 2,
+    /// Not exactly the length called for, or a name counter cannot be read.
+    Length = 3,
+    /// A fill bit is set.
+    Fill = 4,
+    /// A field outside its range or width, or a wrong count of fields.
+    Range = 5,
+    /// Output shorter than the message or its row.
+    Room = 6,
+    /// A grid call on a message other than 1023 or 1024.
+    Kind = 7,
+    /// Not component 0 to 2.
+    Component = 8,
+    /// A position beyond the limits.
+    Position = 9,
+    /// The shift indicator of the component is 0.
+    Off = 10,
+    /// The interpolation method of the component is not bilinear.
+    Method = 11,
+    /// An origin field is not available.
+    Origin = 12,
+    /// A spacing is 0.
+    Spacing = 13,
+    /// The position is not on or within the grid's outer rectangle.
+    Outside = 14,
+    /// The mean, or a node of non-zero weight, is not available.
+    Absent = 15,
+    /// No slot of that key and no free slot.
+    Full = 16,
+    /// No such key, or group not 0 to 2.
+    None = 17,
+    /// The table has a wrong size or is not well formed.
+    Table = 18,
+}
+
+/// A number that is no refusal: 0, which is done, or above 18.
+#[derive(Clone, Copy, PartialEq, Eq, Debug)]
+pub struct NotARefusal(pub u8);
+
+impl Refusal {
+    /// All refusals with document 01's names, in the order of their numbers.
+    pub const ALL: [(Refusal, &'static str); 18] = [
+        (Refusal::Short, "SHORT"),
+        (Refusal::Number, "NUMBER"),
+        (Refusal::Length, "LENGTH"),
+        (Refusal::Fill, "FILL"),
+        (Refusal::Range, "RANGE"),
+        (Refusal::Room, "ROOM"),
+        (Refusal::Kind, "KIND"),
+        (Refusal::Component, "COMPONENT"),
+        (Refusal::Position, "POSITION"),
+        (Refusal::Off, "OFF"),
+        (Refusal::Method, "METHOD"),
+        (Refusal::Origin, "ORIGIN"),
+        (Refusal::Spacing, "SPACING"),
+        (Refusal::Outside, "OUTSIDE"),
+        (Refusal::Absent, "ABSENT"),
+        (Refusal::Full, "FULL"),
+        (Refusal::None, "NONE"),
+        (Refusal::Table, "TABLE"),
+    ];
+
+    /// The refusal's number, 1 to 18.
+    pub fn number(self) -> u8 {
+        self as u8
+    }
+
+    /// Document 01's name of the refusal.
+    pub fn name(self) -> &'static str {
+        Refusal::ALL[self as usize - 1].1
+    }
+}
+
+impl TryFrom<u8> for Refusal {
+    type Error = NotARefusal;
+
+    /// The refusal of a number from 1 to 18.
+    fn try_from(number: u8) -> Result<Self, NotARefusal> {
+        let place = (number as usize).checked_sub(1).ok_or(NotARefusal(number))?;
+        Refusal::ALL.get(place).map(|entry| entry.0).ok_or(NotARefusal(number))
+    }
+}
+
+impl fmt::Display for Refusal {
+    /// Document 01's name of the refusal.
+    fn fmt(&self, f: &mut fmt::Formatter) -> fmt::Result {
+        f.pad(self.name())
+    }
+}
+
+impl fmt::Display for NotARefusal {
+    /// What is wrong with the number.
+    fn fmt(&self, f: &mut fmt::Formatter) -> fmt::Result {
+        write!(f, "{} is not a refusal number", self.0)
+    }
+}
+
+impl std::error::Error for Refusal {}
+impl std::error::Error for NotARefusal {}

@@ -1,0 +1,187 @@
+//! The safe functions against numbers that document 01 prints, and against the made-up services.
+
+use std::path::{Path, PathBuf};
+use tarnoklej::*;
+
+/// The middle of document 01's grid K in steps.
+const MIDDLE: (i64, i64) = (1_764_000_000, 396_000_000);
+/// Node 1 of grid K in steps.
+const NODE_1: (i64, i64) = (1_769_400_000, 390_600_000);
+/// Node 6 of grid K in steps.
+const NODE_6: (i64, i64) = (1_765_800_000, 394_200_000);
+/// Node 16 of grid K in steps.
+const NODE_16: (i64, i64) = (1_758_600_000, 401_400_000);
+
+/// The row of grid K with all height nodes times a factor.
+fn grid_k_row(factor: i64) -> Vec<i64> {
+    let mut row = vec![1023, 7, 0, 1, 352_800, 79_200, 720, 720, 0, 0, 4_692];
+    (1..=16).for_each(|node| row.extend([0, 0, factor * node]));
+    row.extend([0; 5]);
+    row
+}
+
+/// The message of a row.
+fn written(row: &[i64]) -> Vec<u8> {
+    let mut out = vec![0; MOST_BYTES];
+    let length = write_fields(row, &mut out).expect("a sound row");
+    out.truncate(length);
+    out
+}
+
+/// The height shift of a message at a position.
+fn height(message: &[u8], (north, east): (i64, i64)) -> Result<i64, Refusal> {
+    shift_at(message, HEIGHT, north, east)
+}
+
+/// A position some steps north and east of another.
+fn moved((north, east): (i64, i64), north_steps: i64, east_steps: i64) -> (i64, i64) {
+    (north + north_steps, east + east_steps)
+}
+
+/// A folder of the repository.
+fn in_repository(name: &str) -> PathBuf {
+    Path::new(env!("CARGO_MANIFEST_DIR")).join("../..").join(name)
+}
+
+/// A 1025 of zeros with a system identification number.
+fn projection(sin: u8) -> Vec<u8> {
+    written(&[1025, sin as i64, 0, 0, 0, 0, 0, 0])
+}
+
+#[test]
+fn every_refusal_has_its_number_and_name() {
+    for (place, (refusal, name)) in Refusal::ALL.into_iter().enumerate() {
+        assert_eq!(refusal.number() as usize, place + 1);
+        assert_eq!(Refusal::try_from(refusal.number()), Ok(refusal));
+        assert_eq!(refusal.to_string(), name);
+        assert_eq!(format!("{refusal:?}").to_uppercase(), name);
+    }
+    for number in (19..=255).chain([0]) {
+        assert_eq!(Refusal::try_from(number), Err(NotARefusal(number)));
+    }
+}
+
+#[test]
+fn the_header_names_the_same_numbers() {
+    let text = std::fs::read_to_string(in_repository("include/tarnoklej.h")).expect("the header");
+    let starts: Vec<String> =
+        text.lines().map(|line| line.split([',', '/']).next().unwrap_or("").trim().to_string()).collect();
+    for (refusal, name) in Refusal::ALL {
+        let line = format!("TARNOKLEJ_{name} = {}", refusal.number());
+        assert!(starts.contains(&line), "{line}");
+    }
+}
+
+#[test]
+fn worked_shifts_are_answered() {
+    let k = written(&grid_k_row(1));
+    let negated = written(&grid_k_row(-1));
+    assert_eq!(height(&k, MIDDLE), Ok(469_285));
+    assert_eq!(height(&k, NODE_1), Ok(469_210));
+    assert_eq!(height(&k, moved(NODE_1, 1, 0)), Err(Refusal::Outside));
+    assert_eq!(height(&k, NODE_16), Ok(469_360));
+    assert_eq!(height(&k, moved(NODE_6, 0, 180_000)), Ok(469_261));
+    assert_eq!(height(&k, moved(NODE_6, 0, 179_999)), Ok(469_260));
+    assert_eq!(height(&negated, moved(NODE_6, 0, 180_000)), Ok(469_139));
+}
+
+#[test]
+fn worked_refusals_are_given() {
+    let mut row = grid_k_row(1);
+    assert_eq!(shift_at(&written(&row), NORTH_SOUTH, MIDDLE.0, MIDDLE.1), Err(Refusal::Off));
+    assert_eq!(shift_at(&written(&row), 3, MIDDLE.0, MIDDLE.1), Err(Refusal::Component));
+    assert_eq!(height(&projection(7), MIDDLE), Err(Refusal::Kind));
+    row[13 + 3 * 6] = -256;
+    assert_eq!(height(&written(&row), NODE_6), Ok(469_260));
+    assert_eq!(height(&written(&row), moved(NODE_6, 0, 1)), Err(Refusal::Absent));
+    row[6] = 0;
+    assert_eq!(height(&written(&row), MIDDLE), Err(Refusal::Spacing));
+}
+
+#[test]
+fn empty_names_make_52_bytes() {
+    let row = [[1021].as_slice(), &[0; 24]].concat();
+    let mut message = written(&row);
+    assert_eq!(read(&message), Ok(Header { number: 1021, length: 52, sin: 0 }));
+    message[51] |= 1;
+    assert_eq!(read(&message), Err(Refusal::Fill));
+    message.push(0);
+    assert_eq!(read(&message), Err(Refusal::Length));
+}
+
+#[test]
+fn longest_names_are_read_and_written() {
+    let name = [[31].as_slice(), &[255; 31]].concat();
+    for (number, others, length) in [(1021, 22, 114), (1022, 25, 127)] {
+        let row = [&[number], &name[..], &name, &vec![0; others]].concat();
+        let message = written(&row);
+        assert_eq!(message.len(), length);
+        assert_eq!(read_fields(&message), Ok(row));
+    }
+}
+
+#[test]
+fn a_short_row_or_buffer_stays_as_it_was() {
+    let message = projection(5);
+    let mut row = [-1; 7];
+    assert_eq!(read_fields_into(&message, &mut row), Err(Refusal::Room));
+    assert_eq!(row, [-1; 7]);
+    let mut out = [0xa5; 24];
+    assert_eq!(write_fields(&[1025, 5, 0, 0, 0, 0, 0, 0], &mut out), Err(Refusal::Room));
+    assert_eq!(out, [0xa5; 24]);
+}
+
+#[test]
+fn empty_slices_are_refused() {
+    assert_eq!(read(&[]), Err(Refusal::Short));
+    assert_eq!(read_fields_into(&[], &mut []), Err(Refusal::Short));
+    assert_eq!(write_fields(&[], &mut []), Err(Refusal::Range));
+    assert_eq!(shift_at(&[], 0, 0, 0), Err(Refusal::Short));
+    assert_eq!(store(&mut [], &[]), Err(Refusal::Table));
+    assert_eq!(find(&[], 0, 0), Err(Refusal::Table));
+    assert_eq!(remove(&mut [], 0, 0), Err(Refusal::Table));
+}
+
+#[test]
+fn the_33rd_key_finds_the_table_full() {
+    let mut table = [0; TABLE_SIZE];
+    (0..SLOTS as u8).for_each(|sin| store(&mut table, &projection(sin)).expect("a free slot"));
+    let before = table;
+    assert_eq!(store(&mut table, &projection(32)), Err(Refusal::Full));
+    assert_eq!(table, before);
+    assert_eq!(remove(&mut table, 9, PROJECTION), Ok(()));
+    assert_eq!(store(&mut table, &projection(32)), Ok(()));
+    assert_eq!(find(&table, 32, PROJECTION), Ok(Found { at: 9 * 128 + 1, message: &projection(32) }));
+}
+
+#[test]
+fn a_found_message_is_the_table_itself() {
+    let mut table = [0; TABLE_SIZE];
+    store(&mut table, &projection(5)).expect("a free slot");
+    let found = find(&table, 5, PROJECTION).expect("stored");
+    assert_eq!(found.message.as_ptr(), table[1..].as_ptr());
+}
+
+/// The sound messages of the made-up services.
+fn sound_services() -> Vec<Vec<u8>> {
+    let folders = std::fs::read_dir(in_repository("services")).expect("the services").flatten();
+    let files = folders.filter_map(|folder| std::fs::read_dir(folder.path()).ok()).flatten().flatten();
+    let sound =
+        |path: &PathBuf| path.file_name().is_some_and(|name| name.len() == "1021.rtcm".len() && name != "README.md");
+    files.map(|file| file.path()).filter(sound).map(|path| std::fs::read(path).expect("a message")).collect()
+}
+
+#[test]
+fn services_are_read_written_and_stored() {
+    let messages = sound_services();
+    assert_eq!(messages.len(), 12);
+    let mut table = [0; TABLE_SIZE];
+    for message in &messages {
+        let header = read(message).expect("a sound message");
+        assert_eq!(header.length, message.len());
+        assert_eq!(&written(&read_fields(message).expect("a sound message")), message);
+        assert_eq!(store(&mut table, message), Ok(()));
+        let group = [0, 0, 1, 1, 2, 2, 2][header.number as usize - 1021];
+        assert_eq!(find(&table, header.sin, group).map(|found| found.message), Ok(&message[..]));
+    }
+}

@@ -1,0 +1,79 @@
+/* shift FILE NORTH EAST: prints the shift of each component of a grid message (1023 or 1024) at a position.
+ * The position is given in degrees for 1023 and in metres for 1024.
+ * Each line is the component, the count and its value with its unit, or `refused` and the refusal's name.
+ */
+#include <math.h>
+#include <stdio.h>
+#include <stdlib.h>
+#include "tarnoklej.h"
+
+/* The most bytes of a file that are looked at: one more than the longest message has. */
+enum { LOOKED_AT = TARNOKLEJ_MOST_BYTES + 1 };
+
+static const char *const COMPONENTS[] = {"north-south", "east-west", "height"};
+
+static const char *const REFUSALS[] = {
+    "done",   "SHORT",  "NUMBER", "LENGTH",  "FILL",    "RANGE",  "ROOM", "KIND", "COMPONENT", "POSITION",
+    "OFF",    "METHOD", "ORIGIN", "SPACING", "OUTSIDE", "ABSENT", "FULL", "NONE", "TABLE",
+};
+
+/* Reads the first bytes of a file and gives their number, or -1. */
+static int read_file(const char *name, uint8_t *bytes)
+{
+    FILE *file = fopen(name, "rb");
+    if (file == NULL)
+        return -1;
+    size_t length = fread(bytes, 1, LOOKED_AT, file);
+    int failed = ferror(file);
+    fclose(file);
+    return failed ? -1 : (int)length;
+}
+
+/* Gives the whole steps nearest to a number of degrees or metres, and whether the text is such a number. */
+static int parse_steps(const char *text, double steps_in_one, int64_t *steps)
+{
+    char *end;
+    double value = strtod(text, &end) * steps_in_one;
+    if (end == text || *end != '\0' || !(fabs(value) < 9e18))
+        return 0;
+    *steps = llround(value);
+    return 1;
+}
+
+/* Prints the line of one component. */
+static void print_shift(const uint8_t *message, size_t length, uint8_t component, int64_t north, int64_t east,
+                        int in_seconds)
+{
+    tarnoklej_shift shift = tarnoklej_shift_at(message, length, component, north, east);
+    const char *name = COMPONENTS[component];
+    if (shift.refusal != TARNOKLEJ_DONE)
+        printf("%s refused %s\n", name, REFUSALS[shift.refusal]);
+    else if (in_seconds)
+        printf("%s %lld %.5f arc seconds\n", name, (long long)shift.count, (double)shift.count / 100000.0);
+    else
+        printf("%s %lld %.4f m\n", name, (long long)shift.count, (double)shift.count / 10000.0);
+}
+
+int main(int argc, char **argv)
+{
+    uint8_t message[LOOKED_AT];
+    int64_t north, east;
+    if (argc != 4) {
+        fprintf(stderr, "usage: shift FILE NORTH EAST (degrees for 1023, metres for 1024)\n");
+        return 2;
+    }
+    int length = read_file(argv[1], message);
+    if (length < 0) {
+        fprintf(stderr, "shift: cannot read %s\n", argv[1]);
+        return 2;
+    }
+    int degrees = tarnoklej_read(message, (size_t)length).number == 1023;
+    double steps_in_one = degrees ? 3600.0 * 10000.0 : 1000.0;
+    if (!parse_steps(argv[2], steps_in_one, &north) || !parse_steps(argv[3], steps_in_one, &east)) {
+        fprintf(stderr, "shift: not a position: %s %s\n", argv[2], argv[3]);
+        return 2;
+    }
+    for (uint8_t component = TARNOKLEJ_NORTH_SOUTH; component <= TARNOKLEJ_HEIGHT; component++)
+        print_shift(message, (size_t)length, component, north, east, degrees && component != TARNOKLEJ_HEIGHT);
+    return 0;
+}

@@ -1,0 +1,126 @@
+//! Compares the second program with the proved static library, call by call, on many inputs.
+
+mod messages;
+mod reading;
+mod shifting;
+mod tables;
+mod tally;
+mod writing;
+
+use second::random::Random;
+use std::process::ExitCode;
+use tally::{Progress, Tally};
+
+/// How the program is called.
+const USAGE: &str = "compare [SEED [COUNT]]: COUNT inputs for each kind of call (default: seed 1, 15,000 inputs)";
+/// The inputs for each kind of call where no count is given.
+const DEFAULT_COUNT: u64 = 15_000;
+
+/// What one input came to: the refusal number both gave, or what differed.
+pub type Compared = Result<u8, String>;
+
+/// Compares one input of a call that keeps nothing, the turn deciding which kind of input it is.
+type Single = fn(&mut Random, u64) -> Compared;
+
+/// The calls that keep nothing, with the refusal numbers each can give.
+const SINGLES: [(&str, &[u8], Single); 4] = [
+    ("read", &[0, 1, 2, 3, 4, 5], reading::compare_header),
+    ("read_fields", &[0, 1, 2, 3, 4, 5, 6], reading::compare_row),
+    ("write_fields", &[0, 5, 6], writing::compare_written),
+    ("shift_at", &[0, 1, 2, 3, 4, 5, 7, 8, 9, 10, 11, 12, 13, 14, 15], shifting::compare_shift),
+];
+
+/// The calls on a table, with the refusal numbers each can give.
+const ON_TABLES: [(&str, &[u8]); 3] =
+    [("store", &[0, 1, 2, 3, 4, 5, 16, 18]), ("find", &[0, 17, 18]), ("remove", &[0, 17, 18])];
+
+/// The refusal an answer holds and the two answers where they differ.
+pub fn same<T: PartialEq + std::fmt::Debug>(
+    refusal: u8,
+    library: T,
+    second: T,
+    input: impl Fn() -> String,
+) -> Compared {
+    if library == second {
+        Ok(refusal)
+    } else {
+        Err(format!("input {}\nlibrary {library:?}\nsecond  {second:?}", input()))
+    }
+}
+
+/// Runs one call that keeps nothing on many inputs.
+fn run_single(
+    (name, possible, compare): (&'static str, &'static [u8], Single),
+    seed: u64,
+    count: u64,
+    progress: &mut Progress,
+) -> Result<Tally, String> {
+    let mut random = Random::new(seed);
+    let mut tally = Tally::new(name, possible);
+    for turn in 0..count {
+        let refusal = compare(&mut random, turn).map_err(|difference| format!("{name}, turn {turn}: {difference}"))?;
+        tally.add(refusal);
+        progress.step();
+    }
+    Ok(tally)
+}
+
+/// Runs histories of calls on tables until each call had its inputs.
+fn run_tables(seed: u64, count: u64, progress: &mut Progress) -> Result<Vec<Tally>, String> {
+    let mut random = Random::new(seed);
+    let mut tallies = ON_TABLES.map(|(name, possible)| Tally::new(name, possible));
+    let mut history = tables::History::new(&mut random, 0);
+    for turn in 0..count {
+        if history.ended() {
+            history = tables::History::new(&mut random, turn);
+        }
+        let refusals =
+            history.turn(&mut random, turn).map_err(|difference| format!("tables, turn {turn}: {difference}"))?;
+        for (tally, refusal) in tallies.iter_mut().zip(refusals) {
+            tally.add(refusal);
+            progress.step();
+        }
+    }
+    Ok(tallies.into())
+}
+
+/// Runs every kind of call.
+fn run(seed: u64, count: u64) -> Result<Vec<Tally>, String> {
+    let mut progress = Progress::new(count * (SINGLES.len() + ON_TABLES.len()) as u64);
+    let mut seeds = Random::new(seed);
+    let mut tallies = Vec::new();
+    for single in SINGLES {
+        tallies.push(run_single(single, seeds.bits(), count, &mut progress)?);
+    }
+    tallies.extend(run_tables(seeds.bits(), count, &mut progress)?);
+    Ok(tallies)
+}
+
+/// The seed and the count from the arguments.
+fn arguments() -> Option<(u64, u64)> {
+    let words: Vec<String> = std::env::args().skip(1).collect();
+    let number = |place: usize, default: u64| words.get(place).map_or(Some(default), |word| word.parse().ok());
+    (words.len() <= 2).then_some(())?;
+    Some((number(0, 1)?, number(1, DEFAULT_COUNT)?))
+}
+
+fn main() -> ExitCode {
+    let Some((seed, count)) = arguments() else {
+        eprintln!("{USAGE}");
+        return ExitCode::from(2);
+    };
+    println!("seed {seed}, {count} inputs for each kind of call");
+    match run(seed, count) {
+        Ok(tallies) => {
+            print!("{}", tally::table(&tallies));
+            let never_met = tally::never_met(&tallies);
+            never_met.iter().for_each(|line| println!("{line}"));
+            println!("no mismatch");
+            ExitCode::from(u8::from(!never_met.is_empty()))
+        }
+        Err(difference) => {
+            println!("mismatch in {difference}");
+            ExitCode::FAILURE
+        }
+    }
+}

@@ -1,0 +1,84 @@
+//! How many inputs met each refusal number, and how far the run is.
+
+use tarnoklej::Refusal;
+
+/// The refusal numbers, 0 being done.
+const NUMBERS: usize = 19;
+
+/// The inputs of one kind of call by refusal number.
+pub struct Tally {
+    name: &'static str,
+    possible: &'static [u8],
+    met: [u64; NUMBERS],
+}
+
+impl Tally {
+    /// No inputs yet of a call and the refusal numbers it can give.
+    pub fn new(name: &'static str, possible: &'static [u8]) -> Self {
+        Tally { name, possible, met: [0; NUMBERS] }
+    }
+
+    /// Adds one input.
+    pub fn add(&mut self, refusal: u8) {
+        self.met[refusal as usize] += 1;
+    }
+}
+
+/// The name of a refusal number.
+fn name_of(number: u8) -> String {
+    Refusal::try_from(number).map_or("done".to_string(), |refusal| refusal.to_string())
+}
+
+/// The cell of a call and a refusal number, a dash where the call cannot give it.
+fn cell(tally: &Tally, number: u8) -> String {
+    let met = tally.met[number as usize];
+    if met == 0 && !tally.possible.contains(&number) {
+        return "-".to_string();
+    }
+    met.to_string()
+}
+
+/// The inputs of every call by refusal number, as a Markdown table.
+pub fn table(tallies: &[Tally]) -> String {
+    let heads: String = tallies.iter().map(|tally| format!(" {:>12} |", tally.name)).collect();
+    let rules = " ---: |".repeat(tallies.len());
+    let mut text = format!("| No. | Name      |{heads}\n| ---: | --- |{rules}\n");
+    for number in 0..NUMBERS as u8 {
+        let cells: String = tallies.iter().map(|tally| format!(" {:>12} |", cell(tally, number))).collect();
+        text += &format!("| {number:>3} | {:<9} |{cells}\n", name_of(number));
+    }
+    text
+}
+
+/// A line for each refusal number that a call can give and that no input met.
+pub fn never_met(tallies: &[Tally]) -> Vec<String> {
+    let mut lines = Vec::new();
+    for tally in tallies {
+        for &number in tally.possible.iter().filter(|&&number| tally.met[number as usize] == 0) {
+            lines.push(format!("no input of {} met {number} {}", tally.name, name_of(number)));
+        }
+    }
+    lines
+}
+
+/// How many of all inputs are done.
+pub struct Progress {
+    done: u64,
+    all: u64,
+}
+
+impl Progress {
+    /// Nothing done of a number of inputs.
+    pub fn new(all: u64) -> Self {
+        Progress { done: 0, all }
+    }
+
+    /// One more input is done, and a line is printed at every tenth of all.
+    pub fn step(&mut self) {
+        let tenths = |done: u64| done * 10 / self.all;
+        self.done += 1;
+        if tenths(self.done) > tenths(self.done - 1) {
+            eprintln!("compare: {} percent, {} inputs", tenths(self.done) * 10, self.done);
+        }
+    }
+}
