@@ -291,8 +291,8 @@ fn write_message(out: &mut [u8], layout: &[u64], values: &[i64], n: usize)
 
 // A message's values in wire order, and zeros behind them; all zero with a refusal.
 pub struct Row {
-    pub refusal: u8,
     pub values: [i64; 96],
+    pub refusal: u8,
 }
 
 fn refused(refusal: u8) -> Row

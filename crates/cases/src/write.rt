@@ -1,4 +1,4 @@
-// `NAME write ROOM V1 .. Vn`: a row written into ROOM lent bytes, which held a5.
+// `NAME write ROOM V1 .. Vn`: a row written into ROOM bytes of a5.
 use crate::output;
 use crate::output::Out;
 use crate::text;

@@ -11,7 +11,7 @@ use Rattle.table.specs.Table.{key, wellFormed, findRefusal, found}
 use Rattle.table.specs.History.{Call, number, after, afterAll, logOf, lastOf}
 use Rattle.table.specs.Dict.{entries, replies, dictReplies}
 
--- demand 2: every number and every shown byte equals that of a dictionary with at most 32 keys; what a well-formed table holds when first lent counts as stored
+-- demand 2: every number and every shown byte equals that of a dictionary with at most 32 keys; what a well-formed table holds at first counts as stored
 abbrev pub LikeADictionary : Type 0
 LikeADictionary = (t : List ℕ) → wellFormed t ≡ true → (cs : List Call) → replies t cs ≡ dictReplies (entries t) cs
 

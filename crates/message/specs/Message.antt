@@ -73,7 +73,7 @@ header s =
 unfoldable pub rowRefusal : List ℕ → ℕ → ℕ
 rowRefusal s n = first (tests s ++ ((6, ltb n (length (layout s))) ∷ []))
 
--- the row lent, after the call: the numbers in its first places, or as it was
+-- the caller's row after the call: the numbers in its first places, or as it was
 unfoldable pub rowRead : List ℕ → List ℤ → List ℤ
 rowRead s out = cond (eqb (rowRefusal s (length out)) 0) (row s ++ drop (length (row s)) out) out
 

@@ -59,9 +59,9 @@ fn layout_plan(s: &[u8]) -> Plan
 
 // A message's numbers in wire order: how many, and zeros behind them. None with a refusal.
 struct Read {
-    refusal: u8,
-    count: usize,
     values: [i64; 96],
+    count: usize,
+    refusal: u8,
 }
 
 fn refused(refusal: u8) -> Read

@@ -1,4 +1,4 @@
-// A table of messages in 4,096 lent bytes: 32 slots of a length byte and 127 message bytes.
+// A table of messages in 4,096 bytes of the caller's: 32 slots of a length byte and 127 message bytes.
 ghost use mathlib.Core.Path.{_≡_};
 ghost use Prim.Native.Nat.{suc, _≤_, _<_};
 ghost use lib.ListN.{length, getD};

@@ -1,8 +1,6 @@
--- `message::read_message` meets its contract.
--- Assumes nothing.
-use Prim.Native.Nat.{_≤_}
 -- `message::read_message` meets its contract: each return is a case of the definition.
 -- Assumes nothing.
+use Prim.Native.Nat.{_≤_}
 use mathlib.Core.Path.{_≡_, sym, ap, _∙_}
 use native.Mathlib.Omega.{arith}
 use Rattle.message.proofs.Head.{refused-head, head-passed, no-row, row-of}

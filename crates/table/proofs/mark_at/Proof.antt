@@ -1,4 +1,4 @@
--- `table::mark_at` meets its contract: the part lent is the slot.
+-- `table::mark_at` meets its contract: the part it reads is the slot.
 -- Assumes nothing.
 use mathlib.Core.Path.{ap, _∙_}
 use Rattle.table.specs.Marks.{mark, markAt}
