@@ -198,7 +198,7 @@ fn fixed_plan(table: &[u64]) -> Plan
 }
 
 // The layout of a number, with names of n and m characters where it carries names.
-pub fn plan_of(number: u64, n: usize, m: usize) -> Plan
+pub(crate) fn plan_of(number: u64, n: usize, m: usize) -> Plan
     requires { ⌜ (n ≤ 31) × (m ≤ 31) ⌝ }
     ensures { λ r. ⌜ (r .count ≡ length (layoutOf number n m)) × ((length (r .entries) ≡ 96) × (take (r .count) (r .entries) ≡ layoutOf number n m)) ⌝ }
 {
