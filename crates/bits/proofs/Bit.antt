@@ -143,6 +143,19 @@ pub field-step : (s : List ℕ) (p k m : ℕ) → m ≤ 8 - (p + k) % 8
 field-step s p k m h =
     rw (← field-in s (p + k) m (8 - (p + k) % 8 - m) (omega arith)) (sym (field-add s p k m))
 
+-- one more whole byte behind i of them
+pub byte-step : (s : List ℕ) (q i : ℕ) → field s (8 * q) (8 * i) * 2 ^ 8 + getD s (q + i) 0 / 2 ^ 0 % 2 ^ 8 ≡ field s (8 * q) (8 * i + 8)
+byte-step s q i =
+    let at : (8 * q + 8 * i) / 8 ≡ q + i = omega arith in
+    let below : 8 - (8 * q + 8 * i) % 8 - 8 ≡ 0 = omega arith in
+    rw (at, below) at (field-step s (8 * q) (8 * i) 8 (omega arith))
+
+-- the w bits that have r bits below them and o above them
+pub field-part : (s : List ℕ) (p o w r : ℕ) → field s p (o + w + r) / 2 ^ r % 2 ^ w ≡ field s (p + o) w
+field-part s p o w r =
+    rw (field-add s p (o + w) r, high (field s p (o + w)) r (field-lt s (p + (o + w)) r), field-add s p o w)
+    (low (field s p o) w (field-lt s (p + o) w))
+
 pub field-room : (s : List ℕ) (p k m n : ℕ) → k + m ≤ n → field s p k * 2 ^ m + 2 ^ m ≤ 2 ^ n
 field-room s p k m n h =
     let a : suc (field s p k) * 2 ^ m ≤ 2 ^ k * 2 ^ m = mul-le-mul-right (2 ^ m) (field-lt s p k) in

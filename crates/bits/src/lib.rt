@@ -51,6 +51,32 @@ fn read_bits(s: &[u8], p: usize, w: usize) -> u64
     r
 }
 
+// The 32 bits of s from byte q on.
+fn four_bytes(s: &[u8], q: usize) -> u64
+    requires { ⌜ (q + 4 ≤ length (now s)) × (q ≤ 8192) ⌝ }
+    ensures { λ r. ⌜ r ≡ field (now (s .entry)) (8 * q) 32 ⌝ }
+{
+    let a = join_bits(0, s[q], 0, 8);
+    let b = join_bits(a, s[q + 1], 0, 8);
+    let c = join_bits(b, s[q + 2], 0, 8);
+    join_bits(c, s[q + 3], 0, 8)
+}
+
+// The number in the w bits of s from bit p on, by one load where they stand in four bytes.
+fn read_field(s: &[u8], p: usize, w: usize) -> u64
+    requires { ⌜ (w ≤ 63) × ((p + w ≤ 8 * length (now s)) × (p ≤ 65536)) ⌝ }
+    ensures { λ r. ⌜ r ≡ field (now (s .entry)) p w ⌝ }
+{
+    let q = p / 8;
+    let o = p % 8;
+    if q + 4 <= s.len() {
+        if o + w <= 32 {
+            return four_bytes(s, q) / pow2(32 - o - w) % pow2(w);
+        }
+    }
+    read_bits(s, p, w)
+}
+
 // The number in the w bits of s from bit p on; 0 where they do not all stand in s.
 pub fn field_at(s: &[u8], p: usize, w: usize) -> u64
     ensures { λ r. ⌜ r ≡ fieldAt (now (s .entry)) p w ⌝ }
@@ -64,7 +90,7 @@ pub fn field_at(s: &[u8], p: usize, w: usize) -> u64
     if s.len() < (p + w + 7) / 8 {
         return 0;
     }
-    read_bits(s, p, w)
+    read_field(s, p, w)
 }
 
 // The pattern u of w bits as two's complement.
@@ -136,7 +162,7 @@ fn read_value(s: &[u8], p: usize, e: u64) -> i64
     ensures { λ r. ⌜ r ≡ value (signed e) (width e) (field (now (s .entry)) p (width e)) ⌝ }
 {
     let w = (e % 64) as usize;
-    let u = read_bits(s, p, w);
+    let u = read_field(s, p, w);
     if e / 64 % 2 == 1 {
         return signed_of(u, w);
     }

@@ -23,7 +23,7 @@ returns-3 c = let a = c .before .before .before .before .args in rw (le-leb (a .
 
 returns-4 : tie.Need-returns-4
 unfolding fieldAt
-returns-4 c = let a = c .before .before .before .before .before .args in rw (le-leb (a .w) 63 (c .before .before .before .if1 .left), le-leb (a .p) 65535 (c .before .before .if2 .left), le-leb (a .p + a .w) (8 * length (a .s .now)) (omega arith)) (c .read-bits .ensures)
+returns-4 c = let a = c .before .before .before .before .before .args in rw (le-leb (a .w) 63 (c .before .before .before .if1 .left), le-leb (a .p) 65535 (c .before .before .if2 .left), le-leb (a .p + a .w) (8 * length (a .s .now)) (omega arith)) (c .read-field .ensures)
 
 pub field-at-spec : {M : Type 1} → statement M
 field-at-spec =

@@ -21,20 +21,20 @@ low : (s : List ℕ) (p e u : ℕ) → u ≡ field s p (width e) → u < 2 ^ 63
 low s p e u h = omega (arith, field-lt s p (width e), pow-mono {i = width e} {j = 63} (omega arith))
 
 signed-of-requires : tie.Need-signed-of-requires
-signed-of-requires c κs = (omega arith, rw (c .before .read-bits .ensures) (field-lt _ _ _))
+signed-of-requires c κs = (omega arith, rw (c .before .read-field .ensures) (field-lt _ _ _))
 
 returns : tie.Need-returns
 returns c =
     let s = c .before .before .before .before in
-    toZ-ofZ w64 _ (record { sfits = c .signed-of .ok }) ∙ c .signed-of .ensures ∙ rw (c .before .before .read-bits .ensures, eq-eqb _ _ (c .before .if1 .taken))
+    toZ-ofZ w64 _ (record { sfits = c .signed-of .ok }) ∙ c .signed-of .ensures ∙ rw (c .before .before .read-field .ensures, eq-eqb _ _ (c .before .if1 .taken))
 
 cast-result : tie.Need-cast-result
-cast-result c = let s = c .before .before .before in record { sfits = low (s .args .s .now) (s .args .p) (s .args .e) (c .before .read-bits .result) (c .before .read-bits .ensures) }
+cast-result c = let s = c .before .before .before in record { sfits = low (s .args .s .now) (s .args .p) (s .args .e) (c .before .read-field .result) (c .before .read-field .ensures) }
 
 returns-2 : tie.Need-returns-2
 returns-2 c =
     let s = c .before .before .before in
-    rw (ne-eqb _ _ (c .if1 .left)) (toZ-pos w64 _ (low (s .args .s .now) (s .args .p) (s .args .e) (c .before .read-bits .result) (c .before .read-bits .ensures)) ∙ ap pos (c .before .read-bits .ensures))
+    rw (ne-eqb _ _ (c .if1 .left)) (toZ-pos w64 _ (low (s .args .s .now) (s .args .p) (s .args .e) (c .before .read-field .result) (c .before .read-field .ensures)) ∙ ap pos (c .before .read-field .ensures))
 
 pub read-value-spec : {M : Type 1} → statement M
 read-value-spec =
