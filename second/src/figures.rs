@@ -278,18 +278,20 @@ fn mark(drawing: &mut Drawing, panel: &Panel, x: i32, words: &[&str], stand: Sta
 
 /// The drawing of the rounding.
 fn rounding() -> String {
-    let mut drawing = Drawing::new(720);
+    let mut drawing = Drawing::new(740);
     drawing.words((30, 36), 18, INK, Stand::Start, "Rounding of the exact mean of the nodes: halves go away from zero");
     drawing.words((30, 60), 13, GREY, Stand::Start, "A full end belongs to its bar, an open end does not.");
     drawing.words((30, 78), 13, GREY, Stand::Start, "The mean of grid K, 469,200 counts, is added afterwards.");
-    let above = Panel { middle: 60.5, top: 110 };
+    let scale = "P6 is not drawn to scale: it lies 1/360,000 of a count below the half.";
+    drawing.words((30, 96), 13, GREY, Stand::Start, scale);
+    let above = Panel { middle: 60.5, top: 130 };
     draw_panel(&mut drawing, &above, "Above zero", 59..=62);
     let at_half = above.x(60.5);
     mark(&mut drawing, &above, at_half + 1, &["P5: 60.5 gives 61,", "so 469,261"], Stand::Start);
     mark(&mut drawing, &above, at_half - 8, &["P6: one step less gives 60,", "so 469,260"], Stand::End);
-    let zero = Panel { middle: 0.0, top: 340 };
+    let zero = Panel { middle: 0.0, top: 360 };
     draw_panel(&mut drawing, &zero, "Around zero", -2..=2);
-    let below = Panel { middle: -60.5, top: 530 };
+    let below = Panel { middle: -60.5, top: 550 };
     draw_panel(&mut drawing, &below, "Below zero", -62..=-59);
     let at_half = below.x(-60.5);
     mark(&mut drawing, &below, at_half, &["P7: −60.5 gives −61, so 469,139"], Stand::Middle);
