@@ -1,4 +1,9 @@
-/* Plain C baselines for message 1023 and for a table, with the answers of include/tarnoklej.h. */
+/* Plain C baselines for message 1023 and for a table of such messages, with the answers of include/tarnoklej.h but for
+ * these:
+ * a message, a row or a table's slot of any other number is refused (NUMBER, RANGE, TABLE);
+ * a node of the cell that is not available is refused (ABSENT) also where it has no weight;
+ * the weighted mean is a double before it is rounded, so that a count at or near a half can be another.
+ */
 #ifndef BASELINE_H
 #define BASELINE_H
 #include "tarnoklej.h"

@@ -1,5 +1,5 @@
 /* Prints how long the library takes for each call beside plain C, as a Markdown table.
- * Every call is checked to give the same answers in all of them before it is timed.
+ * Before a call is timed, its whole answer is compared in all of them.
  */
 #include <math.h>
 #include <stdio.h>
@@ -10,12 +10,16 @@
 
 /* The messages that are gone through in turn, and the positions for each. */
 enum { MESSAGES = 32, POSITIONS = 100 };
+/* The turns whose answers are compared: every message with every component and position. */
+enum { TURNS_CHECKED = MESSAGES * POSITIONS * 3 };
 /* The passes over all calls, the rounds of a pass, of all of which the fastest counts, and the shortest round in seconds. */
 enum { PASSES = 5, ROUNDS = 3 };
 static const double SHORTEST_ROUND = 0.006;
 
 static int64_t rows[MESSAGES][ROW];
 static uint8_t messages[MESSAGES][BYTES];
+/* The same messages with another day (DF051). */
+static uint8_t of_other_day[MESSAGES][BYTES];
 static int64_t positions[MESSAGES][POSITIONS][2];
 static uint8_t table[TARNOKLEJ_TABLE_SIZE];
 
@@ -34,10 +38,11 @@ static const baseline LIBRARY = {"library",          tarnoklej_read,    tarnokle
 enum { TIMED = 4 };
 static const baseline *const ALL[TIMED] = {&LIBRARY, &BIT_BY_BIT, &ONE_LOAD, &UNCHECKED};
 
-/* A call to time: makes one call in a turn and gives something of its answer. */
+/* A call to time: makes the call of a turn and gives something of its answer, or whether the whole is the library's. */
 typedef struct {
     const char *name;
     uint64_t (*run)(const baseline *by, size_t turn, size_t size);
+    int (*same)(const baseline *by, size_t turn, size_t size);
     size_t size;    /* positions for each message, or slots in use */
     size_t answers; /* answers of one call */
     int on_table;
@@ -50,6 +55,15 @@ static uint64_t run_read(const baseline *by, size_t turn, size_t size)
     return header.refusal + header.sin + header.length;
 }
 
+static int same_read(const baseline *by, size_t turn, size_t size)
+{
+    (void)size;
+    tarnoklej_header one = LIBRARY.read(messages[turn % MESSAGES], BYTES);
+    tarnoklej_header other = by->read(messages[turn % MESSAGES], BYTES);
+    return one.refusal == other.refusal && one.number == other.number && one.sin == other.sin &&
+           one.length == other.length;
+}
+
 static uint64_t run_row(const baseline *by, size_t turn, size_t size)
 {
     (void)size;
@@ -58,12 +72,30 @@ static uint64_t run_row(const baseline *by, size_t turn, size_t size)
     return refusal + (uint64_t)row[turn % ROW];
 }
 
+static int same_row(const baseline *by, size_t turn, size_t size)
+{
+    (void)size;
+    int64_t one[ROW] = {0}, other[ROW] = {0};
+    uint8_t refusal = LIBRARY.read_fields(messages[turn % MESSAGES], BYTES, one, ROW);
+    return refusal == by->read_fields(messages[turn % MESSAGES], BYTES, other, ROW) &&
+           memcmp(one, other, sizeof one) == 0;
+}
+
 static uint64_t run_write(const baseline *by, size_t turn, size_t size)
 {
     (void)size;
     uint8_t out[BYTES];
     tarnoklej_written written = by->write_fields(rows[turn % MESSAGES], ROW, out, BYTES);
     return written.refusal + written.length + out[turn % BYTES];
+}
+
+static int same_write(const baseline *by, size_t turn, size_t size)
+{
+    (void)size;
+    uint8_t one[BYTES] = {0}, other[BYTES] = {0};
+    tarnoklej_written written = LIBRARY.write_fields(rows[turn % MESSAGES], ROW, one, BYTES);
+    tarnoklej_written again = by->write_fields(rows[turn % MESSAGES], ROW, other, BYTES);
+    return written.refusal == again.refusal && written.length == again.length && memcmp(one, other, sizeof one) == 0;
 }
 
 static uint64_t run_shift(const baseline *by, size_t turn, size_t size)
@@ -79,30 +111,79 @@ static uint64_t run_shift(const baseline *by, size_t turn, size_t size)
     return shifts[0].refusal + (uint64_t)shifts[turn % size].count;
 }
 
+/* Whether two shifts are the same. */
+static int same_count(tarnoklej_shift one, tarnoklej_shift other)
+{
+    return one.refusal == other.refusal && one.count == other.count;
+}
+
+static int same_shift(const baseline *by, size_t turn, size_t size)
+{
+    size_t i = turn % MESSAGES;
+    uint8_t component = (uint8_t)(turn % 3);
+    if (size == 1) {
+        const int64_t *at = positions[i][turn % POSITIONS];
+        return same_count(LIBRARY.shift_at(messages[i], BYTES, component, at[0], at[1]),
+                          by->shift_at(messages[i], BYTES, component, at[0], at[1]));
+    }
+    tarnoklej_shift one[POSITIONS], other[POSITIONS];
+    LIBRARY.shifts_at(messages[i], BYTES, component, (const int64_t(*)[2])positions[i], size, one);
+    by->shifts_at(messages[i], BYTES, component, (const int64_t(*)[2])positions[i], size, other);
+    int same = 1;
+    for (size_t j = 0; j < size; j++)
+        same = same && same_count(one[j], other[j]);
+    return same;
+}
+
 static uint64_t run_find(const baseline *by, size_t turn, size_t size)
 {
     tarnoklej_found found = by->find(table, sizeof table, (uint8_t)(turn % size), TARNOKLEJ_GRID);
     return found.refusal + found.at + found.length;
 }
 
+static int same_find(const baseline *by, size_t turn, size_t size)
+{
+    uint8_t sin = (uint8_t)(turn % size);
+    tarnoklej_found one = LIBRARY.find(table, sizeof table, sin, TARNOKLEJ_GRID);
+    tarnoklej_found other = by->find(table, sizeof table, sin, TARNOKLEJ_GRID);
+    return one.refusal == other.refusal && one.at == other.at && one.length == other.length;
+}
+
+/* The message that is stored in a turn: of each key in turn, and of another day than the one in the slot. */
+static const uint8_t *stored_in(size_t turn, size_t size)
+{
+    return (turn / size % 2 == 0 ? of_other_day : messages)[turn % size];
+}
+
 static uint64_t run_store(const baseline *by, size_t turn, size_t size)
 {
-    return by->store(table, sizeof table, messages[turn % size], BYTES) + table[turn % sizeof table];
+    return by->store(table, sizeof table, stored_in(turn, size), BYTES) + table[turn % sizeof table];
+}
+
+/* The store must also change the table. */
+static int same_store(const baseline *by, size_t turn, size_t size)
+{
+    uint8_t before[TARNOKLEJ_TABLE_SIZE], other[TARNOKLEJ_TABLE_SIZE];
+    memcpy(before, table, sizeof table);
+    memcpy(other, table, sizeof table);
+    uint8_t refusal = LIBRARY.store(table, sizeof table, stored_in(turn, size), BYTES);
+    return refusal == by->store(other, sizeof other, stored_in(turn, size), BYTES) &&
+           memcmp(table, other, sizeof table) == 0 && memcmp(table, before, sizeof table) != 0;
 }
 
 static const call CALLS[] = {
-    {"read, header of a 1023", run_read, 0, 1, 0},
-    {"read_fields, row of a 1023", run_row, 0, 1, 0},
-    {"write_fields, a 1023", run_write, 0, 1, 0},
-    {"shift_at, 1 position of a message", run_shift, 1, 1, 0},
-    {"shift_at, each of 10 positions of a message", run_shift, 10, 10, 0},
-    {"shift_at, each of 100 positions of a message", run_shift, 100, 100, 0},
-    {"find, 1 slot in use", run_find, 1, 1, 1},
-    {"find, 8 slots in use", run_find, 8, 1, 1},
-    {"find, 32 slots in use", run_find, 32, 1, 1},
-    {"store (replaces), 1 slot in use", run_store, 1, 1, 1},
-    {"store (replaces), 8 slots in use", run_store, 8, 1, 1},
-    {"store (replaces), 32 slots in use", run_store, 32, 1, 1},
+    {"read, header of a 1023", run_read, same_read, 0, 1, 0},
+    {"read_fields, row of a 1023", run_row, same_row, 0, 1, 0},
+    {"write_fields, a 1023", run_write, same_write, 0, 1, 0},
+    {"shift_at, 1 position of a message", run_shift, same_shift, 1, 1, 0},
+    {"shift_at, each of 10 positions of a message", run_shift, same_shift, 10, 10, 0},
+    {"shift_at, each of 100 positions of a message", run_shift, same_shift, 100, 100, 0},
+    {"find, 1 slot in use", run_find, same_find, 1, 1, 1},
+    {"find, 8 slots in use", run_find, same_find, 8, 1, 1},
+    {"find, 32 slots in use", run_find, same_find, 32, 1, 1},
+    {"store (replaces), 1 slot in use", run_store, same_store, 1, 1, 1},
+    {"store (replaces), 8 slots in use", run_store, same_store, 8, 1, 1},
+    {"store (replaces), 32 slots in use", run_store, same_store, 32, 1, 1},
 };
 
 enum { CALL_COUNT = sizeof CALLS / sizeof *CALLS };
@@ -133,7 +214,16 @@ static void make_row(int64_t *row, int sin)
     memcpy(row, first, sizeof first);
     for (int node = 0; node < 48; node++)
         row[11 + node] = within(-255, 255);
+    row[61] = within(0, 7);
+    row[62] = within(0, 7);
     row[63] = within(0, 65535);
+}
+
+/* Makes the message of a row. */
+static void make_message(const int64_t *row, uint8_t *message)
+{
+    if (tarnoklej_write_fields(row, ROW, message, BYTES).refusal != TARNOKLEJ_DONE)
+        stop("a row was refused", "inputs");
 }
 
 /* Makes all messages and positions. */
@@ -141,8 +231,11 @@ static void make_inputs(void)
 {
     for (int i = 0; i < MESSAGES; i++) {
         make_row(rows[i], i);
-        if (tarnoklej_write_fields(rows[i], ROW, messages[i], BYTES).refusal != TARNOKLEJ_DONE)
-            stop("a row was refused", "inputs");
+        make_message(rows[i], messages[i]);
+        int64_t other[ROW];
+        memcpy(other, rows[i], sizeof other);
+        other[63] ^= 1;
+        make_message(other, of_other_day[i]);
         for (int j = 0; j < POSITIONS; j++)
             for (int axis = 0; axis < 2; axis++) {
                 int64_t reach = rows[i][6 + axis] * 5000 / 2 * 3;
@@ -171,9 +264,9 @@ static void check_answers(const call *c, double *nanoseconds)
 {
     for (int k = 0; k < TIMED; k++)
         nanoseconds[k] = HUGE_VAL;
-    for (size_t turn = 0; turn < MESSAGES * POSITIONS; turn++)
-        for (int k = 1; k < TIMED; k++)
-            if (has(ALL[k], c) && c->run(ALL[k], turn, c->size) != c->run(&LIBRARY, turn, c->size))
+    for (int k = 1; k < TIMED; k++)
+        for (size_t turn = 0; has(ALL[k], c) && turn < TURNS_CHECKED; turn++)
+            if (!c->same(ALL[k], turn, c->size))
                 stop("another answer than the library's", c->name);
 }
 
