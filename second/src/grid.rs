@@ -5,27 +5,27 @@ use crate::message::{read, Message};
 use crate::refusal::Refusal;
 
 /// What differs between the ellipsoidal grid of 1023 and the plane grid of 1024.
-struct Plan {
+pub struct Plan {
     /// Origin north and east.
-    origin: [u16; 2],
+    pub origin: [u16; 2],
     /// Spacing north and east.
-    spacing: [u16; 2],
+    pub spacing: [u16; 2],
     /// The means of the three components.
-    mean: [u16; 3],
+    pub mean: [u16; 3],
     /// The nodes of the three components.
-    node: [u16; 3],
+    pub node: [u16; 3],
     /// Steps in one raw unit of origin and spacing.
-    steps: i128,
+    pub steps: i128,
     /// The greatest position north and east without sign, in steps.
-    farthest: [i128; 2],
+    pub farthest: [i128; 2],
     /// Counts in one raw unit of each mean.
-    mean_factor: [i128; 3],
+    pub mean_factor: [i128; 3],
     /// Counts in one raw unit of each node.
-    node_factor: [i128; 3],
+    pub node_factor: [i128; 3],
 }
 
 /// Message 1023: steps of 0.0001 arc second, counts of 0.00001 arc second or 0.1 mm.
-const ELLIPSOIDAL: Plan = Plan {
+pub const ELLIPSOIDAL: Plan = Plan {
     origin: [192, 193],
     spacing: [194, 195],
     mean: [196, 197, 198],
@@ -37,7 +37,7 @@ const ELLIPSOIDAL: Plan = Plan {
 };
 
 /// Message 1024: steps of 1 mm, counts of 0.1 mm, the means DF206 and DF207 being 0.01 m (decision D6).
-const PLANE: Plan = Plan {
+pub const PLANE: Plan = Plan {
     origin: [202, 203],
     spacing: [204, 205],
     mean: [206, 207, 208],

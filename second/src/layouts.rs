@@ -1,5 +1,7 @@
 //! The contents of messages 1021 to 1027, in the order of tables 3.5-24 to 3.5-30 of source document 000.
 
+use crate::fields::by_df;
+
 /// One entry of a message table.
 #[derive(Clone, Copy, Debug)]
 pub enum Part {
@@ -122,4 +124,9 @@ pub fn fields_in_order(number: u16, names: [usize; 2]) -> Vec<u16> {
         }
     }
     order
+}
+
+/// The bits of a message with empty names.
+pub fn bits_without_names(number: u16) -> u32 {
+    fields_in_order(number, [0, 0]).iter().map(|&df| by_df(df).width).sum()
 }

@@ -1,7 +1,7 @@
 //! Compares the field table and the layouts with the text of source document 000.
 
-use crate::fields::{by_df, Field, FIELDS};
-use crate::layouts::{layout, Part, NUMBERS};
+use crate::fields::{by_df, Field, Kind, FIELDS};
+use crate::layouts::{bits_without_names, layout, Part, NUMBERS};
 
 /// Data types whose limits table 3.3-1 prints wrongly (decisions D1 to D3).
 const MISPRINTED_TYPES: [&str; 3] = ["int25", "int26", "uint14"];
@@ -10,6 +10,7 @@ const MISPRINTED_TYPES: [&str; 3] = ["int25", "int26", "uint14"];
 pub fn differences(text: &str) -> Vec<String> {
     let mut found = field_differences(text);
     found.extend(message_differences(text));
+    found.extend(total_differences(text));
     found.extend(type_differences(text));
     found
 }
@@ -105,6 +106,56 @@ fn message_differences(text: &str) -> Vec<String> {
         for cells in &rows {
             found.extend(entry_difference(number, cells));
         }
+        found.extend(points_difference(text, number));
+    }
+    found
+}
+
+/// The three data fields that a message has for each of sixteen points, if it has them.
+fn points(number: u16) -> Option<[u16; 3]> {
+    layout(number as i64).expect("a known number").iter().find_map(|part| match *part {
+        Part::SixteenPoints(three) => Some(three),
+        _ => None,
+    })
+}
+
+/// The number of bits that a message table prints beside a field: none for the points, whose bits stand above them.
+fn printed_width(number: u16, field: &Field) -> String {
+    match field.df {
+        144 => "8*N".to_string(),
+        146 => "8*M".to_string(),
+        df if points(number).is_some_and(|three| three.contains(&df)) => String::new(),
+        _ => field.width.to_string(),
+    }
+}
+
+/// Compares the line that gives the bits of all points of a message.
+fn points_difference(text: &str, number: u16) -> Option<String> {
+    let [a, b, c] = points(number)?.map(|df| by_df(df).width);
+    let expected = format!("16*({a}+{b}+{c})");
+    let printed = message_table(text, number).iter().any(|cells| cells.get(3) == Some(&expected.as_str()));
+    (!printed).then(|| format!("message {number}: 000 does not print {expected}"))
+}
+
+/// Whether a line that begins with a word has a cell in a column.
+fn prints(lines: &[Vec<&str>], first: &str, column: usize, cell: &str) -> bool {
+    lines.iter().any(|cells| cells[0] == first && cells.get(column).is_some_and(|printed| plain(printed) == cell))
+}
+
+/// Differences between the totals of bits (message tables) and of bytes (table 3.2-1) and our layouts.
+fn total_differences(text: &str) -> Vec<String> {
+    let lines: Vec<Vec<&str>> = text.lines().map(|line| line.split('\t').collect()).collect();
+    let mut found = Vec::new();
+    for number in NUMBERS {
+        let (bits_of_names, bytes_of_names) = if number < 1023 { ("+8*N+8*M", "+N+M") } else { ("", "") };
+        let bits = format!("{}{bits_of_names}", bits_without_names(number));
+        let bytes = format!("{}{bytes_of_names}", f64::from(bits_without_names(number)) / 8.0);
+        if !prints(&message_table(text, number), "TOTAL", 3, &bits) {
+            found.push(format!("message {number}: 000 does not print {bits} bits"));
+        }
+        if !prints(&lines, &number.to_string(), 2, &bytes) {
+            found.push(format!("message {number}: table 3.2-1 does not print {bytes} bytes"));
+        }
     }
     found
 }
@@ -113,7 +164,7 @@ fn message_differences(text: &str) -> Vec<String> {
 fn entry_difference(number: u16, cells: &[&str]) -> Option<String> {
     let field: &Field = by_df(df_number(cells[1])?);
     let right_type = type_name(cells[2]) == field.data_type();
-    let right_width = cells[3].is_empty() || cells[3].starts_with("8*") || cells[3] == field.width.to_string();
+    let right_width = cells[3] == printed_width(number, field);
     let right_name = cells[0].ends_with(field.name);
     (!(right_type && right_width && right_name)).then(|| format!("message {number}: 000 prints {cells:?}"))
 }
@@ -121,16 +172,39 @@ fn entry_difference(number: u16, cells: &[&str]) -> Option<String> {
 /// Differences between the limits of table 3.3-1 and the widths, besides the known misprints.
 fn type_differences(text: &str) -> Vec<String> {
     let mut found = Vec::new();
-    for field in FIELDS.iter().filter(|f| !f.printed_range.is_empty() || f.df < 143) {
-        let name = field.data_type();
-        let Some(cells) = type_line(text, &name) else { continue };
-        let digits: String = cells[2].rsplit("to").next().unwrap_or("").chars().filter(char::is_ascii_digit).collect();
-        let agrees = digits == field.width_greatest().to_string();
-        if agrees == MISPRINTED_TYPES.contains(&name.as_str()) {
+    for field in FIELDS {
+        let name = type_in_table(field);
+        let Some(cells) = type_line(text, &name) else {
+            found.push(format!("table 3.3-1 has no line for {name} (DF{})", field.df));
+            continue;
+        };
+        if right_limits(field, cells[2]) == MISPRINTED_TYPES.contains(&name.as_str()) {
             found.push(format!("table 3.3-1 prints {} for {name}", cells[2]));
         }
     }
     found
+}
+
+/// The name of a field's data type in table 3.3-1.
+fn type_in_table(field: &Field) -> String {
+    match field.kind {
+        Kind::Bits => "bit(n)".to_string(),
+        Kind::Character => "char8(n)".to_string(),
+        Kind::Unsigned | Kind::Signed => field.data_type(),
+    }
+}
+
+/// Whether the range that table 3.3-1 prints is that of the field's width.
+fn right_limits(field: &Field, printed: &str) -> bool {
+    let digits = |text: &str| text.chars().filter(char::is_ascii_digit).collect::<String>();
+    match field.kind {
+        Kind::Bits => printed == "0 or 1, each bit",
+        Kind::Character => printed == "character set",
+        Kind::Unsigned => {
+            plain(printed).starts_with("0to") && digits(printed) == format!("0{}", field.width_greatest())
+        }
+        Kind::Signed => plain(printed).starts_with('±') && digits(printed) == field.width_greatest().to_string(),
+    }
 }
 
 /// The line of a data type in table 3.3-1.

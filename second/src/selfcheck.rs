@@ -1,7 +1,7 @@
 //! The second program's own checks, against numbers that the papers print.
 
-use crate::fields::{by_df, Field, Kind, FIELDS};
-use crate::layouts::{fields_in_order, NUMBERS};
+use crate::fields::{Field, Kind, FIELDS};
+use crate::layouts::{bits_without_names, fields_in_order, NUMBERS};
 use crate::message::{read, read_kind, write_row, KINDS};
 use crate::random::Random;
 use crate::record::{record_of, write_record};
@@ -47,20 +47,13 @@ pub fn groups() -> Vec<Group> {
     groups
 }
 
-/// The bits of a message with empty names.
-fn bits(number: u16) -> u32 {
-    fields_in_order(number, [0, 0]).iter().map(|&df| by_df(df).width).sum()
-}
-
-/// Bits and bytes that tables 3.2-1 and 3.5-24 to 3.5-30 and document 01 print.
+/// Bits and bytes that tables 3.5-24 to 3.5-30 and document 01 print.
 fn totals() -> Group {
     let mut group = Group::new("totals of bits and bytes");
     let printed = [412, 517, 578, 590, 196, 234, 258];
-    let eighths_of_bytes = [51_500, 64_625, 72_250, 73_750, 24_500, 29_250, 32_250];
     let lengths = [52, 65, 73, 74, 25, 30, 33];
     for (i, number) in NUMBERS.into_iter().enumerate() {
-        group.equal("bits", bits(number), printed[i]);
-        group.equal("thousandths of bytes", bits(number) * 125, eighths_of_bytes[i]);
+        group.equal("bits", bits_without_names(number), printed[i]);
         group.equal("bytes", Sample::zeros(number).bytes().len(), lengths[i]);
     }
     let longest = [b'x'; 31];
@@ -70,7 +63,7 @@ fn totals() -> Group {
 }
 
 /// A decimal number as printed, in units of a billionth.
-fn billionths(printed: &str) -> i128 {
+pub fn billionths(printed: &str) -> i128 {
     let text: String = printed.chars().filter(|c| c.is_ascii_digit() || *c == '.').collect();
     let (whole, part) = text.split_once('.').unwrap_or((&text, ""));
     format!("{whole}{part:0<9}").parse().expect("a decimal number")

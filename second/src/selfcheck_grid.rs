@@ -1,15 +1,56 @@
 //! The second program's own checks of the shift.
 
-use crate::grid::{answer, nearest, shift, Answer};
+use crate::fields::by_df;
+use crate::grid::{answer, nearest, shift, Answer, Plan, ELLIPSOIDAL, PLANE};
 use crate::gridsamples::Grid;
 use crate::random::Random;
 use crate::refusal::Refusal;
-use crate::selfcheck::Group;
+use crate::selfcheck::{billionths, Group};
 use crate::vectors::shifts::random_grid;
 
 /// All groups of checks of the shift.
 pub fn groups() -> Vec<Group> {
-    vec![worked(), second_answer(), rounding(), at_nodes(), bounded_change()]
+    vec![factors(), worked(), second_answer(), rounding(), at_nodes(), bounded_change()]
+}
+
+/// The unit of a number as printed.
+fn unit(printed: &str) -> &str {
+    printed.trim_start_matches(|c: char| c.is_ascii_digit() || c == '.' || c == ' ')
+}
+
+/// How often a step or a count goes into the printed resolution of a field, if the units agree and nothing is left.
+fn in_one_raw_unit(df: u16, part: &str) -> Option<i128> {
+    let resolution = by_df(df).printed_resolution;
+    let (whole, part_of_it) = (billionths(resolution), billionths(part));
+    (unit(resolution) == unit(part) && whole % part_of_it == 0).then_some(whole / part_of_it)
+}
+
+/// Checks the steps and factors of a plan whose data fields begin with the one given.
+fn check_plan(group: &mut Group, plan: &Plan, first: u16, step: &str, counts: [&str; 3]) {
+    for (place, df) in (first..first + 4).enumerate() {
+        group.equal("position field", [plan.origin, plan.spacing].concat()[place], df);
+        group.equal(&format!("steps of DF{df}"), Some(plan.steps), in_one_raw_unit(df, step));
+    }
+    for (component, count) in counts.into_iter().enumerate() {
+        let [mean, node] = [4, 7].map(|behind| first + behind + component as u16);
+        group.equal("mean and node field", [plan.mean[component], plan.node[component]], [mean, node]);
+        group.equal(&format!("DF{mean}"), Some(plan.mean_factor[component]), in_one_raw_unit(mean, count));
+        group.equal(&format!("DF{node}"), Some(plan.node_factor[component]), in_one_raw_unit(node, count));
+    }
+}
+
+/// Steps and factors against the resolutions that 000 prints, over document 01's steps and counts.
+fn factors() -> Group {
+    let mut group = Group::new("steps and factors against printed resolutions");
+    let seconds = "0.00001 [\"]";
+    let tenth_of_millimetre = "0.0001 m";
+    check_plan(&mut group, &ELLIPSOIDAL, 192, "0.0001 [\"]", [seconds, seconds, tenth_of_millimetre]);
+    check_plan(&mut group, &PLANE, 202, "0.001 m", [tenth_of_millimetre; 3]);
+    for (number, plan) in [(1023, &ELLIPSOIDAL), (1024, &PLANE)] {
+        let sample = Grid::of(number, [0, 0], [1, 1], [0, 0, 0], |_, _| 0);
+        group.equal("steps of the samples", sample.unit() as i128, plan.steps);
+    }
+    group
 }
 
 /// P1 to P11 as document 01 prints them.
