@@ -23,7 +23,7 @@ pub struct History {
 }
 
 /// A table that holds messages of different keys in any of its slots, one in three as full as the keys allow.
-fn lent(random: &mut Random, sins: u64) -> Vec<u8> {
+fn table_of_messages(random: &mut Random, sins: u64) -> Vec<u8> {
     let used = if random.below(3) == 0 { SLOTS as u64 } else { random.below(SLOTS as u64) };
     let mut table = vec![0; SIZE];
     let mut keys = Vec::new();
@@ -81,7 +81,7 @@ impl History {
     /// Begins with a table that is empty, holds messages or is full.
     pub fn new(random: &mut Random, turn: u64) -> Self {
         let sins = messages::pick(random, &[2, 6, 14, 40, 256]);
-        let table = if turn % 7 == 6 { vec![0; SIZE] } else { lent(random, sins) }.into_boxed_slice();
+        let table = if turn % 7 == 6 { vec![0; SIZE] } else { table_of_messages(random, sins) }.into_boxed_slice();
         History { library: table.clone(), second: table, sins, turns: 0 }
     }
 

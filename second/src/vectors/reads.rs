@@ -31,7 +31,7 @@ pub fn cases() -> Vec<Case> {
     }
     for number in [1021, 1022] {
         cases.extend(name_lengths(number));
-        cases.extend(lying_counters(number));
+        cases.extend(wrong_counters(number));
     }
     cases.extend(all_characters());
     for number in [1021, 1023, 1025] {
@@ -306,20 +306,20 @@ fn all_characters() -> Vec<Case> {
 }
 
 /// Every counter value in a message of fixed length, for both counters.
-fn lying_counters(number: u16) -> Vec<Case> {
+fn wrong_counters(number: u16) -> Vec<Case> {
     let mut random = Random::new(5_000 + number as u64);
     let names = [random.bytes(9), random.bytes(14)];
     let sample = Sample::new(number, [&names[0], &names[1]], |f| random.within(f.least(), f.greatest()));
     let mut cases = Vec::new();
     for (df, word) in [(143, "source"), (145, "target")] {
-        for lie in 0..32 {
-            let bytes = sample.with(df, lie).bytes();
-            cases.push(case(format!("{number}-{word}-counter-{lie}"), &bytes));
+        for counter in 0..32 {
+            let bytes = sample.with(df, counter).bytes();
+            cases.push(case(format!("{number}-{word}-counter-{counter}"), &bytes));
         }
     }
-    for lie in 0..32 {
-        let bytes = Sample::zeros(number).with(143, lie).bytes();
-        cases.push(case(format!("{number}-counter-lies-{lie}"), &bytes));
+    for counter in 0..32 {
+        let bytes = Sample::zeros(number).with(143, counter).bytes();
+        cases.push(case(format!("{number}-counter-lies-{counter}"), &bytes));
     }
     cases
 }

@@ -268,7 +268,7 @@ struct Call {
 }
 
 /// Gives a call one more reason to be refused, by the refusal's number.
-fn spoil(mut call: Call, refusal: u8) -> Call {
+fn with_reason(mut call: Call, refusal: u8) -> Call {
     let vertical = call.component == 2;
     let far = if call.grid.ellipsoidal() { 3_240_000_000 } else { 1_000_000_000_000 };
     match refusal {
@@ -301,11 +301,11 @@ fn pairs(number: u16) -> Vec<Case> {
     let mut cases = Vec::new();
     for component in 0..3 {
         for first in 8..=15 {
-            let call = spoil(good_call(number, component), first);
+            let call = with_reason(good_call(number, component), first);
             let name = format!("{number}-refusal-{first}-c{component}");
             cases.push(case(name, &call.grid.bytes(), call.component, call.position));
             for second in first + 1..=15 {
-                let call = spoil(spoil(good_call(number, component), second), first);
+                let call = with_reason(with_reason(good_call(number, component), second), first);
                 let name = format!("{number}-refusals-{first}-{second}-c{component}");
                 cases.push(case(name, &call.grid.bytes(), call.component, call.position));
             }
