@@ -1,6 +1,7 @@
 //! An independent second program for RTCM messages 1021 to 1027.
 //!
-//! It is written from document 01 and source document 000 alone, and shares nothing with the proved code.
+//! It is written from document 01, from source documents 000, 003 and 004, and from docs/DECISIONS.md where these leave a
+//! choice. It shares no code with the proved library.
 
 pub mod bits;
 pub mod example;
