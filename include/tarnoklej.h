@@ -4,6 +4,7 @@
  * Every call ends with an answer for every input, keeps nothing between calls and allocates nothing.
  * A refusal number says why a call was refused; refusals are tested in the order given at each call.
  * No pointer may be null, not even where its length is 0, and no buffer that a call writes may overlap another.
+ * Every buffer must be memory of at least the length given with it, and fields must be aligned as an int64_t is.
  */
 #ifndef TARNOKLEJ_H
 #define TARNOKLEJ_H
