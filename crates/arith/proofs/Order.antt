@@ -8,11 +8,10 @@ use mathlib.Core.Bool.{Bool, true, false, cond}
 use Prim.Native.Nat.{_^_}
 use lib.Dec.{T, ltb, eqb, lit<}
 use lib.IntN.{ℤ}
-use lib.Signed.{ltZ, leZ, mag}
+use lib.Signed.{mag}
 use mir.Syntax.{w64}
-use mir.Val.{SFits, ofZ, toZ}
-use mir.Facts.{toZ-ofZ}
-use Rattle.arith.specs.Whole.{lessZ, mostZ, sameZ}
+use mir.Val.{SFits, ofZ}
+use Rattle.arith.specs.Whole.{sameZ}
 use Rattle.arith.proofs.Whole.{bits-yes, bits-no}
 use borrow.Author.Tests.{lt-ltb, le-ltb, le-leb, lt-leb, eq-eqb, ne-eqb}
 
@@ -31,24 +30,8 @@ pub ruleset parts = (none-of, some-of)
 
 pub ruleset tests = (lt-ltb, le-ltb, le-leb, lt-leb, eq-eqb, ne-eqb)
 
--- tests of signed numbers: the machine compares what it reads back from the bits
+-- the test of signed numbers: the machine compares their bits
 module _ (a b : ℤ) (p : SFits w64 a) (q : SFits w64 b) where
-  pub less-yes : ltZ (toZ w64 (ofZ w64 a)) (toZ w64 (ofZ w64 b)) ≡ true → lessZ a b ≡ true
-  unfolding lessZ
-  less-yes e = simp (toZ-ofZ p, toZ-ofZ q) at e
-
-  pub less-no : ltZ (toZ w64 (ofZ w64 a)) (toZ w64 (ofZ w64 b)) ≡ false → lessZ a b ≡ false
-  unfolding lessZ
-  less-no e = simp (toZ-ofZ p, toZ-ofZ q) at e
-
-  pub most-yes : leZ (toZ w64 (ofZ w64 a)) (toZ w64 (ofZ w64 b)) ≡ true → mostZ a b ≡ true
-  unfolding mostZ
-  most-yes e = simp (toZ-ofZ p, toZ-ofZ q) at e
-
-  pub most-no : leZ (toZ w64 (ofZ w64 a)) (toZ w64 (ofZ w64 b)) ≡ false → mostZ a b ≡ false
-  unfolding mostZ
-  most-no e = simp (toZ-ofZ p, toZ-ofZ q) at e
-
   pub same-yes : ofZ w64 a ≡ ofZ w64 b → sameZ a b ≡ true
   unfolding sameZ
   same-yes e = bits-yes a b p q e
@@ -61,7 +44,7 @@ module _ (a b : ℤ) (p : SFits w64 a) (q : SFits w64 b) where
 pub fits-literal : {z : ℤ} → T (ltb (mag z) (2 ^ 63)) → SFits w64 z
 fits-literal t = record { sfits = lit< t }
 
-pub ruleset signed-tests = (lt-ltb, le-ltb, le-leb, lt-leb, eq-eqb, ne-eqb, less-yes, less-no, most-yes, most-no, same-yes, same-no, fits-literal, tt)
+pub ruleset signed-tests = (lt-ltb, le-ltb, le-leb, lt-leb, eq-eqb, ne-eqb, same-yes, same-no, fits-literal, tt)
 
 -- a chain of refusals that gives 0 gives none of them
 pub none-first : (b : Bool) (n y : ℕ) → 0 < n → cond b n y ≡ 0 → b ≡ false

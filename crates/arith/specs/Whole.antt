@@ -1,10 +1,9 @@
--- Tests on whole numbers. They are shut, so that a proof can name them.
+-- Equality of whole numbers as a test, open (eqZ) and shut (sameZ, which a proof can name), and the natural part of a whole number.
 -- Assumes nothing.
 use mathlib.Core.Bool.{Bool, false}
 use Prim.Native.Nat.{ℕ}
 use lib.IntN.{ℤ, pos, negsuc}
 use lib.Dec.{eqb}
-use lib.Signed.{ltZ, leZ}
 
 -- the same whole number
 abbrev pub eqZ : ℤ → ℤ → Bool
@@ -12,12 +11,6 @@ eqZ (pos m) (pos n) = eqb m n
 eqZ (pos m) (negsuc n) = false
 eqZ (negsuc m) (pos n) = false
 eqZ (negsuc m) (negsuc n) = eqb m n
-
-unfoldable pub lessZ : ℤ → ℤ → Bool
-lessZ a b = ltZ a b
-
-unfoldable pub mostZ : ℤ → ℤ → Bool
-mostZ a b = leZ a b
 
 unfoldable pub sameZ : ℤ → ℤ → Bool
 sameZ a b = eqZ a b

@@ -6,7 +6,7 @@ use native.Mathlib.Nat.{div-lt-iff-lt-mul, sub-add-cancel}
 use native.Mathlib.Omega.{arith}
 use lib.IntN.{ℤ, pos, negsuc, natAbs}
 use Rattle.arith.proofs.Int.{abs-neg}
-use Rattle.bilinear.specs.Bilinear.{weighted, nearest}
+use Rattle.bilinear.specs.Bilinear.{weighted, nearestWhole}
 use Rattle.bilinear.proofs.Line.{mix, mix-size}
 use Rattle.bilinear.proofs.Cells.{weighted-mix}
 
@@ -19,12 +19,12 @@ weighted-bound H W y x sw se nw ne B hy hx h₁ h₂ h₃ h₄ =
     subst (λ z. natAbs z ≤ B * (H * W)) (sym (weighted-mix H W y x sw se nw ne))
     (omega (arith, mix-within H y (mix (W - x) x sw se) (mix (W - x) x nw ne) (W * B) hy (mix-within W x sw se B hx h₁ h₂) (mix-within W x nw ne B hx h₃ h₄)))
 
-abs-nearest : (s : ℤ) (d : ℕ) → natAbs (nearest s d) ≡ (2 * natAbs s + d) / (2 * d)
-unfolding nearest
+abs-nearest : (s : ℤ) (d : ℕ) → natAbs (nearestWhole s d) ≡ (2 * natAbs s + d) / (2 * d)
+unfolding nearestWhole
 abs-nearest (pos n) d = refl
 abs-nearest (negsuc n) d = abs-neg (pos ((2 * suc n + d) / (2 * d)))
 
-pub nearest-bound : (s : ℤ) (d B : ℕ) → 0 < d → natAbs s ≤ B * d → natAbs (nearest s d) ≤ B
+pub nearest-bound : (s : ℤ) (d B : ℕ) → 0 < d → natAbs s ≤ B * d → natAbs (nearestWhole s d) ≤ B
 nearest-bound s d B h k =
     let two : 0 < 2 * d = omega arith in
     let most : 2 * natAbs s + d < (B + 1) * (2 * d) = omega arith in

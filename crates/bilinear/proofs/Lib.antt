@@ -7,4 +7,3 @@ pub mod Edges
 pub mod Lipschitz
 pub mod Unweighted
 pub mod Bounds
-pub mod Vectors

@@ -8,7 +8,7 @@ use native.Mathlib.Nat.{mul-pos, eq-or-lt-of-le, not-suc-le-zero, le-of-suc-le-s
 use native.Mathlib.Omega.{arith}
 use lib.IntN.{ℤ, pos, negℤ, natAbs, _+ℤ_, _-ℤ_, _*ℤ_, +ℤ-comm}
 use Rattle.arith.proofs.Int.{ring, at, nat, _⊞_, _⊟_, _⊠_, abs-add, abs-neg, abs-mul}
-use Rattle.bilinear.specs.Bilinear.{gap, nearest, greatest, Surface, fromEdge, outside, exact, interpolated, columnDifference, rowDifference}
+use Rattle.bilinear.specs.Bilinear.{gap, nearestWhole, greatest, Surface, fromEdge, outside, exact, interpolated, columnDifference, rowDifference, LipschitzBound}
 use Rattle.bilinear.proofs.Gap.{gap-triangle, gap-sym, gap-add}
 use Rattle.bilinear.proofs.Place.{steps-most, steps-gap}
 use Rattle.bilinear.proofs.Line.{Slope, line, line-slope, line-moves}
@@ -75,13 +75,13 @@ module _ (g : Surface) (pH : 0 < g .H) (pW : 0 < g .W) where
 
 -- ---- rounding
 
-nearest-moves : (s t : ℤ) (d : ℕ) → 0 < d → gap (nearest s d) (nearest t d) * d ≤ d + gap s t
+nearest-moves : (s t : ℤ) (d : ℕ) → 0 < d → gap (nearestWhole s d) (nearestWhole t d) * d ≤ d + gap s t
 unfolding gap
 nearest-moves s t d h =
     omega (
       arith,
-      ap natAbs (expand (nearest s d) (nearest t d)),
-      abs-mul (pos (2 * d)) (nearest s d -ℤ nearest t d),
+      ap natAbs (expand (nearestWhole s d) (nearestWhole t d)),
+      abs-mul (pos (2 * d)) (nearestWhole s d -ℤ nearestWhole t d),
       abs-add (offS -ℤ offT) (pos 2 *ℤ (s -ℤ t)),
       abs-add offS (negℤ offT),
       abs-neg offT,
@@ -91,10 +91,10 @@ nearest-moves s t d h =
     )
   where
     offS : ℤ
-    offS = pos (2 * d) *ℤ nearest s d -ℤ pos 2 *ℤ s
+    offS = pos (2 * d) *ℤ nearestWhole s d -ℤ pos 2 *ℤ s
 
     offT : ℤ
-    offT = pos (2 * d) *ℤ nearest t d -ℤ pos 2 *ℤ t
+    offT = pos (2 * d) *ℤ nearestWhole t d -ℤ pos 2 *ℤ t
 
     expand : (p q : ℤ) → pos (2 * d) *ℤ (p -ℤ q) ≡ ((pos (2 * d) *ℤ p -ℤ pos 2 *ℤ s) -ℤ (pos (2 * d) *ℤ q -ℤ pos 2 *ℤ t)) +ℤ pos 2 *ℤ (s -ℤ t)
     expand p q =
@@ -105,13 +105,12 @@ nearest-moves s t d h =
 
 pub lipschitz : (g : Surface) → 0 < g .H → 0 < g .W → (u₁ v₁ u₂ v₂ : ℤ) →
     outside (g .H) u₁ ≡ false → outside (g .W) v₁ ≡ false → outside (g .H) u₂ ≡ false → outside (g .W) v₂ ≡ false →
-    gap (interpolated g u₁ v₁) (interpolated g u₂ v₂) * (g .H * g .W)
-    ≤ g .H * g .W + gap u₁ u₂ * columnDifference g * g .W + gap v₁ v₂ * rowDifference g * g .H
+    LipschitzBound g (interpolated g u₁ v₁) (interpolated g u₂ v₂) (gap u₁ u₂) (gap v₁ v₂)
 unfolding interpolated
 lipschitz g pH pW u₁ v₁ u₂ v₂ a₁ b₁ a₂ b₂ =
     omega (
       arith,
-      ap (λ n. n * (g .H * g .W)) (shifted (nearest (exact g y₁ x₁) (g .H * g .W)) (nearest (exact g y₂ x₂) (g .H * g .W))),
+      ap (λ n. n * (g .H * g .W)) (shifted (nearestWhole (exact g y₁ x₁) (g .H * g .W)) (nearestWhole (exact g y₂ x₂) (g .H * g .W))),
       nearest-moves (exact g y₁ x₁) (exact g y₂ x₂) (g .H * g .W) (mul-pos pH pW),
       exact-near g pH pW y₁ x₁ y₂ x₂ (steps-most (g .H) u₁ a₁) (steps-most (g .W) v₁ b₁) (steps-most (g .H) u₂ a₂) (steps-most (g .W) v₂ b₂),
       ap (λ n. n * columnDifference g * g .W) (steps-gap (g .H) u₁ u₂ a₁ a₂),

@@ -7,7 +7,7 @@ use native.Mathlib.Nat.{div-mul-le-self, lt-div-mul-add, div-eq-of-lt, div-eq-of
 use native.Mathlib.Decide.{decLt}
 use lib.IntN.{ℤ, pos, negsuc, negℤ, natAbs, _-ℤ_, _*ℤ_, negℤ-negℤ}
 use Rattle.arith.proofs.Int.{Ex, ring, at, nat, minus, _⊟_, _⊠_, abs-neg, abs-within, within-abs, abs-exact, exact-abs}
-use Rattle.bilinear.specs.Bilinear.{nearest}
+use Rattle.bilinear.specs.Bilinear.{nearestWhole}
 
 -- twice the distance of r from s / d, times d
 abbrev pub off : ℤ → ℕ → ℤ → ℕ
@@ -56,20 +56,20 @@ module _ (n d : ℕ) (h : 0 < d) where
       half-le : {a b : ℕ} → 2 * a ≤ 2 * b → a ≤ b
       half-le h = omega arith
 
-pub nearest-close : (s : ℤ) (d : ℕ) → 0 < d → off s d (nearest s d) ≤ d
-unfolding nearest
+pub nearest-close : (s : ℤ) (d : ℕ) → 0 < d → off s d (nearestWhole s d) ≤ d
+unfolding nearestWhole
 nearest-close (pos n) d h = natural-close n d h
-nearest-close (negsuc n) d h = close-neg (pos (suc n)) d (nearest (pos (suc n)) d) (natural-close (suc n) d h)
+nearest-close (negsuc n) d h = close-neg (pos (suc n)) d (nearestWhole (pos (suc n)) d) (natural-close (suc n) d h)
 
-pub nearest-half : (s : ℤ) (d : ℕ) → 0 < d → off s d (nearest s d) ≡ d → natAbs s ≤ d * natAbs (nearest s d)
-unfolding nearest
+pub nearest-half : (s : ℤ) (d : ℕ) → 0 < d → off s d (nearestWhole s d) ≡ d → natAbs s ≤ d * natAbs (nearestWhole s d)
+unfolding nearestWhole
 nearest-half (pos n) d h = natural-half n d h
-nearest-half (negsuc n) d h = beyond-neg (pos (suc n)) d (nearest (pos (suc n)) d) (natural-half (suc n) d h)
+nearest-half (negsuc n) d h = beyond-neg (pos (suc n)) d (nearestWhole (pos (suc n)) d) (natural-half (suc n) d h)
 
 -- ---- the only such number
 
-natural-only : (n d : ℕ) → 0 < d → (r : ℤ) → off (pos n) d r ≤ d → Beyond (pos n) d r → r ≡ nearest (pos n) d
-unfolding nearest
+natural-only : (n d : ℕ) → 0 < d → (r : ℤ) → off (pos n) d r ≤ d → Beyond (pos n) d r → r ≡ nearestWhole (pos n) d
+unfolding nearestWhole
 natural-only n d h (pos k) c b =
     ap pos (sym (div-eq-of-lt-le (2 * d) (omega (arith, within-abs (apart n d k) c)) (rest (decLt (2 * n) (2 * d * k + d)))))
   where
@@ -80,16 +80,16 @@ natural-only n d h (pos k) c b =
         absurd (omega (arith, b (exact-abs (apart n d k) (omega arith))))
 natural-only n d h (negsuc k) c b = absurd (omega (arith, within-abs (nat (2 * d) ⊠ at (negsuc k) ⊟ nat 2 ⊠ nat n) c))
 
-pub nearest-only : (s : ℤ) (d : ℕ) → 0 < d → (r : ℤ) → off s d r ≤ d → (off s d r ≡ d → natAbs s ≤ d * natAbs r) → r ≡ nearest s d
-unfolding nearest
+pub nearest-only : (s : ℤ) (d : ℕ) → 0 < d → (r : ℤ) → off s d r ≤ d → (off s d r ≡ d → natAbs s ≤ d * natAbs r) → r ≡ nearestWhole s d
+unfolding nearestWhole
 nearest-only (pos n) d h r c b = natural-only n d h r c b
 nearest-only (negsuc n) d h r c b =
     sym (negℤ-negℤ r) ∙ ap negℤ (natural-only (suc n) d h (negℤ r) (close-neg (negsuc n) d r c) (beyond-neg (negsuc n) d r b))
 
 -- ---- of the negated quotient
 
-pub nearest-neg : (s : ℤ) (d : ℕ) → nearest (negℤ s) d ≡ negℤ (nearest s d)
-unfolding nearest
+pub nearest-neg : (s : ℤ) (d : ℕ) → nearestWhole (negℤ s) d ≡ negℤ (nearestWhole s d)
+unfolding nearestWhole
 nearest-neg (pos zero) d = ap pos (none d) ∙ sym (ap (λ (n : ℕ). negℤ (pos n)) (none d))
   where
     none : (d : ℕ) → (2 * 0 + d) / (2 * d) ≡ 0

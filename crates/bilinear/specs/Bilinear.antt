@@ -1,8 +1,8 @@
 -- Bilinear interpolation of one component over sixteen nodes: document 01, "The grid", whose words are quoted.
 -- Positions and spacings are whole steps, nodes and answers are counts (document 01's terms).
 -- Assumes nothing.
-use mathlib.Core.Bool.{Bool, true, false, not, _&&_, _||_}
-use Prim.Native.Nat.{ℕ, zero, suc, _+_, _*_, _-_, _/_, min, max}
+use mathlib.Core.Bool.{Bool, not, _&&_, _||_}
+use Prim.Native.Nat.{ℕ, zero, suc, _+_, _*_, _-_, _/_, _≤_, min, max}
 use lib.Dec.{eqb}
 use lib.IntN.{ℤ, pos, negsuc, negℤ, natAbs, _+ℤ_, _-ℤ_, _*ℤ_}
 use lib.Signed.{ltZ}
@@ -14,9 +14,9 @@ unfoldable pub gap : ℤ → ℤ → ℕ
 gap a b = natAbs (a -ℤ b)
 
 -- the whole number nearest to s / d, "halves away from zero"
-unfoldable pub nearest : ℤ → ℕ → ℤ
-nearest (pos s) d = pos ((2 * s + d) / (2 * d))
-nearest (negsuc s) d = negℤ (pos ((2 * suc s + d) / (2 * d)))
+unfoldable pub nearestWhole : ℤ → ℕ → ℤ
+nearestWhole (pos s) d = pos ((2 * s + d) / (2 * d))
+nearestWhole (negsuc s) d = negℤ (pos ((2 * suc s + d) / (2 * d)))
 
 -- the greatest of f 0, .., f (n - 1)
 unfoldable pub greatest : ℕ → (ℕ → ℕ) → ℕ
@@ -73,7 +73,7 @@ exact g y x = inCell g (cell (g .H) y) (cell (g .W) x) y x
 
 -- "the mean shift plus the whole number nearest to the exact weighted mean", at the differences u north and v east of the origin
 unfoldable pub interpolated : Surface → ℤ → ℤ → ℤ
-interpolated g u v = g .mean +ℤ nearest (exact g (natAbs (fromEdge (g .H) u)) (natAbs (fromEdge (g .W) v))) (g .H * g .W)
+interpolated g u v = g .mean +ℤ nearestWhole (exact g (natAbs (fromEdge (g .H) u)) (natAbs (fromEdge (g .W) v))) (g .H * g .W)
 
 -- ---- what is not available
 
@@ -107,3 +107,12 @@ columnDifference g = greatest 4 (λ j. greatest 3 (λ i. gap (g .node i j) (g .n
 
 unfoldable pub rowDifference : Surface → ℕ
 rowDifference g = greatest 4 (λ i. greatest 3 (λ j. gap (g .node i j) (g .node i (j + 1))))
+
+-- of two answers a and b whose positions are so many steps north and east apart: "the difference of the answers times both spacings is at most the product of the spacings,
+-- plus steps north times greatest column difference times east spacing, plus steps east times greatest row difference times north spacing"
+abbrev pub LipschitzBound : Surface → (a b : ℤ) (north east : ℕ) → Type 0
+LipschitzBound g a b north east =
+    gap a b * (g .H * g .W)
+    ≤ g .H * g .W
+    + north * columnDifference g * g .W
+    + east * rowDifference g * g .H

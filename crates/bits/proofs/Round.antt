@@ -16,7 +16,7 @@ use lib.Seq.{getD-set-same, getD-set-other, set-out, set-append-left}
 use borrow.Author.Tests.{lt-ltb, le-ltb, ltb-false, eq-eqb, eqb-true}
 use Rattle.arith.proofs.First.{passed, not-false}
 use Rattle.bits.specs.Field.{bitAt, field, putBits, setBit, setField, twos, raw}
-use Rattle.bits.specs.Layout.{width, signed, range, value, fits, within, takes, allTake, total, decodeAll, encodeInto, encodeAll, size, blank, zeroFrom, refusalOf, valuesOf, writeRefusal}
+use Rattle.bits.specs.Layout.{width, signed, limit, value, fits, within, takes, allTake, total, decodeAll, encodeInto, encodeAll, size, blank, zeroFrom, refusalOf, valuesOf, writeRefusal}
 use Rattle.bits.proofs.Bit.{put-byte, field-lt, field-same, length-setField, setField-outside, field-setField, setBit-same, setBit-other, bit-lt, Bytes, bits-decide}
 
 -- ---- signed values and their patterns
@@ -60,7 +60,7 @@ mag-lt false w (negsuc n) t = absurd t
 
 fitting : (e : ℕ) (z : ℤ) → T (takes e z) → T (fits (signed e) (width e) z)
 unfolding takes
-fitting e z t = T-and (fits (signed e) (width e) z) (eqb (range e) 0 || within (width e) (range e) z) t .0
+fitting e z t = T-and (fits (signed e) (width e) z) (eqb (limit e) 0 || within (width e) (limit e) z) t .0
 
 -- what a field takes has a pattern of its width
 pub taken-fits : (e : ℕ) (z : ℤ) → T (takes e z) → (mag z < 2 ^ width e) × (raw (width e) z < 2 ^ width e)

@@ -16,7 +16,7 @@ unfoldable pub field : List ℕ → ℕ → ℕ → ℕ
 field s p zero = 0
 field s p (suc w) = field s p w * 2 + bitAt s (p + w)
 
--- the same where the field has at most 63 bits and stands in the first bytes of s, else 0
+-- the same where the field has at most 63 bits, begins at a bit of at most 65,535 and ends within s, else 0
 unfoldable pub fieldAt : List ℕ → ℕ → ℕ → ℕ
 fieldAt s p w = cond (leb w 63 && (leb p 65535 && leb (p + w) (8 * length s))) (field s p w) 0
 

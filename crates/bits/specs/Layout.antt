@@ -1,6 +1,6 @@
 -- A layout: the fields of a message in wire order, one entry each. Reading, checking and writing over any layout.
 -- Assumes nothing.
-use Prim.Native.Nat.{ℕ, zero, suc, _+_, _-_, _*_, _/_, _%_, _^_}
+use Prim.Native.Nat.{ℕ, suc, _+_, _-_, _*_, _/_, _%_, _^_}
 use mathlib.Core.List.{List, [], _∷_, _++_}
 use mathlib.Core.Bool.{Bool, true, false, not, cond, _&&_, _||_}
 use lib.Dec.{ltb, leb, eqb}
@@ -35,8 +35,8 @@ abbrev pub signed : ℕ → Bool
 signed e = eqb (e / 64 % 2) 1
 
 -- the greatest magnitude of the declared range; 0 where none is declared
-abbrev pub range : ℕ → ℕ
-range e = e / 128
+abbrev pub limit : ℕ → ℕ
+limit e = e / 128
 
 -- ---- values
 
@@ -59,7 +59,7 @@ within w l (negsuc n) = leb (suc n) l || eqb (suc n) (2 ^ w / 2)
 
 -- the field takes the value z: RANGE is "a field outside its range or width"
 unfoldable pub takes : ℕ → ℤ → Bool
-takes e z = fits (signed e) (width e) z && (eqb (range e) 0 || within (width e) (range e) z)
+takes e z = fits (signed e) (width e) z && (eqb (limit e) 0 || within (width e) (limit e) z)
 
 -- the values are as many as the fields, and each field takes its own
 unfoldable pub allTake : List ℕ → List ℤ → Bool

@@ -1,12 +1,10 @@
 // Fields of bits in bytes, most significant bit first, and messages by a layout. The leaves have a requires and are private.
 ghost use mathlib.Core.Path.{_≡_};
-ghost use mathlib.Core.Bool.{false};
 ghost use Prim.Native.Nat.{_+_, _*_, _/_, _%_, _^_, _≤_, _<_, min};
 ghost use mathlib.Core.List.{[], _++_};
 ghost use lib.Dec.{T};
 ghost use lib.ListN.{length, drop};
-ghost use lib.Signed.{mag, ltZ};
-ghost use lib.IntN.{pos};
+ghost use lib.Signed.{mag};
 ghost use Rattle.bits.specs.Field.{field, fieldAt, putBits, setField, twos, raw};
 ghost use Rattle.bits.specs.Layout.{width, signed, value, fits, within, takes, allTake, total, decodeAll, encodeInto, encodeAll, size, blank, zeroFrom, decoded, writeRefusal, answered, stored};
 ghost use Rattle.arith.specs.Row.{padded};
@@ -77,7 +75,7 @@ fn read_field(s: &[u8], p: usize, w: usize) -> u64
     read_bits(s, p, w)
 }
 
-// The number in the w bits of s from bit p on; 0 where they do not all stand in s.
+// The number in the w bits of s from bit p on; 0 where w is over 63, p is over 65,535, or the bits do not all stand in s.
 pub fn field_at(s: &[u8], p: usize, w: usize) -> u64
     ensures { λ r. ⌜ r ≡ fieldAt (now (s .entry)) p w ⌝ }
 {
@@ -268,7 +266,7 @@ fn total_bits(layout: &[u64]) -> usize
 }
 
 // Whether each field of a layout takes its value.
-fn all_take(layout: &[u64], values: &[i64]) -> bool
+pub fn all_take(layout: &[u64], values: &[i64]) -> bool
     ensures { λ r. ⌜ r ≡ allTake (now (layout .entry)) (now (values .entry)) ⌝ }
 {
     if layout.len() != values.len() {

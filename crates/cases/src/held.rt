@@ -7,7 +7,13 @@ use crate::text::Bytes;
 use crate::text::Count;
 
 // `NAME table SIZE`: a table of SIZE zero bytes, the first of those held.
-pub fn fresh(given: &[u8], held: &mut [u8], size: &mut usize, out: &mut Out, at: usize) -> usize {
+pub(crate) fn fresh(
+    given: &[u8],
+    held: &mut [u8],
+    size: &mut usize,
+    out: &mut Out,
+    at: usize,
+) -> usize {
     let Count::Is(n) = text::natural(given) else {
         return output::put(out, at, b'?');
     };
@@ -28,7 +34,13 @@ fn clear(table: &mut [u8]) {
 }
 
 // The other lines, on the table.
-pub fn answer(command: &[u8], given: &[u8], table: &mut [u8], out: &mut Out, at: usize) -> usize {
+pub(crate) fn answer(
+    command: &[u8],
+    given: &[u8],
+    table: &mut [u8],
+    out: &mut Out,
+    at: usize,
+) -> usize {
     if text::same(command, b"poke") {
         return poke(given, table, out, at);
     }

@@ -1,18 +1,18 @@
 // Standard input by chunks, and its lines.
 use libc::STDIN_FILENO;
 
-pub type Chunk = [u8; 4096];
+pub(crate) type Chunk = [u8; 4096];
 
-pub type Line = [u8; 600];
+pub(crate) type Line = [u8; 600];
 
 // The bytes of a chunk that are not used up: those from `from` on, below `end`.
-pub struct Place {
+pub(crate) struct Place {
     pub from: usize,
     pub end: usize,
 }
 
 // A line's length without its newline, 601 for a longer one, and the place behind it; `ended` where there is no further line.
-pub struct Got {
+pub(crate) struct Got {
     pub ended: bool,
     pub length: usize,
     pub place: Place,
@@ -22,7 +22,7 @@ pub struct Got {
 const MOST: usize = 1048576;
 
 // No byte is read yet.
-pub fn start() -> Place {
+pub(crate) fn start() -> Place {
     Place { from: 0, end: 0 }
 }
 
@@ -51,7 +51,7 @@ fn keep(line: &mut Line, k: usize, b: u8) {
 }
 
 // The next line.
-pub fn read_line(chunk: &mut Chunk, line: &mut Line, first: Place) -> Got {
+pub(crate) fn read_line(chunk: &mut Chunk, line: &mut Line, first: Place) -> Got {
     let mut place = first;
     let mut k: usize = 0;
     while k < MOST {

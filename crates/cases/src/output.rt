@@ -2,15 +2,15 @@
 use crate::text;
 use libc::STDOUT_FILENO;
 
-pub type Out = [u8; 16384];
+pub(crate) type Out = [u8; 16384];
 
 // Writes the first `at` bytes.
-pub fn flush(out: &Out, at: usize) {
+pub(crate) fn flush(out: &Out, at: usize) {
     io::write_all(STDOUT_FILENO, text::before(out, at));
 }
 
 // A byte; a full buffer is written first.
-pub fn put(out: &mut Out, at: usize, b: u8) -> usize {
+pub(crate) fn put(out: &mut Out, at: usize, b: u8) -> usize {
     if at < 16384 {
         out[at] = b;
         return at + 1;
@@ -20,7 +20,7 @@ pub fn put(out: &mut Out, at: usize, b: u8) -> usize {
     1
 }
 
-pub fn put_all(out: &mut Out, at: usize, s: &[u8]) -> usize {
+pub(crate) fn put_all(out: &mut Out, at: usize, s: &[u8]) -> usize {
     let mut to = at;
     let mut k: usize = 0;
     while k < s.len() {
@@ -31,7 +31,7 @@ pub fn put_all(out: &mut Out, at: usize, s: &[u8]) -> usize {
 }
 
 // A case's name and a space, nothing for none.
-pub fn put_name(out: &mut Out, at: usize, name: &[u8]) -> usize {
+pub(crate) fn put_name(out: &mut Out, at: usize, name: &[u8]) -> usize {
     if name.len() == 0 {
         return at;
     }
@@ -39,21 +39,21 @@ pub fn put_name(out: &mut Out, at: usize, name: &[u8]) -> usize {
     put(out, to, b' ')
 }
 
-pub fn put_natural(out: &mut Out, at: usize, n: u64) -> usize {
+pub(crate) fn put_natural(out: &mut Out, at: usize, n: u64) -> usize {
     let mut digits = [0u8; 20];
     let k = io::decimal(n, &mut digits);
     put_all(out, at, &digits[..k])
 }
 
-pub fn put_small(out: &mut Out, at: usize, n: u8) -> usize {
+pub(crate) fn put_small(out: &mut Out, at: usize, n: u8) -> usize {
     put_natural(out, at, n as u64)
 }
 
-pub fn put_count(out: &mut Out, at: usize, n: usize) -> usize {
+pub(crate) fn put_count(out: &mut Out, at: usize, n: usize) -> usize {
     put_natural(out, at, n as u64)
 }
 
-pub fn put_whole(out: &mut Out, at: usize, n: i64) -> usize {
+pub(crate) fn put_whole(out: &mut Out, at: usize, n: i64) -> usize {
     if n < 0 {
         let to = put(out, at, b'-');
         return put_natural(out, to, magnitude(n));
@@ -69,7 +69,7 @@ fn magnitude(n: i64) -> u64 {
 }
 
 // Numbers with a space before each but the first, `-` for none.
-pub fn put_row(out: &mut Out, at: usize, row: &[i64]) -> usize {
+pub(crate) fn put_row(out: &mut Out, at: usize, row: &[i64]) -> usize {
     if row.len() == 0 {
         return put(out, at, b'-');
     }
@@ -84,7 +84,7 @@ pub fn put_row(out: &mut Out, at: usize, row: &[i64]) -> usize {
 }
 
 // Bytes as lower case hexadecimal, `-` for none.
-pub fn put_hex(out: &mut Out, at: usize, s: &[u8]) -> usize {
+pub(crate) fn put_hex(out: &mut Out, at: usize, s: &[u8]) -> usize {
     if s.len() == 0 {
         return put(out, at, b'-');
     }

@@ -7,7 +7,7 @@ use crate::text::Count;
 
 type Row = [i64; 96];
 
-pub fn answer(given: &[u8], out: &mut Out, at: usize) -> usize {
+pub(crate) fn answer(given: &[u8], out: &mut Out, at: usize) -> usize {
     let mut bytes = [0u8; 140];
     let Count::Is(n) = text::hex(given, &mut bytes) else {
         return output::put(out, at, b'?');

@@ -8,7 +8,7 @@ use crate::text::Count;
 use crate::text::Integer;
 use grid::Answer;
 
-pub fn answer(given: &[u8], out: &mut Out, at: usize) -> usize {
+pub(crate) fn answer(given: &[u8], out: &mut Out, at: usize) -> usize {
     let mut bytes = [0u8; 140];
     let Count::Is(n) = text::hex(text::word(given), &mut bytes) else {
         return output::put(out, at, b'?');

@@ -1,24 +1,24 @@
 // A line's words, and the bytes and numbers that they spell.
 
 // How many were read, or a natural number.
-pub enum Count {
+pub(crate) enum Count {
     Is(usize),
     Bad,
 }
 
-pub enum Integer {
+pub(crate) enum Integer {
     Is(i64),
     Bad,
 }
 
-pub enum Byte {
+pub(crate) enum Byte {
     Is(u8),
     Bad,
 }
 
-pub type Bytes = [u8; 140];
+pub(crate) type Bytes = [u8; 140];
 
-pub type Numbers = [i64; 100];
+pub(crate) type Numbers = [i64; 100];
 
 // The place of the first space, the length where there is none.
 fn space(s: &[u8]) -> usize {
@@ -33,7 +33,7 @@ fn space(s: &[u8]) -> usize {
 }
 
 // The first `n` bytes, all where there are fewer.
-pub fn before(s: &[u8], n: usize) -> &[u8] {
+pub(crate) fn before(s: &[u8], n: usize) -> &[u8] {
     if n <= s.len() {
         return &s[0..n];
     }
@@ -41,7 +41,7 @@ pub fn before(s: &[u8], n: usize) -> &[u8] {
 }
 
 // The bytes from `n` on, none where there are no more.
-pub fn behind(s: &[u8], n: usize) -> &[u8] {
+pub(crate) fn behind(s: &[u8], n: usize) -> &[u8] {
     let length = s.len();
     if n < length {
         return &s[n..];
@@ -63,16 +63,16 @@ fn next(s: &[u8], from: usize) -> usize {
 }
 
 // The first word.
-pub fn word(s: &[u8]) -> &[u8] {
+pub(crate) fn word(s: &[u8]) -> &[u8] {
     before(s, space(s))
 }
 
 // What stands behind the first word and its space.
-pub fn rest(s: &[u8]) -> &[u8] {
+pub(crate) fn rest(s: &[u8]) -> &[u8] {
     behind(s, next(s, 0))
 }
 
-pub fn same(a: &[u8], b: &[u8]) -> bool {
+pub(crate) fn same(a: &[u8], b: &[u8]) -> bool {
     if a.len() != b.len() {
         return false;
     }
@@ -123,7 +123,7 @@ fn byte_at(s: &[u8], k: usize) -> u16 {
 }
 
 // The bytes that a word spells, at most 140; `-` spells none.
-pub fn hex(s: &[u8], bytes: &mut Bytes) -> Count {
+pub(crate) fn hex(s: &[u8], bytes: &mut Bytes) -> Count {
     if s.len() == 0 {
         return Count::Bad;
     }
@@ -161,7 +161,7 @@ fn keep(bytes: &mut Bytes, k: usize, b: u16) {
 }
 
 // A natural number below 2^63 + 2 in decimal digits.
-pub fn natural(s: &[u8]) -> Count {
+pub(crate) fn natural(s: &[u8]) -> Count {
     if s.len() == 0 {
         return Count::Bad;
     }
@@ -190,7 +190,7 @@ fn longer(n: usize, b: u8) -> Count {
 }
 
 // A natural number below 256 in decimal digits.
-pub fn small(s: &[u8]) -> Byte {
+pub(crate) fn small(s: &[u8]) -> Byte {
     let Count::Is(n) = natural(s) else {
         return Byte::Bad;
     };
@@ -201,7 +201,7 @@ pub fn small(s: &[u8]) -> Byte {
 }
 
 // A whole number in decimal digits, with `-` before a negative one.
-pub fn whole(s: &[u8]) -> Integer {
+pub(crate) fn whole(s: &[u8]) -> Integer {
     if s.len() == 0 {
         return Integer::Bad;
     }
@@ -235,7 +235,7 @@ fn negative(n: usize) -> Integer {
 }
 
 // The whole numbers that a line's words spell, at most 100.
-pub fn row(s: &[u8], numbers: &mut Numbers) -> Count {
+pub(crate) fn row(s: &[u8], numbers: &mut Numbers) -> Count {
     let mut from: usize = 0;
     let mut n: usize = 0;
     while n < 100 {
@@ -256,7 +256,7 @@ pub fn row(s: &[u8], numbers: &mut Numbers) -> Count {
 }
 
 // The first `n` numbers, all where there are fewer.
-pub fn first(row: &[i64], n: usize) -> &[i64] {
+pub(crate) fn first(row: &[i64], n: usize) -> &[i64] {
     if n <= row.len() {
         return &row[0..n];
     }

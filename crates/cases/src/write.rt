@@ -5,7 +5,7 @@ use crate::text;
 use crate::text::Count;
 use crate::text::Numbers;
 
-pub fn answer(given: &[u8], out: &mut Out, at: usize) -> usize {
+pub(crate) fn answer(given: &[u8], out: &mut Out, at: usize) -> usize {
     let Count::Is(room) = text::natural(text::word(given)) else {
         return output::put(out, at, b'?');
     };

@@ -1,16 +1,27 @@
 -- The demands on the shift hold: each statement of specs/Grids.antt, from the laws of `bilinear` and `grid`.
 -- Assumes nothing.
-use Prim.Native.Nat.{ℕ, _*_}
+use Prim.Native.Nat.{ℕ, _+_, _-_, _*_}
 use native.Mathlib.Nat.{mul-pos}
 use mathlib.Core.Path.{_≡_, refl, sym, ap, _∙_}
-use mathlib.Core.List.{List}
-use lib.IntN.{ℤ}
-use Rattle.bilinear.specs.Bilinear.{interpolated, nearest}
+use mathlib.Core.Bool.{not, _||_}
+use mathlib.Core.List.{List, [], _∷_, _++_}
+use mathlib.Core.Logic.{_⊎_, inl, inr}
+use lib.IntN.{ℤ, pos, _+ℤ_, _*ℤ_}
+use Rattle.arith.specs.First.{first}
+use Rattle.records.specs.declared.Grid.{Grid}
+use Rattle.records.specs.declared.Shifts.{Shifts}
+use Rattle.records.specs.Records.{gridRow}
+use Rattle.message.specs.Message.{kindRefusal}
+use Rattle.message.specs.Kinds.{readGrid}
+use Rattle.bilinear.specs.Bilinear.{outside, cell, inCell, exact, absentIn, absent, interpolated, nearestWhole, LipschitzBound}
 use Rattle.bilinear.proofs.Nearest.{nearest-close, nearest-half, nearest-only}
-use Rattle.bilinear.proofs.Edges.{shared-exact, shared-absent}
-use Rattle.grid.specs.Shift.{outcome, shiftWith, shiftRefusal, messageShift}
+use Rattle.bilinear.proofs.Unweighted.{absent-same, sum-same}
+use Rattle.grid.specs.declared.Shift.{Shift}
+use Rattle.grid.specs.Shift.{available, nodeFactor, surface, northOf, eastOf, fieldTests, outcome, shiftWith, recordShiftRefusal, shiftRefusal, recordShift, messageShift}
+use Rattle.grid.proofs.Accepted.{message-grid, held-is-written}
 use Rattle.grid.proofs.Lipschitz.{lipschitz-message, spaced, counted, east-steps}
-use Rattle.demands.specs.Grids.{gridAt, surfaceAt, AnsweredAt, exactAt, IsNearest, GridAnswer, SharedEdges, Lipschitz, PlainSteps}
+use Rattle.grid.proofs.Calls.{shared-answer, calls-agree, count-lossless, sum-below-limit}
+use Rattle.demands.specs.Grids.{gridAt, surfaceAt, northSteps, eastSteps, withNodes, AnsweredAt, exactAt, IsNearest, GridAnswer, SharedEdges, BothCalls, HeldIsWritten, SameWeighted, OnlyWeighted, Lossless, SumBound, AllPresent, stepsNorth, stepsEast, Lipschitz, PlainSteps}
 
 -- the refusal answered is the one defined
 refusal-is : (s : List ℕ) (c : ℕ) (n e : ℤ) → AnsweredAt s c n e → shiftRefusal s c n e ≡ 0
@@ -25,18 +36,88 @@ grid-answer s c n e h =
     let a = mul-pos (p .0) (p .1) in
     record {
       area = a;
-      rounded = nearest (exactAt s c n e) d;
+      rounded = nearestWhole (exactAt s c n e) d;
       count = counted s c n e r ∙ unfold interpolated in refl;
       nearest = record { close = nearest-close (exactAt s c n e) d a; half = nearest-half (exactAt s c n e) d a };
       only = λ x i. nearest-only (exactAt s c n e) d a x (i .close) (i .half);
     }
 
+-- what the reader of grids answers
+kind-is : (s : List ℕ) → readGrid s .refusal ≡ 0 → kindRefusal 1023 1024 s ≡ 0
+unfolding readGrid
+kind-is s h = h
+
 pub shared-edges : SharedEdges
-shared-edges g h w k l y x a b p q t u =
-    record { answer = shared-exact g h w k l y x a b p q t u; refusal = shared-absent g h w k l y x a b p q t u }
+shared-edges s c n e r f k l h =
+    shared-answer s c n e (kind-is s r) f (h .inside .0) (h .inside .1) k l (h .row) (h .column) (h .north .0) (h .north .1) (h .east .0) (h .east .1)
+
+pub both-calls : BothCalls
+unfolding readGrid
+both-calls s c n e h = ap (λ (g : Grid). recordShift g c n e) (message-grid s c n e h) ∙ calls-agree s c n e h
+
+pub held-written : HeldIsWritten
+held-written g m h = held-is-written (gridRow g) m h
+
+-- nodes that agree raw agree in counts and in being present
+raw-same : (f : ℕ) {w : ℕ} {a b : ℤ} → (w ≡ 0) ⊎ (a ≡ b) → (w ≡ 0) ⊎ ((pos f *ℤ a ≡ pos f *ℤ b) × (available 9 a ≡ available 9 b))
+raw-same f (inl e) = inl e
+raw-same f (inr e) = inr (ap (λ (z : ℤ). pos f *ℤ z) e, ap (available 9) e)
+
+module _ (g : Grid) (ns : List Shifts) (c : ℕ) (n e : ℤ) where
+  abbrev y : ℕ
+  y = northSteps g c n
+
+  abbrev x : ℕ
+  x = eastSteps g c e
+
+  abbrev k : ℕ
+  k = cell (surface g c .H) y
+
+  abbrev l : ℕ
+  l = cell (surface g c .W) x
+
+  abbrev f : ℕ
+  f = nodeFactor (g .number) c
+
+  module _ (w : SameWeighted g ns c k l (y - k * surface g c .H) (x - l * surface g c .W)) where
+    same-absent : absentIn (surface g c) k l y x ≡ absentIn (surface (withNodes g ns) c) k l y x
+    unfolding surface
+    same-absent =
+        absent-same (surface g c .H) (surface g c .W) (surface g c .mean) (surface g c .meanPresent) (surface g c .node) (surface (withNodes g ns) c .node)
+        (surface g c .present) (surface (withNodes g ns) c .present) k l y x (raw-same f (w .sw)) (raw-same f (w .se)) (raw-same f (w .nw)) (raw-same f (w .ne))
+
+    same-sum : inCell (surface g c) k l y x ≡ inCell (surface (withNodes g ns) c) k l y x
+    unfolding surface
+    same-sum =
+        sum-same (surface g c .H) (surface g c .W) (surface g c .mean) (surface g c .meanPresent) (surface g c .node) (surface (withNodes g ns) c .node)
+        (surface g c .present) (surface (withNodes g ns) c .present) k l y x (raw-same f (w .sw)) (raw-same f (w .se)) (raw-same f (w .nw)) (raw-same f (w .ne))
+
+pub only-weighted : OnlyWeighted
+unfolding surface northOf eastOf recordShift shiftWith recordShiftRefusal interpolated exact absent
+only-weighted g ns c n e h w =
+    λ i. outcome (g .number) c
+    (first
+    ((5, not (h i))
+    ∷ fieldTests g c n e
+    ++ ((14, outside (surface g c .H) (northOf g n) || outside (surface g c .W) (eastOf g e)) ∷ (15, same-absent g ns c n e w i) ∷ [])))
+    (surface g c .mean +ℤ nearestWhole (same-sum g ns c n e w i) (surface g c .H * surface g c .W))
+
+pub lossless : Lossless
+lossless s c n e h = count-lossless s c n e (refusal-is s c n e h)
+
+pub sum-bound : SumBound
+sum-bound s c n e h = sum-below-limit s c n e (refusal-is s c n e h)
 
 pub lipschitz : Lipschitz
 lipschitz s c _ n₁ e₁ n₂ e₂ p q = lipschitz-message s c n₁ e₁ n₂ e₂ (refusal-is s c n₁ e₁ p) (refusal-is s c n₂ e₂ q)
+
+-- the same of two answers that are the call's
+pub lipschitz-answers : (s : List ℕ) (c : ℕ) (n₁ e₁ n₂ e₂ : ℤ) (a b : Shift) → a ≡ messageShift s c n₁ e₁ → b ≡ messageShift s c n₂ e₂
+    → AllPresent s c → a .refusal ≡ 0 → b .refusal ≡ 0 → LipschitzBound (surfaceAt s c) (a .count) (b .count) (stepsNorth n₁ n₂) (stepsEast s e₁ e₂)
+lipschitz-answers s c n₁ e₁ n₂ e₂ a b p q t u v =
+    let r : LipschitzBound (surfaceAt s c) (messageShift s c n₁ e₁ .count) (messageShift s c n₂ e₂ .count) (stepsNorth n₁ n₂) (stepsEast s e₁ e₂) =
+    lipschitz s c t n₁ e₁ n₂ e₂ (sym (ap (λ (r : Shift). r .refusal) p) ∙ u) (sym (ap (λ (r : Shift). r .refusal) q) ∙ v) in
+    rw (p, q) r
 
 pub plain-steps : PlainSteps
 plain-steps s a b = east-steps (gridAt s) a b

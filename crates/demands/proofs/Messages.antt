@@ -5,7 +5,7 @@ use native.Mathlib.Omega.{arith}
 use native.Mathlib.Nat.{lt-irrefl}
 use mathlib.Core.Path.{_≡_, refl, sym, ap, _∙_}
 use mathlib.Core.Logic.{_⊎_, ⊎-elim}
-use mathlib.Core.Bool.{Bool, true, false, not, cond, _||_}
+use mathlib.Core.Bool.{Bool, true, false, not, cond, _||_, _&&_}
 use mathlib.Core.List.{List, _∷_, _++_}
 use lib.Dec.{ltb}
 use lib.IntN.{ℤ, pos}
@@ -16,10 +16,13 @@ use Rattle.bits.specs.Field.{field}
 use Rattle.bits.specs.Layout.{uint, total, size, zeroFrom, allTake, decodeAll, refusalOf, answered}
 use Rattle.bits.proofs.Round.{accepted, refused-none}
 use Rattle.bits.proofs.Answer.{fill-set, out-of-range}
+use Rattle.records.specs.Records.{goodName}
+use Rattle.records.specs.declared.Name.{Name}
+use Rattle.records.proofs.Inverse.{helmert-good, molodenski-badekas-good}
 use Rattle.message.specs.Layouts.{names, tail1021, tail1022, layoutOf, layout1021, layout1022, layout1023, layout1024, layout1025, layout1026, layout1027}
 use Rattle.message.specs.Message.{numberOf, sourceCount, targetCount, counterCut, layout, refusal}
-use Rattle.message.specs.Kinds.{readHelmert, readMolodenskiBadekas, readGrid, readProjection, readLambert, readObliqueMercator}
-use Rattle.message.proofs.Head.{head-of, head-passes, head-passed, accepted-head, row-of}
+use Rattle.message.specs.Kinds.{recordRefusal, readHelmert, readMolodenskiBadekas, readGrid, readProjection, readLambert, readObliqueMercator}
+use Rattle.message.proofs.Head.{head-of, head-passes, head-passed, accepted-head, row-of, source-lt, target-lt}
 use Rattle.message.proofs.Length.{total-1021, total-1022, total-names, by-number, layout-most}
 use Rattle.message.proofs.Trips.{value-behind, sized-head, message-of-row, row-written, message-accepted, row-of-message, length-message}
 use Rattle.message.proofs.RecordTrips.{layout-at, kept, kept-written, helmert-row, molodenski-badekas-row, grid-row, projection-row, lambert-row, oblique-mercator-row, helmert-back, molodenski-badekas-back, grid-back, projection-back, lambert-back, oblique-mercator-back}
@@ -91,8 +94,14 @@ accepted-lengths s e =
     let n : ℕ = sourceCount s in
     let m : ℕ = targetCount s in
     record {
-      l1021 = λ q. sized s 1021 e q ∙ omega (arith, total-1021 n m);
-      l1022 = λ q. sized s 1022 e q ∙ omega (arith, total-1022 n m);
+      l1021 =
+          λ q.
+          let l : length s ≡ 52 + n + m = sized s 1021 e q ∙ omega (arith, total-1021 n m) in
+          (l, omega (arith, source-lt s, target-lt s));
+      l1022 =
+          λ q.
+          let l : length s ≡ 65 + n + m = sized s 1022 e q ∙ omega (arith, total-1022 n m) in
+          (l, omega (arith, source-lt s, target-lt s));
       l1023 = λ q. sized s 1023 e q;
       l1024 = λ q. sized s 1024 e q;
       l1025 = λ q. sized s 1025 e q;
@@ -150,12 +159,17 @@ message-again s b e = (message-of-row s e b, row-written s e)
 pub row-again : RowAgain
 row-again v n e = (message-accepted v n e, row-of-message v n e)
 
+-- with both names good the writer answers as for a kind without names
+named-too : (a b : Name) (lo hi n : ℕ) (v : List ℤ) → (goodName a ≡ true) × (goodName b ≡ true) → recordRefusal lo hi true v n ≡ 0
+    → recordRefusal lo hi (goodName a && goodName b) v n ≡ 0
+named-too a b lo hi n v g e = rw (g .0, g .1) e
+
 pub records-again : (s : List ℕ) → Bytes s → RecordsAgain s
 records-again s b =
     record {
-      helmert = λ e. unfold readHelmert in (kept 1021 1021 s _ e b (helmert-row s e), λ n. kept-written 1021 1021 s _ n e (helmert-row s e));
+      helmert = λ e. unfold readHelmert in (kept 1021 1021 s _ e b (helmert-row s e), λ n h. named-too _ _ 1021 1021 n _ (helmert-good _) (kept-written 1021 1021 s _ n e (helmert-row s e) h));
       molodenskiBadekas =
-          λ e. unfold readMolodenskiBadekas in (kept 1022 1022 s _ e b (molodenski-badekas-row s e), λ n. kept-written 1022 1022 s _ n e (molodenski-badekas-row s e));
+          λ e. unfold readMolodenskiBadekas in (kept 1022 1022 s _ e b (molodenski-badekas-row s e), λ n h. named-too _ _ 1022 1022 n _ (molodenski-badekas-good _) (kept-written 1022 1022 s _ n e (molodenski-badekas-row s e) h));
       grid = λ e. unfold readGrid in (kept 1023 1024 s _ e b (grid-row s e), λ n. kept-written 1023 1024 s _ n e (grid-row s e));
       projection = λ e. unfold readProjection in (kept 1025 1025 s _ e b (projection-row s e), λ n. kept-written 1025 1025 s _ n e (projection-row s e));
       lambert = λ e. unfold readLambert in (kept 1026 1026 s _ e b (lambert-row s e), λ n. kept-written 1026 1026 s _ n e (lambert-row s e));

@@ -1,16 +1,23 @@
 -- The demands on the shift at a position, in document 01's words, as statements about message bytes and the real call's answers.
 -- Assumes nothing.
-use Prim.Native.Nat.{ℕ, suc, _+_, _*_, _≤_, _<_}
+use Prim.Native.Nat.{ℕ, suc, _+_, _*_, _-_, _≤_, _<_}
 use mathlib.Core.Path.{_≡_}
-use mathlib.Core.Bool.{Bool, true, false}
+use mathlib.Core.Bool.{true, false}
 use mathlib.Core.List.{List}
+use mathlib.Core.Logic.{_⊎_}
+use lib.Dec.{eqb}
 use lib.IntN.{ℤ, pos, natAbs, _+ℤ_, _-ℤ_, _*ℤ_}
+use lib.Ieee.{binary64, ofInt, toSigned}
+use Rattle.arith.specs.First.{first}
 use Rattle.arith.specs.Row.{at}
 use Rattle.records.specs.declared.Grid.{Grid}
-use Rattle.records.specs.Records.{gridOf}
+use Rattle.records.specs.declared.Shifts.{Shifts}
+use Rattle.records.specs.Records.{gridOf, gridRow}
 use Rattle.message.specs.Message.{row}
-use Rattle.bilinear.specs.Bilinear.{Surface, gap, fromEdge, outside, cell, inCell, exact, absentIn, columnDifference, rowDifference}
-use Rattle.grid.specs.Shift.{surface, northOf, eastOf, messageShift}
+use Rattle.message.specs.Kinds.{recordRefusal, readGrid, gridHeld}
+use Rattle.bilinear.specs.Bilinear.{Surface, gap, fromEdge, outside, cell, exact, LipschitzBound}
+use Rattle.grid.specs.Shift.{nodeRaw, surface, northOf, eastOf, fieldTests, recordShift, messageShift}
+use Rattle.grid.specs.Private.{inside}
 
 -- the grid of a message, and one component of it
 abbrev pub gridAt : List ℕ → Grid
@@ -25,9 +32,16 @@ AnsweredAt s c n e = messageShift s c n e .refusal ≡ 0
 
 -- ---- demand 2: "a grid answer is the mean shift plus the whole number nearest to the exact weighted mean (halves away from zero)"
 
+-- the place of a position: steps from the southern and from the western edge of the grid
+abbrev pub northSteps : Grid → ℕ → ℤ → ℕ
+northSteps g c n = natAbs (fromEdge (surface g c .H) (northOf g n))
+
+abbrev pub eastSteps : Grid → ℕ → ℤ → ℕ
+eastSteps g c e = natAbs (fromEdge (surface g c .W) (eastOf g e))
+
 -- the exact weighted mean at a position, times both spacings
 abbrev pub exactAt : List ℕ → ℕ → ℤ → ℤ → ℤ
-exactAt s c n e = exact (surfaceAt s c) (natAbs (fromEdge (surfaceAt s c .H) (northOf (gridAt s) n))) (natAbs (fromEdge (surfaceAt s c .W) (eastOf (gridAt s) e)))
+exactAt s c n e = exact (surfaceAt s c) (northSteps (gridAt s) c n) (eastSteps (gridAt s) c e)
 
 -- twice the distance of r from m / d, times d
 abbrev pub twiceOff : ℤ → ℕ → ℤ → ℕ
@@ -48,16 +62,67 @@ pub record MeanPlusNearest (s : List ℕ) (c : ℕ) (n e : ℤ) : Type 0 where
 abbrev pub GridAnswer : Type 0
 GridAnswer = (s : List ℕ) (c : ℕ) (n e : ℤ) → AnsweredAt s c n e → MeanPlusNearest s c n e
 
--- "On a shared edge both cells must give the same answer or refusal": every cell k from the south and l from the west whose closed rectangle holds the place y, x
--- gives the exact mean and the refusal
-pub record SharedEdge (g : Surface) (k l y x : ℕ) : Type 0 where
-  pub answer : exact g y x ≡ inCell g k l y x
-  pub refusal : absentIn g (cell (g .H) y) (cell (g .W) x) y x ≡ absentIn g k l y x
+-- the cell k from the south and l from the west, its edges included, holds the position
+pub record Holds (g : Grid) (c k l : ℕ) (n e : ℤ) : Type 0 where
+  pub row : k ≤ 2
+  pub column : l ≤ 2
+  pub inside : (outside (surface g c .H) (northOf g n) ≡ false) × (outside (surface g c .W) (eastOf g e) ≡ false)
+  pub north : (k * surface g c .H ≤ northSteps g c n) × (northSteps g c n ≤ suc k * surface g c .H)
+  pub east : (l * surface g c .W ≤ eastSteps g c e) × (eastSteps g c e ≤ suc l * surface g c .W)
 
+-- "On a shared edge both cells must give the same answer or refusal": every cell that holds a position gives what the call answers
 abbrev pub SharedEdges : Type 0
 SharedEdges =
-    (g : Surface) → 0 < g .H → 0 < g .W → (k l y x : ℕ) → k ≤ 2 → l ≤ 2
-    → k * g .H ≤ y → y ≤ suc k * g .H → l * g .W ≤ x → x ≤ suc l * g .W → SharedEdge g k l y x
+    (s : List ℕ) (c : ℕ) (n e : ℤ) → readGrid s .refusal ≡ 0 → first (fieldTests (gridAt s) c n e) ≡ 0
+    → (k l : ℕ) → Holds (gridAt s) c k l n e → messageShift s c n e ≡ inside (gridAt s) c k l (northSteps (gridAt s) c n) (eastSteps (gridAt s) c e)
+
+-- the call on the record that was read from a message answers as the call on the message
+abbrev pub BothCalls : Type 0
+BothCalls = (s : List ℕ) (c : ℕ) (n e : ℤ) → readGrid s .refusal ≡ 0 → recordShift (readGrid s .value) c n e ≡ messageShift s c n e
+
+-- a grid record is one that a message holds, and so not RANGE, exactly where the writer with room for it refuses nothing
+abbrev pub HeldIsWritten : Type 0
+HeldIsWritten = (g : Grid) (m : ℕ) → 74 ≤ m → gridHeld g ≡ eqb (recordRefusal 1023 1024 true (gridRow g) m) 0
+
+-- the grid with other nodes
+abbrev pub withNodes : Grid → List Shifts → Grid
+withNodes g ns =
+    record {
+      number = g .number;
+      sin = g .sin;
+      shifts = g .shifts;
+      origin = g .origin;
+      spacing = g .spacing;
+      mean = g .mean;
+      nodes = ns;
+      methods = g .methods;
+      quality = g .quality;
+      day = g .day;
+    }
+
+-- the nodes ns are those of g, but for nodes that have no weight b steps north and a steps east of the corner of the cell k from the south and l from the west
+pub record SameWeighted (g : Grid) (ns : List Shifts) (c k l b a : ℕ) : Type 0 where
+  pub sw : ((surface g c .W - a) * (surface g c .H - b) ≡ 0) ⊎ (nodeRaw (g .nodes) c (3 - k) l ≡ nodeRaw ns c (3 - k) l)
+  pub se : (a * (surface g c .H - b) ≡ 0) ⊎ (nodeRaw (g .nodes) c (3 - k) (l + 1) ≡ nodeRaw ns c (3 - k) (l + 1))
+  pub nw : ((surface g c .W - a) * b ≡ 0) ⊎ (nodeRaw (g .nodes) c (2 - k) l ≡ nodeRaw ns c (2 - k) l)
+  pub ne : (a * b ≡ 0) ⊎ (nodeRaw (g .nodes) c (2 - k) (l + 1) ≡ nodeRaw ns c (2 - k) (l + 1))
+
+-- only "a node of non-zero weight" is asked for: other nodes may be anything that a message holds
+abbrev pub OnlyWeighted : Type 0
+OnlyWeighted =
+    (g : Grid) (ns : List Shifts) (c : ℕ) (n e : ℤ) → gridHeld g ≡ gridHeld (withNodes g ns)
+    → SameWeighted g ns c (cell (surface g c .H) (northSteps g c n)) (cell (surface g c .W) (eastSteps g c e))
+    (northSteps g c n - cell (surface g c .H) (northSteps g c n) * surface g c .H)
+    (eastSteps g c e - cell (surface g c .W) (eastSteps g c e) * surface g c .W)
+    → recordShift g c n e ≡ recordShift (withNodes g ns) c n e
+
+-- "the count, made an f64 without loss": the float of an answered count is that count
+abbrev pub Lossless : Type 0
+Lossless = (s : List ℕ) (c : ℕ) (n e : ℤ) → AnsweredAt s c n e → toSigned 63 (ofInt binary64 (messageShift s c n e .count)) ≡ messageShift s c n e .count
+
+-- "twice the sum stays below 8.6 × 10^18"
+abbrev pub SumBound : Type 0
+SumBound = (s : List ℕ) (c : ℕ) (n e : ℤ) → AnsweredAt s c n e → 2 * natAbs (exactAt s c n e) < 8600000000000000000
 
 -- ---- demand 3
 
@@ -72,16 +137,12 @@ stepsNorth a b = gap a b
 abbrev pub stepsEast : List ℕ → ℤ → ℤ → ℕ
 stepsEast s a b = gap (eastOf (gridAt s) a) (eastOf (gridAt s) b)
 
--- "the difference of the answers times both spacings is at most the product of the spacings, plus steps north times greatest column difference times east spacing,
--- plus steps east times greatest row difference times north spacing. It is one claim about any two positions"
+-- "It is one claim about any two positions"
 abbrev pub Lipschitz : Type 0
 Lipschitz =
     (s : List ℕ) (c : ℕ) → AllPresent s c → (n₁ e₁ n₂ e₂ : ℤ) → AnsweredAt s c n₁ e₁ → AnsweredAt s c n₂ e₂
-    → gap (messageShift s c n₁ e₁ .count) (messageShift s c n₂ e₂ .count) * (surfaceAt s c .H * surfaceAt s c .W)
-    ≤ surfaceAt s c .H * surfaceAt s c .W
-    + stepsNorth n₁ n₂ * columnDifference (surfaceAt s c) * surfaceAt s c .W
-    + stepsEast s e₁ e₂ * rowDifference (surfaceAt s c) * surfaceAt s c .H
+    → LipschitzBound (surfaceAt s c) (messageShift s c n₁ e₁ .count) (messageShift s c n₂ e₂ .count) (stepsNorth n₁ n₂) (stepsEast s e₁ e₂)
 
--- today the steps east are those between the positions
+-- the steps east are those between the positions
 abbrev pub PlainSteps : Type 0
 PlainSteps = (s : List ℕ) (a b : ℤ) → stepsEast s a b ≡ gap a b

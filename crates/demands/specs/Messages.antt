@@ -3,7 +3,7 @@
 use Prim.Native.Nat.{ℕ, _+_, _≤_, _<_}
 use mathlib.Core.Path.{_≡_}
 use mathlib.Core.Logic.{_⊎_}
-use mathlib.Core.Bool.{true, false, _&&_}
+use mathlib.Core.Bool.{Bool, true, false, _&&_}
 use mathlib.Core.List.{List}
 use lib.IntN.{ℤ, pos}
 use lib.ListN.{length, getD}
@@ -43,8 +43,8 @@ CounterCut = (s : List ℕ) → 2 ≤ length s → 1021 ≤ numberOf s → numbe
 -- ---- demand 2: "1021 has 52 to 114 bytes, 1022 has 65 to 127, the others 73, 74, 25, 30, 33"
 
 pub record Lengths (s : List ℕ) : Type 0 where
-  pub l1021 : numberOf s ≡ 1021 → length s ≡ 52 + sourceCount s + targetCount s
-  pub l1022 : numberOf s ≡ 1022 → length s ≡ 65 + sourceCount s + targetCount s
+  pub l1021 : numberOf s ≡ 1021 → (length s ≡ 52 + sourceCount s + targetCount s) × (length s ≤ 114)
+  pub l1022 : numberOf s ≡ 1022 → (length s ≡ 65 + sourceCount s + targetCount s) × (length s ≤ 127)
   pub l1023 : numberOf s ≡ 1023 → length s ≡ 73
   pub l1024 : numberOf s ≡ 1024 → length s ≡ 74
   pub l1025 : numberOf s ≡ 1025 → length s ≡ 25
@@ -78,16 +78,18 @@ abbrev pub RowAgain : Type 0
 RowAgain = (v : List ℤ) (n : ℕ) → writeRefusal v n ≡ 0 → (refusal (message v) ≡ 0) × (row (message v) ≡ v)
 
 -- the same of a record kind, read by its reader and written from its row
-abbrev pub Rewritten : ℕ → ℕ → List ℤ → List ℕ → Type 0
-Rewritten lo hi v s = (message v ≡ s) × ((n : ℕ) → length s ≤ n → recordRefusal lo hi true v n ≡ 0)
+abbrev pub Rewritten : ℕ → ℕ → Bool → List ℤ → List ℕ → Type 0
+Rewritten lo hi good v s = (message v ≡ s) × ((n : ℕ) → length s ≤ n → recordRefusal lo hi good v n ≡ 0)
 
 pub record RecordsAgain (s : List ℕ) : Type 0 where
-  pub helmert : readHelmert s .refusal ≡ 0 → Rewritten 1021 1021 (helmertRow (readHelmert s .value)) s
-  pub molodenskiBadekas : readMolodenskiBadekas s .refusal ≡ 0 → Rewritten 1022 1022 (molodenskiBadekasRow (readMolodenskiBadekas s .value)) s
-  pub grid : readGrid s .refusal ≡ 0 → Rewritten 1023 1024 (gridRow (readGrid s .value)) s
-  pub projection : readProjection s .refusal ≡ 0 → Rewritten 1025 1025 (projectionRow (readProjection s .value)) s
-  pub lambert : readLambert s .refusal ≡ 0 → Rewritten 1026 1026 (lambertRow (readLambert s .value)) s
-  pub obliqueMercator : readObliqueMercator s .refusal ≡ 0 → Rewritten 1027 1027 (obliqueMercatorRow (readObliqueMercator s .value)) s
+  pub helmert : readHelmert s .refusal ≡ 0
+      → Rewritten 1021 1021 (goodName (readHelmert s .value .source) && goodName (readHelmert s .value .target)) (helmertRow (readHelmert s .value)) s
+  pub molodenskiBadekas : readMolodenskiBadekas s .refusal ≡ 0
+      → Rewritten 1022 1022 (goodName (readMolodenskiBadekas s .value .source) && goodName (readMolodenskiBadekas s .value .target)) (molodenskiBadekasRow (readMolodenskiBadekas s .value)) s
+  pub grid : readGrid s .refusal ≡ 0 → Rewritten 1023 1024 true (gridRow (readGrid s .value)) s
+  pub projection : readProjection s .refusal ≡ 0 → Rewritten 1025 1025 true (projectionRow (readProjection s .value)) s
+  pub lambert : readLambert s .refusal ≡ 0 → Rewritten 1026 1026 true (lambertRow (readLambert s .value)) s
+  pub obliqueMercator : readObliqueMercator s .refusal ≡ 0 → Rewritten 1027 1027 true (obliqueMercatorRow (readObliqueMercator s .value)) s
 
 -- a name as a record has it: 31 bytes
 pub record NameBytes (n : Name) : Type 0 where

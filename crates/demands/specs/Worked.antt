@@ -1,15 +1,19 @@
 -- Document 01, "Numbers worked out": one table of rows, each a message, what is asked of it, and the number and count that must be answered.
 -- The bytes are those of the second program's cases p1 to p12.
 -- Assumes nothing.
-use Prim.Native.Nat.{ℕ}
+use Prim.Native.Nat.{ℕ, _+_}
 use mathlib.Core.Path.{_≡_}
-use mathlib.Core.List.{List, [], _∷_}
-use lib.IntN.{ℤ, pos, negsuc}
+use mathlib.Core.Bool.{cond}
+use mathlib.Core.List.{List, [], _∷_, _++_}
+use lib.Dec.{eqb}
+use lib.IntN.{ℤ, pos, negsuc, negℤ}
+use Rattle.arith.specs.Row.{upTo}
 use Rattle.bits.specs.Layout.{blank}
+use Rattle.records.specs.Records.{nodesRow}
 use Rattle.message.specs.Message.{refusal, row}
-use Rattle.grid.specs.declared.Answer.{Answer}
 use Rattle.grid.specs.declared.Answer.the-variants.{Metres}
 use Rattle.grid.specs.Shift.{unitsOf, messageShift}
+use Rattle.demands.specs.Grids.{AllPresent}
 
 -- ---- messages
 
@@ -99,10 +103,22 @@ WorkedNumbers = given table ≡ wanted table
 abbrev pub WorkedMetres : Type 0
 WorkedMetres = messageShift gridK 2 (pos 1764000000) (pos 396000000) .answer ≡ Metres (unitsOf 10000 (pos 469285))
 
--- the bytes of Grid K read as document 01 gives them
-abbrev pub GridKRead : Type 0
-GridKRead =
-    row gridK
-    ≡ pos 1023 ∷ pos 7 ∷ pos 0 ∷ pos 1 ∷ pos 352800 ∷ pos 79200 ∷ pos 720 ∷ pos 720 ∷ pos 0 ∷ pos 0 ∷ pos 4692
-    ∷ pos 0 ∷ pos 0 ∷ pos 1 ∷ pos 0 ∷ pos 0 ∷ pos 2 ∷ pos 0 ∷ pos 0 ∷ pos 3 ∷ pos 0 ∷ pos 0 ∷ pos 4 ∷ pos 0 ∷ pos 0 ∷ pos 5 ∷ pos 0 ∷ pos 0 ∷ pos 6 ∷ pos 0 ∷ pos 0 ∷ pos 7 ∷ pos 0 ∷ pos 0 ∷ pos 8 ∷ pos 0 ∷ pos 0 ∷ pos 9 ∷ pos 0 ∷ pos 0 ∷ pos 10 ∷ pos 0 ∷ pos 0 ∷ pos 11 ∷ pos 0 ∷ pos 0 ∷ pos 12 ∷ pos 0 ∷ pos 0 ∷ pos 13 ∷ pos 0 ∷ pos 0 ∷ pos 14 ∷ pos 0 ∷ pos 0 ∷ pos 15 ∷ pos 0 ∷ pos 0 ∷ pos 16
-    ∷ pos 0 ∷ pos 0 ∷ pos 0 ∷ pos 0 ∷ pos 0 ∷ []
+-- the row of a grid like Grid K: its raw spacings, and its height nodes 1 to 16
+abbrev pub rowK : ℤ → ℤ → (ℕ → ℤ) → List ℤ
+rowK rows columns node =
+    (pos 1023 ∷ pos 7 ∷ pos 0 ∷ pos 1 ∷ pos 352800 ∷ pos 79200 ∷ rows ∷ columns ∷ pos 0 ∷ pos 0 ∷ pos 4692 ∷ [])
+    ++ nodesRow (upTo (λ i. record { north = pos 0; east = pos 0; height = node (i + 1) }) 16)
+    ++ (pos 0 ∷ pos 0 ∷ pos 0 ∷ pos 0 ∷ pos 0 ∷ [])
+
+-- the bytes read as document 01 gives Grid K and the grids made from it
+pub record GridsRead : Type 0 where
+  pub grid : row gridK ≡ rowK (pos 720) (pos 720) pos
+  pub negated : row gridKNegated ≡ rowK (pos 720) (pos 720) (λ i. negℤ (pos i))
+  pub node7 : row gridKNode7 ≡ rowK (pos 720) (pos 720) (λ i. cond (eqb i 7) (negsuc 255) (pos i))
+  pub north0 : row gridKNorth0 ≡ rowK (pos 0) (pos 720) pos
+  pub east0 : row gridKEast0 ≡ rowK (pos 720) (pos 0) pos
+  pub both0 : row gridKBoth0 ≡ rowK (pos 0) (pos 0) pos
+
+-- Grid K's heights have all sixteen nodes present, as demand 3 asks
+abbrev pub GridKPresent : Type 0
+GridKPresent = AllPresent gridK 2

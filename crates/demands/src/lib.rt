@@ -2,10 +2,13 @@
 pub mod promises;
 
 ghost use Prim.Native.Nat.{ℕ};
+ghost use mathlib.Core.Path.{_≡_};
 ghost use mathlib.Core.List.{List};
 ghost use Rattle.demands.specs.Messages.{Bytes, FirstThatApplies, CounterCut, AcceptedLengths, SinFound, ReportedLength, MessageAgain, RowAgain, RecordsAgain, RecordsBack};
-ghost use Rattle.demands.specs.Worked.{WorkedNumbers, WorkedMetres, GridKRead};
-ghost use Rattle.demands.specs.Grids.{GridAnswer, SharedEdges, Lipschitz, PlainSteps};
+ghost use Rattle.demands.specs.Worked.{WorkedNumbers, WorkedMetres, GridsRead, GridKPresent};
+ghost use Rattle.demands.specs.Grids.{GridAnswer, SharedEdges, BothCalls, HeldIsWritten, OnlyWeighted, Lossless, SumBound, AllPresent, surfaceAt, stepsNorth, stepsEast, Lipschitz, PlainSteps};
+ghost use Rattle.bilinear.specs.Bilinear.{LipschitzBound};
+ghost use Rattle.grid.specs.Shift.{messageShift};
 ghost use Rattle.demands.specs.Tables.{LikeADictionary, LastStored, StaysFormed, RefusedKeeps};
 
 // Demand 1 of reading: the first refusal that applies, and only then.
@@ -37,10 +40,15 @@ pub fn tables()
     ensures refused { λ r. ⌜ RefusedKeeps ⌝ }
 {}
 
-// Demand 2 of the shift at a position: the mean plus the nearest whole number, the same from every cell that holds the place.
+// Demand 2 of the shift at a position: the mean plus the nearest whole number, the same from every cell that holds the place and from both calls.
 pub fn shifts()
     ensures answer { λ r. ⌜ GridAnswer ⌝ }
     ensures edges { λ r. ⌜ SharedEdges ⌝ }
+    ensures calls { λ r. ⌜ BothCalls ⌝ }
+    ensures held { λ r. ⌜ HeldIsWritten ⌝ }
+    ensures nodes { λ r. ⌜ OnlyWeighted ⌝ }
+    ensures lossless { λ r. ⌜ Lossless ⌝ }
+    ensures sum { λ r. ⌜ SumBound ⌝ }
 {}
 
 // Demand 3: one Lipschitz bound over the whole grid.
@@ -49,9 +57,34 @@ pub fn lipschitz()
     ensures steps { λ r. ⌜ PlainSteps ⌝ }
 {}
 
+// The answers to two positions.
+pub struct TwoShifts {
+    pub first: grid::Shift,
+    pub second: grid::Shift,
+}
+
+// Demand 3 of two calls on one message and component.
+pub fn two_shifts(
+    message: &[u8],
+    component: u8,
+    north1: i64,
+    east1: i64,
+    north2: i64,
+    east2: i64,
+) -> TwoShifts
+    ensures first { λ r. ⌜ r .first ≡ messageShift (now (message .entry)) component north1 east1 ⌝ }
+    ensures second { λ r. ⌜ r .second ≡ messageShift (now (message .entry)) component north2 east2 ⌝ }
+    ensures bound { λ r. ⌜ (AllPresent (now (message .entry)) component → r .first .refusal ≡ 0 → r .second .refusal ≡ 0 → LipschitzBound (surfaceAt (now (message .entry)) component) (r .first .count) (r .second .count) (stepsNorth north1 north2) (stepsEast (now (message .entry)) east1 east2)) ⌝ }
+{
+    let first = grid::shift_at(message, component, north1, east1);
+    let second = grid::shift_at(message, component, north2, east2);
+    TwoShifts { first, second }
+}
+
 // Document 01, "Numbers worked out": P1 to P12.
 pub fn worked_numbers()
     ensures table { λ r. ⌜ WorkedNumbers ⌝ }
     ensures metres { λ r. ⌜ WorkedMetres ⌝ }
-    ensures read { λ r. ⌜ GridKRead ⌝ }
+    ensures read { λ r. ⌜ GridsRead ⌝ }
+    ensures present { λ r. ⌜ GridKPresent ⌝ }
 {}

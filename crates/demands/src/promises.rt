@@ -4,11 +4,11 @@ ghost use mathlib.Core.Bool.{true, _&&_};
 ghost use lib.ListN.{length};
 ghost use Rattle.arith.specs.Row.{at};
 ghost use Rattle.bits.specs.Field.{fieldAt};
-ghost use Rattle.bits.specs.Layout.{decoded, encodeAll, answered, stored};
+ghost use Rattle.bits.specs.Layout.{allTake, decoded, encodeAll, answered, stored};
 ghost use Rattle.bits.specs.Layout as Bits;
 ghost use Rattle.records.specs.Records.{goodName, helmertOf, helmertRow, molodenskiBadekasOf, molodenskiBadekasRow, gridOf, gridRow, projectionOf, projectionRow, lambertOf, lambertRow, obliqueMercatorOf, obliqueMercatorRow, numbers};
 ghost use Rattle.message.specs.Message.{header, rowRefusal, rowRead, writeRefusal, message};
-ghost use Rattle.message.specs.Kinds.{readHelmert, readMolodenskiBadekas, readGrid, readProjection, readLambert, readObliqueMercator, recordRefusal};
+ghost use Rattle.message.specs.Kinds.{readHelmert, readMolodenskiBadekas, readGrid, readProjection, readLambert, readObliqueMercator, recordRefusal, gridHeld};
 ghost use Rattle.grid.specs.Shift.{messageShift, recordShift};
 ghost use Rattle.table.specs.Table.{wellFormed, storeRefusal, storeTable, findRefusal, foundOf, removeTable};
 ghost use Rattle.table.specs.Shown.{Shows};
@@ -23,6 +23,12 @@ pub fn decode(s: &[u8], layout: &[u64]) -> bits::Row
     ensures { λ r. ⌜ r ≡ decoded (now (layout .entry)) (now (s .entry)) ⌝ }
 {
     bits::decode(s, layout)
+}
+
+pub fn all_take(layout: &[u64], values: &[i64]) -> bool
+    ensures { λ r. ⌜ r ≡ allTake (now (layout .entry)) (now (values .entry)) ⌝ }
+{
+    bits::all_take(layout, values)
 }
 
 pub fn encode(layout: &[u64], values: &[i64], out: &mut [u8]) -> bits::Written
@@ -125,6 +131,12 @@ pub fn write_grid(r: records::Grid, out: &mut [u8]) -> bits::Written
     ensures output { λ w. ⌜ now (out .exit) ≡ stored (recordRefusal 1023 1024 true (gridRow r) (length (now (out .entry)))) (message (gridRow r)) (now (out .entry)) ⌝ }
 {
     message::write_grid(r, out)
+}
+
+pub fn grid_held(r: records::Grid) -> bool
+    ensures { λ b. ⌜ b ≡ gridHeld r ⌝ }
+{
+    message::grid_held(r)
 }
 
 pub fn projection_of(v: &[i64; 96]) -> records::Projection

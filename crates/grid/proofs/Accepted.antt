@@ -4,10 +4,10 @@ use mathlib.Core.Path.{_≡_, refl, sym, _∙_, subst}
 use mathlib.Core.Bool.{Bool, true, false, not, cond, _&&_}
 use mathlib.Core.List.{List, [], _∷_, _++_, append-assoc}
 use mathlib.Core.Logic.{_⊎_, inl, inr}
-use Prim.Native.Nat.{ℕ, zero, suc, _+_, _*_, _-_, _/_, _≤_, _<_, _^_}
+use Prim.Native.Nat.{ℕ, zero, suc, _+_, _*_, _/_, _≤_, _<_, _^_}
 use native.Mathlib.Nat.{le-trans, not-suc-le-zero, le-of-suc-le-suc, eq-or-lt-of-le}
 use native.Mathlib.Omega.{arith}
-use borrow.Author.Tests.{eq-eqb, ltb-true, leb-true, le-leb}
+use borrow.Author.Tests.{eq-eqb, ltb-true, leb-true, le-leb, le-ltb}
 use lib.Dec.{T, eqb, ltb, leb, leb→le}
 use lib.IntN.{ℤ, pos, negsuc, natAbs}
 use lib.ListN.{length, getD, take, length-append}
@@ -25,11 +25,11 @@ use Rattle.records.specs.Records.{gridOf, gridRow, nodesRow, pairRow, placeRow,
 use Rattle.records.proofs.Inverse.{grid-row-of}
 use Rattle.message.specs.Layouts.{layoutOf, layout1023, layout1024, times, points}
 use Rattle.message.specs.Message.{tests, refusal, numberOf, sourceCount, targetCount, layout, row, rowLayout, kindRefusal, kindRow}
-use Rattle.message.specs.Kinds as Kinds
+use Rattle.message.specs.Kinds.{recordRefusal, rowHeld, gridHeld}
 use Rattle.message.proofs.Head.{head-passed, accepted-head, row-of}
 use Rattle.message.proofs.Rows.{length-row}
 use Rattle.message.proofs.Trips.{row-layout-of, row-number}
-use Rattle.grid.specs.Shift.{part, nodeRaw, gridTests, recordRefusal, shiftRefusal}
+use Rattle.grid.specs.Shift.{part, nodeRaw, gridTests, recordShiftRefusal, shiftRefusal}
 use Rattle.grid.specs.Private.{Fields}
 use Rattle.grid.proofs.Parts.{stops, goes-on, passes}
 
@@ -190,7 +190,7 @@ pub fields-of : (g : Grid) → 1023 ≤ natural (g .number) → natural (g .numb
 unfolding rowLayout gridRow
 fields-of g lo hi h = fields-layout g (natural (g .number)) _ _ lo hi h
 
--- ---- the refusals of a record: what `write_grid` answers, then the tests of the grid
+-- ---- the refusals of a record: what `grid_held` answers, then the tests of the grid
 
 abbrev kind : ℕ → Bool
 kind k = leb 1023 k && leb k 1024
@@ -198,61 +198,60 @@ kind k = leb 1023 k && leb k 1024
 kind-low : (k : ℕ) → kind k ≡ true → (1023 ≤ k) × (k ≤ 1024)
 kind-low k e = (leb-true 1023 k (both-first (leb 1023 k) (leb k 1024) e), leb-true k 1024 (both-second (leb 1023 k) (leb k 1024) e))
 
--- with room for 80 bytes a grid message is refused for its ranges alone
+long-of : (k n m : ℕ) → 1023 ≤ k → k ≤ 1024 → length (layoutOf k n m) ≡ 64
+unfolding layoutOf layout1023 layout1024
+long-of k n m lo hi = by-number (λ (k : ℕ). length (layoutOf k n m) ≡ 64) k lo hi refl refl
+
+-- with room for any grid message a record is refused for its ranges alone
 abbrev Room : List ℕ → Type 0
-Room es = (ltb 96 (length es) ≡ false) × (ltb 80 (size es) ≡ false)
+Room es = (ltb 96 (length es) ≡ false) × (size es ≤ 74)
 
 room-of : (k n m : ℕ) → 1023 ≤ k → k ≤ 1024 → Room (layoutOf k n m)
 unfolding layoutOf layout1023 layout1024 total
-room-of k n m lo hi = by-number (λ (k : ℕ). Room (layoutOf k n m)) k lo hi (refl, refl) (refl, refl)
+room-of k n m lo hi = by-number (λ (k : ℕ). Room (layoutOf k n m)) k lo hi (refl, omega arith) (refl, omega arith)
 
 room : (v : List ℤ) → 1023 ≤ natural (at v 0) → natural (at v 0) ≤ 1024 → Room (rowLayout v)
 unfolding rowLayout
 room v lo hi = room-of (natural (at v 0)) _ _ lo hi
 
-long-of : (k n m : ℕ) → 1023 ≤ k → k ≤ 1024 → length (layoutOf k n m) ≡ 64
-unfolding layoutOf layout1023 layout1024
-long-of k n m lo hi = by-number (λ (k : ℕ). length (layoutOf k n m) ≡ 64) k lo hi refl refl
-
-abbrev ranges : List ℤ → List Test
-ranges v = (5, not (kind (natural (at v 0)))) ∷ (5, not (allTake (rowLayout v) v)) ∷ []
-
-range-is : (v : List ℤ) → Kinds.recordRefusal 1023 1024 true v 80 ≡ first (ranges v)
-unfolding Kinds.recordRefusal
-range-is v = by (kind (natural (at v 0))) refl
+pub held-is-written : (v : List ℤ) (m : ℕ) → 74 ≤ m → rowHeld 1023 1024 v ≡ eqb (recordRefusal 1023 1024 true v m) 0
+unfolding rowHeld recordRefusal
+held-is-written v m h = by (kind (natural (at v 0))) refl
   where
-    by : (b : Bool) → kind (natural (at v 0)) ≡ b → Kinds.recordRefusal 1023 1024 true v 80 ≡ first (ranges v)
+    last : (b : Bool) → b ≡ eqb (first ((5, not b) ∷ (6, false) ∷ [])) 0
+    last true = refl
+    last false = refl
+
+    by : (b : Bool) → kind (natural (at v 0)) ≡ b → rowHeld 1023 1024 v ≡ eqb (recordRefusal 1023 1024 true v m) 0
     by true e =
         let k = kind-low (natural (at v 0)) e in
+        let r = room v (k .0) (k .1) in
+        unfold rowHeld recordRefusal in
         rw (
           le-leb 1023 (natural (at v 0)) (k .0),
           le-leb (natural (at v 0)) 1024 (k .1),
           le-leb 1021 (natural (at v 0)) (omega arith),
           le-leb (natural (at v 0)) 1027 (omega arith),
-          room v (k .0) (k .1) .0,
-          room v (k .0) (k .1) .1,
+          r .0,
+          le-ltb m (size (rowLayout v)) (omega arith),
         )
-    by false e = rw e
+        (last (allTake (rowLayout v) v))
+    by false e = unfold rowHeld recordRefusal in rw e
 
-module _ (g : Grid) (c : ℕ) (n e : ℤ) {r : ℕ} (w : r ≡ Kinds.recordRefusal 1023 1024 true (gridRow g) 80) where
-  pub record-refused : (r ≡ 0 → ⊥) → r ≡ recordRefusal g c n e
-  unfolding recordRefusal gridRow
-  record-refused h = stops (ranges (gridRow g)) (gridTests g c n e) tt (w ∙ range-is (gridRow g)) h
+module _ (g : Grid) (c : ℕ) (n e : ℤ) where
+  pub record-refused : gridHeld g ≡ false → 5 ≡ recordShiftRefusal g c n e
+  unfolding recordShiftRefusal
+  record-refused h = rw h
 
-  module _ (h : r ≡ 0) where
-    none-of : first (ranges (gridRow g)) ≡ 0
-    none-of = sym (range-is (gridRow g)) ∙ sym w ∙ h
+  pub record-passed : gridHeld g ≡ true → first (gridTests g c n e) ≡ recordShiftRefusal g c n e
+  unfolding recordShiftRefusal
+  record-passed h = rw h
 
-    pub record-passed : first (gridTests g c n e) ≡ recordRefusal g c n e
-    unfolding recordRefusal gridRow
-    record-passed = goes-on (ranges (gridRow g)) (gridTests g c n e) tt none-of
-
-    pub record-fields : Fields g
-    unfolding gridRow
-    record-fields =
-        let k = passed 4 (not (kind (natural (g .number)))) _ none-of in
-        let b = kind-low (natural (g .number)) (not-false _ (k .0)) in
-        fields-of g (b .0) (b .1) (not-false _ (passed 4 (not (allTake (rowLayout (gridRow g)) (gridRow g))) 0 (k .1) .0))
+pub record-fields : (g : Grid) → gridHeld g ≡ true → Fields g
+unfolding rowHeld gridRow
+record-fields g h =
+    let k = kind-low (natural (g .number)) (both-first (kind (natural (g .number))) (allTake (rowLayout (gridRow g)) (gridRow g)) h) in
+    fields-of g (k .0) (k .1) (both-second (kind (natural (g .number))) (allTake (rowLayout (gridRow g)) (gridRow g)) h)
 
 -- ---- the refusals of a message: what `read_grid` answers, then the tests of the grid
 
@@ -295,9 +294,10 @@ module _ (s : List ℕ) (c : ℕ) (n e : ℤ) where
         rw (row-layout-of s (parts .0), row-of s (parts .0))
         (accepted (layout s) s (sym (head-passed s (accepted-head s (parts .0))) ∙ parts .0) .ranged)
 
+    -- the record of a message is one that a message holds
+    pub message-held : gridHeld g ≡ true
+    unfolding rowHeld gridOf
+    message-held = rw (grid-row-of (row s) long, row-number s (parts .0), parts .1, taken)
+
     pub message-fields : Fields g
-    unfolding gridOf
-    message-fields =
-        let k = kind-low (numberOf s) (parts .1) in
-        let m : natural (at (row s) 0) ≡ numberOf s = row-number s (parts .0) in
-        fields-of g (rw m (k .0)) (rw m (k .1)) (subst (λ v. allTake (rowLayout v) v ≡ true) (sym (grid-row-of (row s) long)) taken)
+    message-fields = record-fields g message-held

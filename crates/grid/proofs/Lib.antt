@@ -4,3 +4,4 @@ pub mod Sum
 pub mod Parts
 pub mod Accepted
 pub mod Lipschitz
+pub mod Calls

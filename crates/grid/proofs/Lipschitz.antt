@@ -2,13 +2,13 @@
 -- Assumes nothing.
 use mathlib.Core.Path.{_≡_}
 use mathlib.Core.List.{List}
-use Prim.Native.Nat.{ℕ, _+_, _*_, _≤_, _<_}
+use Prim.Native.Nat.{ℕ, _<_}
 use lib.IntN.{ℤ, pos, negℤ, _*ℤ_}
 use Rattle.arith.specs.Row.{at}
 use Rattle.records.specs.declared.Grid.{Grid}
 use Rattle.records.specs.Records.{gridOf}
 use Rattle.message.specs.Message.{row}
-use Rattle.bilinear.specs.Bilinear.{gap, interpolated, columnDifference, rowDifference}
+use Rattle.bilinear.specs.Bilinear.{gap, interpolated, LipschitzBound}
 use Rattle.bilinear.proofs.Gap.{gap-add}
 use Rattle.bilinear.proofs.Lipschitz.{lipschitz}
 use Rattle.grid.specs.Shift.{stepsOf, surface, northOf, eastOf, shiftRefusal, outcome, shiftWith, messageShift}
@@ -44,10 +44,8 @@ east-steps g a b = gap-add a b (negℤ (pos (stepsOf (g .number)) *ℤ g .origin
 
 -- of the answers to any two positions of one component of one message
 pub lipschitz-message : (s : List ℕ) (c : ℕ) (n₁ e₁ n₂ e₂ : ℤ) → shiftRefusal s c n₁ e₁ ≡ 0 → shiftRefusal s c n₂ e₂ ≡ 0
-    → gap (messageShift s c n₁ e₁ .count) (messageShift s c n₂ e₂ .count) * (surface (gridOf (at (row s))) c .H * surface (gridOf (at (row s))) c .W)
-    ≤ surface (gridOf (at (row s))) c .H * surface (gridOf (at (row s))) c .W
-    + gap n₁ n₂ * columnDifference (surface (gridOf (at (row s))) c) * surface (gridOf (at (row s))) c .W
-    + gap (eastOf (gridOf (at (row s))) e₁) (eastOf (gridOf (at (row s))) e₂) * rowDifference (surface (gridOf (at (row s))) c) * surface (gridOf (at (row s))) c .H
+    → LipschitzBound (surface (gridOf (at (row s))) c) (messageShift s c n₁ e₁ .count) (messageShift s c n₂ e₂ .count) (gap n₁ n₂)
+    (gap (eastOf (gridOf (at (row s))) e₁) (eastOf (gridOf (at (row s))) e₂))
 lipschitz-message s c n₁ e₁ n₂ e₂ p q =
     let g = gridOf (at (row s)) in
     let a = placed s c n₁ e₁ p in

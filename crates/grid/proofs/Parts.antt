@@ -14,7 +14,7 @@ use Rattle.arith.specs.Whole.{natural, sameZ}
 use Rattle.arith.proofs.First.{first-append, positive, passed, or-false}
 use Rattle.arith.proofs.Tests.{false-ne-true}
 use Rattle.records.specs.declared.Grid.{Grid}
-use Rattle.bilinear.specs.Bilinear.{nearest, fromEdge, outside, cell, inCell, exact, interpolated, lacks, absent, absentIn}
+use Rattle.bilinear.specs.Bilinear.{nearestWhole, fromEdge, outside, cell, inCell, exact, interpolated, lacks, absent, absentIn}
 use Rattle.bilinear.proofs.Place.{steps-most, cell-le, cell-from, cell-upto}
 use Rattle.grid.specs.Shift.{side, originAvailable, stepsOf, nodeFactor, surface, northOf, eastOf, beyond, fieldTests, gridTests, answerOf, outcome, shiftWith, available, meanWidth, meanFactor, part}
 use Rattle.grid.specs.Private.{Fields, Stands, Placed, Most, cornersOf, sumOf, nodesLack, inside}
@@ -206,8 +206,8 @@ module _ {g : Grid} {c k l y x h w : ℕ} (p : Placed g c k l y x h w) where
       (in-front (not (available (meanWidth (g .number) c) (part c (g .mean)))) (surface g c .H) (surface g c .W) (y - k * surface g c .H) (x - l * surface g c .W) n)
 
   pub count-is :
-      surface g c .mean +ℤ nearest (inCell (surface g c) k l y x) (surface g c .H * surface g c .W)
-      ≡ pos meanFactor *ℤ part c (g .mean) +ℤ nearest (sumOf (nodeFactor (g .number) c) h w (y - k * h) (x - l * w) n) (h * w)
+      surface g c .mean +ℤ nearestWhole (inCell (surface g c) k l y x) (surface g c .H * surface g c .W)
+      ≡ pos meanFactor *ℤ part c (g .mean) +ℤ nearestWhole (sumOf (nodeFactor (g .number) c) h w (y - k * h) (x - l * w) n) (h * w)
   unfolding inCell surface
   count-is = rw (p .high, p .wide)
 
@@ -217,11 +217,11 @@ module _ {g : Grid} {c k l y x h w : ℕ} (p : Placed g c k l y x h w) where
       record { sw = f (3 - k) l; se = f (3 - k) (l + 1); nw = f (2 - k) l; ne = f (2 - k) (l + 1) }
 
   abbrev value : ℤ
-  value = pos meanFactor *ℤ part c (g .mean) +ℤ nearest (sumOf (nodeFactor (g .number) c) h w (y - k * h) (x - l * w) n) (h * w)
+  value = pos meanFactor *ℤ part c (g .mean) +ℤ nearestWhole (sumOf (nodeFactor (g .number) c) h w (y - k * h) (x - l * w) n) (h * w)
 
   pub absent-out : (s : Shift) → absentIn (surface g c) k l y x ≡ true → Refuses 15 s → s ≡ inside g c k l y x
   absent-out s e r =
-      refuses (g .number) c 15 (surface g c .mean +ℤ nearest (inCell (surface g c) k l y x) (surface g c .H * surface g c .W)) s r (λ z. absurd (omega arith))
+      refuses (g .number) c 15 (surface g c .mean +ℤ nearestWhole (inCell (surface g c) k l y x) (surface g c .H * surface g c .W)) s r (λ z. absurd (omega arith))
       ∙ rw e
 
   pub present-out : (s : Shift) → absentIn (surface g c) k l y x ≡ false → s ≡ outcome (g .number) c 0 value → s ≡ inside g c k l y x
@@ -231,6 +231,6 @@ module _ {g : Grid} {c k l y x h w : ℕ} (p : Placed g c k l y x h w) where
   value-most =
       le-trans
       (add (mul (lit 100 tt) (arg (part c (g .mean)) 16384 (p .fields .mean c) tt) tt)
-      (arg (nearest (sumOf (nodeFactor (g .number) c) h w (y - k * h) (x - l * w) n) (h * w)) 2560
+      (arg (nearestWhole (sumOf (nodeFactor (g .number) c) h w (y - k * h) (x - l * w) n) (h * w)) 2560
       (near-most (p .within) (nodeFactor (g .number) c) n (factor-most (g .number) c) corners-most) tt) tt .le)
       (lit≤ tt)

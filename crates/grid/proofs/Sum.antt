@@ -10,7 +10,7 @@ use lib.Signed.{_≤ℤ_, _<ℤ_, quotZ}
 use Rattle.arith.proofs.Int.{ring, at, nat, minus, _⊟_, _⊠_, abs-add, abs-mul}
 use mir.Syntax.{w64}
 use mir.Val.{Fits}
-use Rattle.bilinear.specs.Bilinear.{nearest}
+use Rattle.bilinear.specs.Bilinear.{nearestWhole}
 use Rattle.bilinear.proofs.Bounds.{weighted-bound, nearest-bound}
 use Rattle.grid.specs.Private.{Within, Most, sumOf}
 use Rattle.grid.specs.declared.Corners.{Corners}
@@ -84,7 +84,7 @@ module _ {h w y x : ℕ} (p : Within h w y x) where
         weighted-bound h w y x _ _ _ _ 2560 (p .north) (p .east)
         (scaled f (n .sw) k (m .sw)) (scaled f (n .se) k (m .se)) (scaled f (n .nw) k (m .nw)) (scaled f (n .ne) k (m .ne))
 
-    pub near-most : natAbs (nearest (sumOf f h w y x n) (h * w)) ≤ 2560
+    pub near-most : natAbs (nearestWhole (sumOf f h w y x n) (h * w)) ≤ 2560
     near-most = nearest-bound _ (h * w) 2560 (mul-pos (p .high .0) (p .wide .0)) sum-most
 
 -- ---- the division of the code, toward zero, by twice the area
@@ -93,13 +93,13 @@ quot-neg : (k m : ℕ) → quotZ (negℤ (pos k)) (pos m) ≡ negℤ (pos (k / m
 quot-neg zero m = ap pos (zero-div m) ∙ sym (ap (λ (n : ℕ). negℤ (pos n)) (zero-div m))
 quot-neg (suc k) m = refl
 
-pub nearest-below : (s : ℤ) (d : ℕ) → s <ℤ pos 0 → quotZ (pos 2 *ℤ s -ℤ pos d) (pos 2 *ℤ pos d) ≡ nearest s d
-unfolding nearest
+pub nearest-below : (s : ℤ) (d : ℕ) → s <ℤ pos 0 → quotZ (pos 2 *ℤ s -ℤ pos d) (pos 2 *ℤ pos d) ≡ nearestWhole s d
+unfolding nearestWhole
 nearest-below (pos n) d h = absurd (omega (arith, ltb→lt n 0 (h .lt)))
 nearest-below (negsuc n) d h =
     ap (λ (z : ℤ). quotZ z (pos (2 * d))) (ring (nat 2 ⊠ at (negsuc n) ⊟ nat d) (minus (nat (2 * suc n + d))) (omega arith)) ∙ quot-neg (2 * suc n + d) (2 * d)
 
-pub nearest-above : (s : ℤ) (d : ℕ) → pos 0 ≤ℤ s → quotZ (pos 2 *ℤ s +ℤ pos d) (pos 2 *ℤ pos d) ≡ nearest s d
-unfolding nearest
+pub nearest-above : (s : ℤ) (d : ℕ) → pos 0 ≤ℤ s → quotZ (pos 2 *ℤ s +ℤ pos d) (pos 2 *ℤ pos d) ≡ nearestWhole s d
+unfolding nearestWhole
 nearest-above (pos n) d h = refl
 nearest-above (negsuc n) d h = absurd (h .le)

@@ -2,13 +2,13 @@
 -- Assumes nothing.
 use mathlib.Core.Path.{_≡_}
 use mathlib.Core.List.{List}
-use mathlib.Core.Bool.{Bool, false, not, cond, _||_}
+use mathlib.Core.Bool.{Bool, false, cond, _||_}
 use Prim.Native.Nat.{ℕ, _+_, _-_, _*_, _≤_, _<_}
 use lib.IntN.{ℤ, pos, natAbs, _+ℤ_, _*ℤ_}
 use Rattle.arith.specs.Whole.{natural}
 use Rattle.records.specs.declared.Grid.{Grid}
 use Rattle.records.specs.declared.Shifts.{Shifts}
-use Rattle.bilinear.specs.Bilinear.{nearest, fromEdge, outside, cell, weighted, inCell, lacks, absentIn}
+use Rattle.bilinear.specs.Bilinear.{nearestWhole, fromEdge, outside, cell, weighted, inCell, lacks, absentIn}
 use Rattle.grid.specs.Shift.{part, nodeRaw, available, surface, outcome}
 use Rattle.grid.specs.declared.Shift.{Shift}
 use Rattle.grid.specs.declared.Along.{Along}
@@ -78,4 +78,4 @@ nodesLack h w y x n =
 abbrev pub inside : Grid → ℕ → (k l y x : ℕ) → Shift
 inside g c k l y x =
     outcome (g .number) c (cond (absentIn (surface g c) k l y x) 15 0)
-    (surface g c .mean +ℤ nearest (inCell (surface g c) k l y x) (surface g c .H * surface g c .W))
+    (surface g c .mean +ℤ nearestWhole (inCell (surface g c) k l y x) (surface g c .H * surface g c .W))

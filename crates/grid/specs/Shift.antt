@@ -10,12 +10,12 @@ use lib.ListN.{getD}
 use Rattle.arith.specs.First.{Test, first}
 use Rattle.arith.specs.Row.{at}
 use Rattle.arith.specs.Whole.{natural, sameZ}
-use Rattle.bits.specs.Layout.{allTake}
 use Rattle.records.specs.declared.Grid.{Grid}
 use Rattle.records.specs.declared.Shifts.{Shifts}
 use Rattle.records.specs.declared.Pair.{Pair}
-use Rattle.records.specs.Records.{gridOf, gridRow}
-use Rattle.message.specs.Message.{tests, numberOf, row, rowLayout}
+use Rattle.records.specs.Records.{gridOf}
+use Rattle.message.specs.Message.{tests, numberOf, row}
+use Rattle.message.specs.Kinds.{gridHeld}
 use Rattle.bilinear.specs.Bilinear.{Surface, outside, absent, interpolated}
 use Rattle.grid.specs.declared.Answer.{Answer}
 use Rattle.grid.specs.declared.Answer.the-variants.{Seconds, Metres, Refused}
@@ -44,7 +44,8 @@ side c p = cond (eqb c 2) (p .vertical) (p .horizontal)
 abbrev pub nodeFactor : ℤ → ℕ → ℕ
 nodeFactor number c = cond (ellipsoidal number && ltb c 2) 3 10
 
--- counts in a raw step of the mean: 0.001" over 0.00001" (DF196, DF197), 0.01 m over 0.1 mm (DF198, DF206 to DF208): 100 in all
+-- counts in a raw step of the mean: 0.001" over 0.00001" (DF196, DF197), 0.01 m over 0.1 mm (DF198, DF206 to DF208): 100 in all.
+-- Document 01 prints 10 for DF206 and DF207 and lets the resolution column of 000 decide: D6 of docs/DECISIONS.md
 abbrev pub meanFactor : ℕ
 meanFactor = 100
 
@@ -118,12 +119,8 @@ gridTests g c n e =
     ∷ [])
 
 -- of a record: 5 RANGE where it is not one that a grid message holds, then 8 to 15
-unfoldable pub recordRefusal : Grid → ℕ → ℤ → ℤ → ℕ
-recordRefusal g c n e =
-    first
-    ((5, not (leb 1023 (natural (g .number)) && leb (natural (g .number)) 1024))
-    ∷ (5, not (allTake (rowLayout (gridRow g)) (gridRow g)))
-    ∷ gridTests g c n e)
+unfoldable pub recordShiftRefusal : Grid → ℕ → ℤ → ℤ → ℕ
+recordShiftRefusal g c n e = first ((5, not (gridHeld g)) ∷ gridTests g c n e)
 
 -- of a message: 1 to 5, 7 KIND, 8 to 15
 unfoldable pub shiftRefusal : List ℕ → ℕ → ℤ → ℤ → ℕ
@@ -153,7 +150,7 @@ unfoldable pub shiftWith : Grid → ℕ → ℤ → ℤ → ℕ → Shift
 shiftWith g c n e r = outcome (g .number) c r (interpolated (surface g c) (northOf g n) (eastOf g e))
 
 unfoldable pub recordShift : Grid → ℕ → ℤ → ℤ → Shift
-recordShift g c n e = shiftWith g c n e (recordRefusal g c n e)
+recordShift g c n e = shiftWith g c n e (recordShiftRefusal g c n e)
 
 unfoldable pub messageShift : List ℕ → ℕ → ℤ → ℤ → Shift
 messageShift s c n e = shiftWith (gridOf (at (row s))) c n e (shiftRefusal s c n e)

@@ -10,7 +10,7 @@ ghost use lib.Dec.{ltb};
 ghost use lib.IntN.{pos, natAbs, _+ℤ_, _-ℤ_, _*ℤ_};
 ghost use Rattle.arith.specs.First.{first};
 ghost use Rattle.arith.specs.Whole.{natural, sameZ};
-ghost use Rattle.bilinear.specs.Bilinear.{cell, weighted, nearest, lacks};
+ghost use Rattle.bilinear.specs.Bilinear.{cell, weighted, nearestWhole, lacks};
 ghost use Rattle.grid.specs.Shift.{stepsOf, part, side, nodeFactor, meanFactor, available, meanWidth, originAvailable, nodeRaw, beyond, fieldTests, gridTests, unitsOf, answerOf, outcome, shiftWith, recordShift, messageShift};
 ghost use Rattle.grid.specs.Private.{Fields, Stands, Within, Placed, Most, cornersOf, sumOf, nodesLack, inside};
 
@@ -262,7 +262,7 @@ fn weighted_sum(h: u64, w: u64, y: u64, x: u64, sw: i64, se: i64, nw: i64, ne: i
 // The whole number nearest to sum / area, halves away from zero.
 fn nearest_to(sum: i64, area: u64) -> i64
     requires { ⌜ (natAbs sum ≤ 2560 * 1676902500000000) × (0 < area) × (area ≤ 1676902500000000) ⌝ }
-    ensures { λ r. ⌜ r ≡ nearest sum area ⌝ }
+    ensures { λ r. ⌜ r ≡ nearestWhole sum area ⌝ }
 {
     let d = area as i64;
     if sum < 0 {
@@ -378,7 +378,7 @@ fn nodes_lack(n: Corners, h: u64, w: u64, y: u64, x: u64) -> bool
 // The count: the mean, and the whole number nearest to the exact weighted mean of the nodes.
 fn count_of(mean: i64, factor: u64, n: Corners, h: u64, w: u64, y: u64, x: u64) -> i64
     requires { ⌜ Within h w y x × Most 256 n × (natAbs mean ≤ 16384) × (factor ≤ 10) ⌝ }
-    ensures { λ r. ⌜ r ≡ pos meanFactor *ℤ mean +ℤ nearest (sumOf factor h w y x n) (h * w) ⌝ }
+    ensures { λ r. ⌜ r ≡ pos meanFactor *ℤ mean +ℤ nearestWhole (sumOf factor h w y x n) (h * w) ⌝ }
 {
     let f = factor as i64;
     let sum = weighted_sum(h, w, y, x, f * n.sw, f * n.se, f * n.nw, f * n.ne);
@@ -491,11 +491,8 @@ pub fn shift_at(message: &[u8], component: u8, north: i64, east: i64) -> Shift
 pub fn shift_of(grid: Grid, component: u8, north: i64, east: i64) -> Shift
     ensures { λ r. ⌜ r ≡ recordShift grid component north east ⌝ }
 {
-    let mut room = [0u8; 80];
-    let written = message::write_grid(grid, &mut room);
-    let refusal = written.refusal;
-    if refusal != 0 {
-        return refused(refusal);
+    if !message::grid_held(grid) {
+        return refused(5);
     }
     shift_in(grid, component, north, east)
 }

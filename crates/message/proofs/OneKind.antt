@@ -90,7 +90,7 @@ module _ (n : Numbers) (good : Bool) (v : List ℤ) (e : n ≡ numbers good v) w
       by true = unfold numbers padded in simp length-append (omega arith)
       by false = unfold numbers in omega arith
 
-  numbers-row : take (n .count) (n .values) ≡ cond good v []
+  pub numbers-row : take (n .count) (n .values) ≡ cond good v []
   numbers-row = rw e (by good)
     where
       by : (b : Bool) → take (numbers b v .count) (numbers b v .values) ≡ cond b v []

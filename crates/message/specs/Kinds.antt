@@ -8,8 +8,10 @@ use lib.IntN.{ℤ}
 use Rattle.arith.specs.First.{first}
 use Rattle.arith.specs.Row.{at}
 use Rattle.arith.specs.Whole.{natural}
-use Rattle.records.specs.Records.{helmertOf, molodenskiBadekasOf, gridOf, projectionOf, lambertOf, obliqueMercatorOf}
-use Rattle.message.specs.Message.{kindRefusal, kindRow, rowTests, message}
+use Rattle.bits.specs.Layout.{allTake}
+use Rattle.records.specs.declared.Grid.{Grid}
+use Rattle.records.specs.Records.{helmertOf, molodenskiBadekasOf, gridOf, gridRow, projectionOf, lambertOf, obliqueMercatorOf}
+use Rattle.message.specs.Message.{kindRefusal, kindRow, rowLayout, rowTests}
 use Rattle.message.specs.declared.HelmertRead.{HelmertRead}
 use Rattle.message.specs.declared.MolodenskiBadekasRead.{MolodenskiBadekasRead}
 use Rattle.message.specs.declared.GridRead.{GridRead}
@@ -42,3 +44,12 @@ readObliqueMercator s = record { refusal = kindRefusal 1027 1027 s; value = obli
 -- 5 RANGE: "a field outside its range or width, a number not of the record's kind, or a bad name"; 6 ROOM
 unfoldable pub recordRefusal : ℕ → ℕ → Bool → List ℤ → ℕ → ℕ
 recordRefusal lo hi good v n = first ((5, not good) ∷ (5, not (leb lo (natural (at v 0)) && leb (natural (at v 0)) hi)) ∷ rowTests v n)
+
+-- ---- a record that a message of its kind holds: its number is of the kind, and each field takes its value
+
+-- of the numbers v of a record
+unfoldable pub rowHeld : ℕ → ℕ → List ℤ → Bool
+rowHeld lo hi v = (leb lo (natural (at v 0)) && leb (natural (at v 0)) hi) && allTake (rowLayout v) v
+
+abbrev pub gridHeld : Grid → Bool
+gridHeld g = rowHeld 1023 1024 (gridRow g)

@@ -11,8 +11,8 @@ ghost use Rattle.arith.specs.First.{first};
 ghost use Rattle.arith.specs.Row.{at, padded};
 ghost use Rattle.arith.specs.Whole.{natural};
 ghost use Rattle.bits.specs.Layout.{answered, stored};
-ghost use Rattle.message.specs.Message.{numberOf, headTests, layout, refusal, row, sinBit, header, rowRefusal, rowRead, rowLayout, writeRefusal, message, kindRefusal, kindRow};
-ghost use Rattle.message.specs.Kinds.{readHelmert, readMolodenskiBadekas, readGrid, readProjection, readLambert, readObliqueMercator, recordRefusal};
+ghost use Rattle.message.specs.Message.{headTests, layout, refusal, row, sinBit, header, rowRefusal, rowRead, rowLayout, writeRefusal, message, kindRefusal, kindRow};
+ghost use Rattle.message.specs.Kinds.{readHelmert, readMolodenskiBadekas, readGrid, readProjection, readLambert, readObliqueMercator, recordRefusal, rowHeld, gridHeld};
 ghost use Rattle.records.specs.Records.{counterAt, goodName, helmertRow, molodenskiBadekasRow, gridRow, projectionRow, lambertRow, obliqueMercatorRow};
 ghost use mathlib.Core.Bool.{true, _&&_};
 
@@ -363,6 +363,33 @@ pub fn write_grid(r: records::Grid, out: &mut [u8]) -> Written
     let values = n.values;
     let k = n.count;
     write_kind(good, &values[..k], 1023, 1024, out)
+}
+
+// Whether a message holds the numbers of a record of a kind whose numbers are lo to hi.
+fn row_held(row: &[i64], lo: u64, hi: u64) -> bool
+    ensures { λ r. ⌜ r ≡ rowHeld lo hi (now (row .entry)) ⌝ }
+{
+    let number = natural_at(row, 0);
+    if number < lo {
+        return false;
+    }
+    if hi < number {
+        return false;
+    }
+    let p = row_plan(row, number);
+    let e = p.entries;
+    let k = p.count;
+    bits::all_take(&e[..k], row)
+}
+
+// Whether a message 1023 or 1024 holds the record.
+pub fn grid_held(r: records::Grid) -> bool
+    ensures { λ b. ⌜ b ≡ gridHeld r ⌝ }
+{
+    let n = records::grid_row(r);
+    let values = n.values;
+    let k = n.count;
+    row_held(&values[..k], 1023, 1024)
 }
 
 // A 1025 as a record; all zero with a refusal.

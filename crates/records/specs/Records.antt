@@ -34,7 +34,7 @@ use Rattle.records.specs.declared.Numbers.{Numbers}
 abbrev pub counterAt : (ℕ → ℤ) → ℕ → ℕ
 counterAt v k = cond (leb (natural (v k)) 31) (natural (v k)) 0
 
--- the name whose counter is number k, its characters behind it
+-- the name whose counter is number k, its characters behind it: each is its number modulo 256, and 0 for a negative number
 unfoldable pub nameAt : (ℕ → ℤ) → ℕ → Name
 nameAt v k =
     record {

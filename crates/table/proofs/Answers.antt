@@ -11,11 +11,11 @@ use lib.Seq.{drop-drop, take-take}
 use lib.Dec.{eqb}
 use borrow.Author.Tests.{ne-eqb, lt-ltb, le-ltb}
 use Rattle.table.specs.Table.{slots, messageSize, slotSize, key, slot, held, place, wellFormed, keyPlace, findRefusal, foundAt, found}
-use Rattle.table.specs.History.{look, Call, afterAll, logOf, lastOf}
+use Rattle.table.specs.History.{Call, afterAll, logOf, lastOf}
 use Rattle.table.proofs.Whole.{Formed, formed, well-formed}
 use Rattle.table.proofs.Slot.{size-byte, used-size, tag-free}
 use Rattle.table.proofs.Calls.{find-none, find-done, keyPlace-in, keyPlace-out}
-use Rattle.table.proofs.Look.{place-of}
+use Rattle.table.proofs.Look.{place-of, look}
 use Rattle.table.proofs.Last.{history, history-formed}
 
 inner : (n : ℕ) (l : List ℕ) → n ≤ messageSize → take n (drop 1 (take slotSize l)) ≡ take n (drop 1 l)

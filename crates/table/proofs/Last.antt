@@ -10,9 +10,10 @@ use lib.Dec.{eqb}
 use borrow.Author.Tests.{eq-eqb, ne-eqb}
 use Rattle.message.specs.Message.{refusal}
 use Rattle.table.specs.Table.{wellFormed, slots, key, keyOf, put, storePlace, storeRefusal, storeTable, keyPlace, findRefusal, removeTable}
-use Rattle.table.specs.History.{look, Call, store, find, remove, number, after, afterAll, logOf, told, lastOf}
+use Rattle.table.specs.History.{Call, store, find, remove, number, after, afterAll, logOf, told, lastOf}
 use Rattle.table.proofs.Whole.{Formed, formed, well-formed}
 use Rattle.table.proofs.Calls.{store-kept, remove-kept, store-refused, store-full, store-done, find-none, find-done}
+use Rattle.table.proofs.Look.{look}
 use Rattle.table.proofs.Step.{store-formed, store-same, store-other, remove-formed, remove-same, remove-other}
 
 -- what one call leaves: with n and t′ its number and the table after it

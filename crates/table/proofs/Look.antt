@@ -1,16 +1,15 @@
 -- Where a tag stands, that no key stands twice, and what a table holds under a key. Rests on what `firstOf` is and what well formed says.
 -- Assumes nothing.
 use Prim.Native.Nat.{ℕ, suc, _≤_, _<_}
-use mathlib.Core.Bool.{true, _||_}
+use mathlib.Core.Bool.{true, cond, _||_}
 use mathlib.Core.List.{List, []}
 use mathlib.Core.Path.{_≡_, sym, _∙_}
 use mathlib.Core.Logic.{_⊎_, inl, inr}
 use native.Mathlib.Omega.{arith}
 use native.Mathlib.Decide.{decLt, ℕ-discrete}
-use lib.Dec.{eqb}
+use lib.Dec.{ltb, eqb}
 use borrow.Author.Tests.{eqb-true, eqb-false, eq-eqb, ne-eqb, lt-ltb}
 use Rattle.table.specs.Table.{slots, key, slot, held, tag, hasTag, place, newKey}
-use Rattle.table.specs.History.{look}
 use Rattle.table.proofs.First.{first, first-is}
 use Rattle.table.proofs.Slot.{or-right}
 use Rattle.table.proofs.Whole.{Formed}
@@ -79,6 +78,10 @@ pub record Holds (t : List ℕ) (k : ℕ) (m : List ℕ) : Type 0 where
 
 abbrev pub Absent : List ℕ → ℕ → Type 0
 Absent t k = (i : ℕ) → i < slots → tag (slot t i) ≡ suc k → ⊥
+
+-- the same as a list, [] where no slot holds the key
+unfoldable pub look : List ℕ → ℕ → List ℕ
+look t k = cond (ltb (place t (suc k) slots) slots) (held (slot t (place t (suc k) slots))) []
 
 pub look-holds : (t : List ℕ) → Formed t → (k : ℕ) (m : List ℕ) → Holds t k m → look t k ≡ m
 unfolding look

@@ -13,13 +13,13 @@ use borrow.Author.Tests.{eq-eqb, ne-eqb, lt-ltb, le-ltb}
 use Rattle.message.specs.Message.{refusal}
 use Rattle.message.proofs.Limits.{accepted-size}
 use Rattle.table.specs.Table.{slots, messageSize, tableSize, firstOf, flawed, wellSlot, allZero, newKey, key, keyOf, slot, held, tag, place, wellFormed, slotOf, put, storePlace, keyPlace, findRefusal, found}
-use Rattle.table.specs.History.{look, Call, store, find, remove, number, after, told}
-use Rattle.table.specs.Dict.{Dict, lookup, without, keyNumber, dictNumber, dictShown, changed, dictAfter, shown, Reply, replies, dictReplies, entriesTo, entries}
+use Rattle.table.specs.History.{Call, store, find, remove, number, after, told}
+use Rattle.table.specs.Dict.{Dict, storedUnder, without, keyNumber, dictNumber, dictShown, changed, dictAfter, shown, Reply, replies, dictReplies, entriesTo, entries}
 use Rattle.table.proofs.Whole.{Formed, formed, well-formed}
 use Rattle.table.proofs.Slot.{used-size, tag-free, tag-used}
 use Rattle.table.proofs.Calls.{store-refused, store-full, store-done, find-none, find-done, storePlace-old, storePlace-new}
 use Rattle.table.proofs.Put.{slot-same, slot-other, tag-slotOf, tag-empty}
-use Rattle.table.proofs.Look.{place-of, distinct-at, Holds, Absent, look-holds, look-absent, look-cases}
+use Rattle.table.proofs.Look.{place-of, distinct-at, Holds, Absent, look, look-holds, look-absent, look-cases}
 use Rattle.table.proofs.Step.{key-at}
 use Rattle.table.proofs.Last.{keep}
 use Rattle.table.proofs.Answers.{find-look, find-other}
@@ -34,7 +34,7 @@ usedSlots t = countOf (free t) slots
 
 pub record Same (t : List ℕ) (d : Dict) : Type 0 where
   pub whole : Formed t
-  pub looks : (k : ℕ) → lookup d k ≡ look t k
+  pub looks : (k : ℕ) → storedUnder d k ≡ look t k
   pub sound : Sound d
   pub count : length d ≡ usedSlots t
 
@@ -83,7 +83,7 @@ both-refuse t d c n s a b z e p =
 
 -- a call that both answer 0
 both-do : (t : List ℕ) (d : Dict) (c : Call) → Same t d → number t c ≡ 0 → dictNumber d c ≡ 0
-    → shown t c ≡ dictShown d c → ((k : ℕ) → lookup (changed d c) k ≡ told k (lookup d k) c) → Sound (changed d c)
+    → shown t c ≡ dictShown d c → ((k : ℕ) → storedUnder (changed d c) k ≡ told k (storedUnder d k) c) → Sound (changed d c)
     → length (changed d c) ≡ usedSlots (after t c) → Step t d c
 unfolding dictAfter
 both-do t d c s a b p l o u =
@@ -175,7 +175,7 @@ key-number t d s g same (yes h) =
     rw (lt-ltb g 3 h) (find-look t (same .whole) s g h .number ∙ ap (λ (m : List ℕ). cond (eqb (length m) 0) 17 0) (sym (same .looks (key s g))))
 key-number t d s g same (no h) = rw (le-ltb g 3 (omega arith)) (find-other t (same .whole) s g (omega arith) .number)
 
-key-shown : (t : List ℕ) (d : Dict) (s g : ℕ) → Same t d → Dec (g < 3) → found t s g ≡ cond (ltb g 3) (lookup d (key s g)) []
+key-shown : (t : List ℕ) (d : Dict) (s g : ℕ) → Same t d → Dec (g < 3) → found t s g ≡ cond (ltb g 3) (storedUnder d (key s g)) []
 unfolding found
 key-shown t d s g same (yes h) = rw (lt-ltb g 3 h) (find-look t (same .whole) s g h .shown ∙ sym (same .looks (key s g)))
 key-shown t d s g same (no h) = rw (le-ltb g 3 (omega arith)) (find-other t (same .whole) s g (omega arith) .shown)
@@ -257,32 +257,32 @@ module _ (t : List ℕ) (f : Formed t) where
       let g : getD (slot t i) 0 0 ≡ 0 → ⊥ = λ z. n (tag-free (slot t i) z) in
       (tag-used (slot t i) g, omega (arith, used-size (slot t i) (f .well i l) g .0))
 
-  entries-absent : (k n : ℕ) → n ≤ slots → ((j : ℕ) → j < n → tag (slot t j) ≡ suc k → ⊥) → lookup (entriesTo t n) k ≡ []
-  unfolding entriesTo lookup
+  entries-absent : (k n : ℕ) → n ≤ slots → ((j : ℕ) → j < n → tag (slot t j) ≡ suc k → ⊥) → storedUnder (entriesTo t n) k ≡ []
+  unfolding entriesTo storedUnder
   entries-absent k zero l a = refl
   entries-absent k (suc n) l a = go (ℕ-discrete (tag (slot t n)) 0) (entries-absent k n (omega arith) (λ j h. a j (omega arith)))
     where
-      go : Dec (tag (slot t n) ≡ 0) → lookup (entriesTo t n) k ≡ [] → lookup (entriesTo t (suc n)) k ≡ []
-      go (yes e) h = ap (λ (d : Dict). lookup d k) (entry-free t n e) ∙ h
+      go : Dec (tag (slot t n) ≡ 0) → storedUnder (entriesTo t n) k ≡ [] → storedUnder (entriesTo t (suc n)) k ≡ []
+      go (yes e) h = ap (λ (d : Dict). storedUnder d k) (entry-free t n e) ∙ h
       go (no e) h =
-          ap (λ (d : Dict). lookup d k) (entry-used t n e)
+          ap (λ (d : Dict). storedUnder d k) (entry-used t n e)
           ∙ lookup-on (held (slot t n)) (entriesTo t n) k (λ q. a n (omega arith) (key-of n (omega arith) e .0 ∙ ap suc q)) ∙ h
 
-  entries-holds : (k i n : ℕ) → n ≤ slots → i < n → tag (slot t i) ≡ suc k → lookup (entriesTo t n) k ≡ held (slot t i)
+  entries-holds : (k i n : ℕ) → n ≤ slots → i < n → tag (slot t i) ≡ suc k → storedUnder (entriesTo t n) k ≡ held (slot t i)
   entries-holds k i zero l h e = absurd (omega arith)
   entries-holds k i (suc n) l h e = go (ℕ-discrete i n) (ℕ-discrete (tag (slot t n)) 0) (λ q. entries-holds k i n (omega arith) q e)
     where
       used : tag (slot t i) ≡ 0 → ⊥
       used z = (let y : _≡_ {A = ℕ} 0 (suc k) = sym z ∙ e in omega arith)
 
-      go : Dec (i ≡ n) → Dec (tag (slot t n) ≡ 0) → (i < n → lookup (entriesTo t n) k ≡ held (slot t i)) → lookup (entriesTo t (suc n)) k ≡ held (slot t i)
+      go : Dec (i ≡ n) → Dec (tag (slot t n) ≡ 0) → (i < n → storedUnder (entriesTo t n) k ≡ held (slot t i)) → storedUnder (entriesTo t (suc n)) k ≡ held (slot t i)
       go (yes q) (yes z) r = absurd (used (ap (λ (j : ℕ). tag (slot t j)) q ∙ z))
       go (yes q) (no z) r =
           let c : keyOf (held (slot t n)) ≡ k = (let y : suc (keyOf (held (slot t n))) ≡ suc k = sym (key-of n (omega arith) z .0) ∙ ap (λ (j : ℕ). tag (slot t j)) (sym q) ∙ e in omega arith) in
-          ap (λ (d : Dict). lookup d k) (entry-used t n z) ∙ lookup-hit (held (slot t n)) (entriesTo t n) k c ∙ ap (λ (j : ℕ). held (slot t j)) (sym q)
-      go (no q) (yes z) r = ap (λ (d : Dict). lookup d k) (entry-free t n z) ∙ r (omega arith)
+          ap (λ (d : Dict). storedUnder d k) (entry-used t n z) ∙ lookup-hit (held (slot t n)) (entriesTo t n) k c ∙ ap (λ (j : ℕ). held (slot t j)) (sym q)
+      go (no q) (yes z) r = ap (λ (d : Dict). storedUnder d k) (entry-free t n z) ∙ r (omega arith)
       go (no q) (no z) r =
-          ap (λ (d : Dict). lookup d k) (entry-used t n z)
+          ap (λ (d : Dict). storedUnder d k) (entry-used t n z)
           ∙ lookup-on (held (slot t n)) (entriesTo t n) k (λ c. q (distinct-at t f i n (omega arith) (omega arith) k e (key-of n (omega arith) z .0 ∙ ap suc c)))
           ∙ r (omega arith)
 

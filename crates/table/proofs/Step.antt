@@ -11,11 +11,10 @@ use lib.ListN.{length}
 use Rattle.message.specs.Message.{refusal}
 use Rattle.message.proofs.Limits.{accepted-size}
 use Rattle.table.specs.Table.{slots, messageSize, key, keyOf, slot, held, wellSlot, tag, place, slotOf, put, storePlace, keyPlace}
-use Rattle.table.specs.History.{look}
 use Rattle.table.proofs.Whole.{Formed}
 use Rattle.table.proofs.Calls.{storePlace-old, storePlace-new, keyPlace-in, keyPlace-out}
 use Rattle.table.proofs.Put.{length-put, slot-same, slot-other, held-slotOf, tag-slotOf, tag-empty, well-empty, well-slotOf}
-use Rattle.table.proofs.Look.{place-of, Distinct, distinct, distinct-at, new-keys, Holds, Absent, look-holds, look-absent, look-cases}
+use Rattle.table.proofs.Look.{place-of, Distinct, distinct, distinct-at, new-keys, Holds, Absent, look, look-holds, look-absent, look-cases}
 
 module _ (t m : List ℕ) (i : ℕ) (f : Formed t) (low : i < slots) (short : length m ≤ messageSize) where
   same : slot (put t i m) i ≡ slotOf m

@@ -13,9 +13,9 @@ use Rattle.table.specs.History.{Call, store, find, remove, number, after
 abbrev pub Dict : Type 0
 Dict = List (List ℕ)
 
-unfoldable pub lookup : Dict → ℕ → List ℕ
-lookup [] k = []
-lookup (m ∷ d) k = cond (eqb (keyOf m) k) m (lookup d k)
+unfoldable pub storedUnder : Dict → ℕ → List ℕ
+storedUnder [] k = []
+storedUnder (m ∷ d) k = cond (eqb (keyOf m) k) m (storedUnder d k)
 
 unfoldable pub without : Dict → ℕ → Dict
 without [] k = []
@@ -23,7 +23,7 @@ without (m ∷ d) k = cond (eqb (keyOf m) k) (without d k) (m ∷ without d k)
 
 -- a key's number: 0 where the dictionary has it, else 17 NONE
 unfoldable pub keyNumber : Dict → ℕ → ℕ → ℕ
-keyNumber d s g = cond (ltb g 3) (cond (eqb (length (lookup d (key s g))) 0) 17 0) 17
+keyNumber d s g = cond (ltb g 3) (cond (eqb (length (storedUnder d (key s g))) 0) 17 0) 17
 
 -- a call on a dictionary that holds at most 32 keys
 unfoldable pub dictNumber : Dict → Call → ℕ
@@ -33,7 +33,7 @@ dictNumber d (remove s g) = keyNumber d s g
 
 unfoldable pub dictShown : Dict → Call → List ℕ
 dictShown d (store m) = []
-dictShown d (find s g) = cond (ltb g 3) (lookup d (key s g)) []
+dictShown d (find s g) = cond (ltb g 3) (storedUnder d (key s g)) []
 dictShown d (remove s g) = []
 
 unfoldable pub changed : Dict → Call → Dict

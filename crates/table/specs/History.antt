@@ -1,14 +1,10 @@
 -- Whole histories of calls on one table, and what find must answer after them: demand 2's table sentence.
 -- Assumes nothing.
-use Prim.Native.Nat.{ℕ, suc}
+use Prim.Native.Nat.{ℕ}
 use mathlib.Core.List.{List, [], _∷_}
 use mathlib.Core.Bool.{cond}
-use lib.Dec.{ltb, eqb}
-use Rattle.table.specs.Table.{slots, key, keyOf, place, slot, held, storeRefusal, storeTable, findRefusal, removeTable}
-
--- what a table holds under a key, [] where it holds nothing
-unfoldable pub look : List ℕ → ℕ → List ℕ
-look t k = cond (ltb (place t (suc k) slots) slots) (held (slot t (place t (suc k) slots))) []
+use lib.Dec.{eqb}
+use Rattle.table.specs.Table.{key, keyOf, storeRefusal, storeTable, findRefusal, removeTable}
 
 -- a call; the number that it answers; the table after it
 pub data Call : Type 0 where

@@ -28,7 +28,7 @@ tableSize = slots * slotSize
 abbrev pub groupOf : ℕ → ℕ
 groupOf number = cond (leb number 1022) 0 (cond (leb number 1024) 1 2)
 
--- SIN and group as one number
+-- SIN and group as one number: different pairs have different numbers where the groups are 0 to 2
 abbrev pub key : ℕ → ℕ → ℕ
 key sin group = sin * 3 + group
 

@@ -2,7 +2,7 @@
 -- Assumes nothing.
 use mathlib.Core.Path.{sym, ap, _∙_}
 use borrow.Author.Tests.{eq-eqb, ne-eqb}
-use Rattle.bits.specs.Layout.{takes, fits, signed, width, within, range}
+use Rattle.bits.specs.Layout.{takes, fits, signed, width, within, limit}
 use Rattle.bits.proofs.Sign.{bits-z}
 use borrow.Author.Needs.{needs}
 use Rattle.bits.proofs.takes_value.Statement.{statement}
@@ -14,7 +14,7 @@ returns c = let s = c .before .before .before in let z = bits-z (s .args .z) (s 
 
 returns-2 : tie.Need-returns-2
 unfolding takes
-returns-2 c = let s = c .before .before .before .before in let z = bits-z (s .args .z) (s .fits .z) in rw (sym (ap (fits (signed (s .args .e)) (width (s .args .e))) z) ∙ sym (c .before .before .before .fits-width .ensures) ∙ c .before .before .if1 .taken, ne-eqb _ _ (c .before .if2 .left)) (c .in-range .ensures ∙ ap (within (width (s .args .e)) (range (s .args .e))) z)
+returns-2 c = let s = c .before .before .before .before in let z = bits-z (s .args .z) (s .fits .z) in rw (sym (ap (fits (signed (s .args .e)) (width (s .args .e))) z) ∙ sym (c .before .before .before .fits-width .ensures) ∙ c .before .before .if1 .taken, ne-eqb _ _ (c .before .if2 .left)) (c .in-range .ensures ∙ ap (within (width (s .args .e)) (limit (s .args .e))) z)
 
 returns-3 : tie.Need-returns-3
 unfolding takes

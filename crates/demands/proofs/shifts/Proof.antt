@@ -1,11 +1,11 @@
--- `demands::shifts` carries its theorems: the answer is the mean plus the nearest whole number, and cells agree on shared edges.
+-- `demands::shifts` carries its theorems: the answer, shared edges, both calls, nodes without weight, and the bounds on sum and count.
 -- Assumes nothing.
-use Rattle.demands.proofs.Grids.{grid-answer, shared-edges}
+use Rattle.demands.proofs.Grids.{grid-answer, shared-edges, both-calls, held-written, only-weighted, lossless, sum-bound}
 use Rattle.demands.proofs.shifts.Statement.{statement}
 use Rattle.demands.proofs.shifts.Tie as tie
 
 returns : tie.Need-returns
-returns c = (grid-answer, shared-edges)
+returns c = (grid-answer, (shared-edges, (both-calls, (held-written, (only-weighted, (lossless, sum-bound))))))
 
 pub shifts-spec : {M : Type 1} → statement M
 shifts-spec = tie.close (tie.spec returns)

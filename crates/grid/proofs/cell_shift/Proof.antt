@@ -7,7 +7,7 @@ use lib.IntN.{ℤ, pos, natAbs, _+ℤ_, _*ℤ_}
 use mir.Syntax.{w64}
 use mir.Val.{toZ, ofZ}
 use Rattle.arith.proofs.Back.{held}
-use Rattle.bilinear.specs.Bilinear.{nearest, absentIn}
+use Rattle.bilinear.specs.Bilinear.{nearestWhole, absentIn}
 use Rattle.grid.specs.Shift.{part, available, meanWidth, meanFactor, nodeFactor, surface, outcome}
 use Rattle.grid.specs.Private.{cornersOf, sumOf, nodesLack, Most}
 use Rattle.grid.proofs.Parts.{absent-is, absent-out, present-out, value-most, corners-most, factor-most}
@@ -82,11 +82,11 @@ module _ (n : tie.After-count-of) where
 
   count : toZ w64 (ofZ w64 (n .count-of .result))
       ≡ pos meanFactor *ℤ part (s a .args .component) (s a .args .g .mean)
-      +ℤ nearest (sumOf (nodeFactor (s a .args .g .number) (s a .args .component)) (s a .args .h) (s a .args .w) (y a) (x a) (cornersOf (s a .args .g .nodes) (s a .args .component) (s a .args .k) (s a .args .l))) (s a .args .h * s a .args .w)
+      +ℤ nearestWhole (sumOf (nodeFactor (s a .args .g .number) (s a .args .component)) (s a .args .h) (s a .args .w) (y a) (x a) (cornersOf (s a .args .g .nodes) (s a .args .component) (s a .args .k) (s a .args .l))) (s a .args .h * s a .args .w)
   count =
       held (n .count-of .result) (n .count-of .ok)
       ∙ n .count-of .ensures
-      ∙ (λ i. pos meanFactor *ℤ mean a i +ℤ nearest (sumOf (factor (n .before) i) (s a .args .h) (s a .args .w) (y a) (x a) (corners a i)) (s a .args .h * s a .args .w))
+      ∙ (λ i. pos meanFactor *ℤ mean a i +ℤ nearestWhole (sumOf (factor (n .before) i) (s a .args .h) (s a .args .w) (y a) (x a) (corners a i)) (s a .args .h * s a .args .w))
 
 done-requires : tie.Need-done-requires
 done-requires n κs = subst (λ (z : ℤ). natAbs z ≤ 9007199254740992) (sym (count n)) (value-most (s (a n) .pre))

@@ -5,7 +5,7 @@ use Prim.Native.Nat.{_*_, _≤_}
 use native.Mathlib.Nat.{mul-pos, mul-le-mul-left, le-trans}
 use borrow.Author.Needs.{needs}
 use lib.IntN.{natAbs}
-use Rattle.bilinear.specs.Bilinear.{nearest, weighted}
+use Rattle.bilinear.specs.Bilinear.{nearestWhole, weighted}
 use Rattle.grid.proofs.Sum.{area-most, sum-most, near-most, fits-weight}
 use Rattle.grid.proofs.Machine.{Num, arg, cast, lit, result, mul, add, fits, passed}
 use Rattle.grid.proofs.count_of.Statement.{statement}
@@ -64,7 +64,7 @@ module _ (c : tie.After-nearest-to) where
 
   abbrev near : Num
   near =
-      result (c .nearest-to .result) 2560 (c .nearest-to .ensures ∙ (λ i. nearest (sum k .held i) (s k .args .h * s k .args .w)))
+      result (c .nearest-to .result) 2560 (c .nearest-to .ensures ∙ (λ i. nearestWhole (sum k .held i) (s k .args .h * s k .args .w)))
       (near-most (s k .pre .0) (s k .args .factor) (s k .args .n) (s k .pre .3) (s k .pre .1)) tt
 
   abbrev count : Num
