@@ -4,10 +4,9 @@ use mathlib.Core.Path.{_≡_, refl, sym, ap, subst}
 use mathlib.Core.Bool.{Bool, true, false, not, cond}
 use Prim.Native.Nat.{ℕ, zero, suc, _+_, _*_, _-_, _≤_, _<_}
 use native.Mathlib.Omega.{arith}
-use native.Mathlib.Nat.{mul-pos}
 use lib.Dec.{T, leb, ltb, leb→le, le→leb, ltb→lt, lt→ltb, nltb→le}
 use lib.IntN.{ℤ, pos, negsuc, negℤ, natAbs, subℕ, _+ℤ_, _-ℤ_, _*ℤ_, +ℤ-assoc, +ℤ-comm, *ℤ-comm, negℤ-+ℤ, negℤ-negℤ}
-use lib.Signed.{_≤ℤ_, _<ℤ_, ltZ, ltZ-yes, ltZ-no}
+use lib.Signed.{_≤ℤ_, _<ℤ_, ltZ, ltZ-no}
 
 -- the part above zero, and the part below
 abbrev pub over : ℤ → ℕ
@@ -150,9 +149,6 @@ known a b h = omega (arith, by-le (a .val) (b .val) h, a .ok, b .ok)
 pub known-lt : (a b : Ex) → a .val <ℤ b .val → a .p + b .n < b .p + a .n
 known-lt a b h = omega (arith, by-lt (a .val) (b .val) h, a .ok, b .ok)
 
-pub known-eq : (a b : Ex) → a .val ≡ b .val → a .p + b .n ≡ b .p + a .n
-known-eq a b h = omega (arith, ap over h, ap under h, a .ok, b .ok)
-
 -- ---- the ring's laws, and `simp ring-laws`, which multiplies both sides out and sorts them: for what is too long for `ring`
 pub mul-add : (a b c : ℤ) → a *ℤ (b +ℤ c) ≡ a *ℤ b +ℤ a *ℤ c
 mul-add a b c = ring (at a ⊠ (at b ⊞ at c)) (at a ⊠ at b ⊞ at a ⊠ at c) (omega arith)
@@ -225,13 +221,6 @@ abs-add a b = omega (arith, abs-le (at a ⊞ at b), abs-parts a, abs-parts b)
 pub abs-zero : (a b : ℤ) → natAbs (a -ℤ b) ≡ 0 → a ≡ b
 abs-zero a b h = ring (at a) (at b) (omega (arith, h, (at a ⊟ at b) .ok, abs-parts (a -ℤ b)))
 
-pub abs-some : (a b : ℤ) → (a ≡ b → ⊥) → 0 < natAbs (a -ℤ b)
-abs-some a b h = go (natAbs (a -ℤ b)) refl
-  where
-    go : (n : ℕ) → natAbs (a -ℤ b) ≡ n → 0 < n
-    go zero e = absurd (h (abs-zero a b e))
-    go (suc n) e = omega arith
-
 pub abs-mul : (a b : ℤ) → natAbs (a *ℤ b) ≡ natAbs a * natAbs b
 abs-mul (pos a) (pos b) = refl
 abs-mul (pos a) (negsuc b) = abs-neg (pos (a * suc b))
@@ -258,30 +247,6 @@ pub <-≤ : {a b : ℤ} → a <ℤ b → a ≤ℤ b
 
 pub abs-most : {z : ℤ} {b : ℕ} → pos 0 ≤ℤ z → z ≤ℤ pos b → natAbs z ≤ b
 abs-most {z} {b} h k = omega (arith, abs-parts z, under-zero h, known (at z) (nat b) k)
-
-pub abs-positive : {z : ℤ} → pos 0 <ℤ z → 0 < natAbs z
-abs-positive {z} h = omega (arith, abs-parts z, known-lt (nat 0) (at z) h)
-
-pub of-abs : {z : ℤ} {b : ℕ} → natAbs z ≤ b → z ≤ℤ pos b
-of-abs {z} {b} h = order (at z) (nat b) (omega (arith, abs-parts z, h))
-
-pub pos-product : {a b : ℤ} → pos 0 <ℤ a → pos 0 <ℤ b → pos 0 <ℤ (a *ℤ b)
-pos-product {a} {b} h k =
-    order-lt (nat 0) (at a ⊠ at b)
-    (omega (arith, under-zero (<-≤ h), under-zero (<-≤ k), mul-pos (over-some h) (over-some k), ap (λ (n : ℕ). over a * n) (under-zero (<-≤ k)), ap (λ (n : ℕ). n * over b) (under-zero (<-≤ h))))
-  where
-    over-some : {z : ℤ} → pos 0 <ℤ z → 0 < over z
-    over-some {z} h = omega (arith, known-lt (nat 0) (at z) h, under-zero (<-≤ h))
-
--- what is left of w beyond x
-pub abs-sub : {x w : ℤ} → pos 0 ≤ℤ x → x ≤ℤ w → natAbs (w -ℤ x) + natAbs x ≡ natAbs w
-abs-sub {x} {w} h k =
-    let left : pos 0 ≤ℤ (w -ℤ x) = order (nat 0) (at w ⊟ at x) (omega (arith, known (at x) (at w) k)) in
-    omega (arith, (at w ⊟ at x) .ok, abs-parts (w -ℤ x), abs-parts x, abs-parts w, under-zero left, under-zero h, under-zero (≤-trans h k))
-
--- ---- what a test says
-pub is-less : {a b : ℤ} → ltZ a b ≡ true → a <ℤ b
-is-less e = ltZ-yes (subst T (sym e) tt)
 
 pub not-less : {a b : ℤ} → ltZ a b ≡ false → b ≤ℤ a
 not-less e = ltZ-no (subst (λ (t : Bool). T (not t)) (sym e) tt)

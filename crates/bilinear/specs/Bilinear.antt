@@ -33,7 +33,7 @@ pub record Surface : Type 0 where
   pub mean : ℤ
   -- the node of row 0 to 3, "the northern row first", and column 0 to 3, "west to east"
   pub node : ℕ → ℕ → ℤ
-  -- "A node is present where its field in the message is not the 'not available' pattern"
+  -- present is document 01's term: "A node is present where its field in the message is not the 'not available' pattern"
   pub present : ℕ → ℕ → Bool
   pub meanPresent : Bool
 
@@ -44,7 +44,7 @@ pub record Surface : Type 0 where
 unfoldable pub fromEdge : ℕ → ℤ → ℤ
 fromEdge d u = u +ℤ pos (3 * (d / 2))
 
--- "Inside means on or within the outer rectangle"
+-- not inside, which is document 01's term: "Inside means on or within the outer rectangle"
 unfoldable pub outside : ℕ → ℤ → Bool
 outside d u = ltZ (fromEdge d u) (pos 0) || ltZ (pos (3 * d)) (fromEdge d u)
 

@@ -306,12 +306,6 @@ field-setField s p (suc w) v n h =
     let last : bitAt (setBit S (p + w) (v % 2)) (p + w) ≡ v % 2 = setBit-same S (p + w) (v % 2) (omega arith) inside in
     omega (arith, other, last, field-setField s p w (v / 2) (omega arith) half)
 
--- writing leaves the fields outside
-pub field-outside : (s : List ℕ) (p w v q m : ℕ) → p + w ≤ 8 * length s → (q + m ≤ p) ⊎ (p + w ≤ q) → field (setField s p w v) q m ≡ field s q m
-field-outside s p w v q m n o =
-    field-same (setField s p w v) s q m
-    (λ i a b. setField-outside s p w v i n (⊎-map (λ (h : q + m ≤ p). omega arith) (λ (h : p + w ≤ q). omega arith) o))
-
 -- writing what was read
 setBit-bitAt : (s : List ℕ) (k : ℕ) → setBit s k (bitAt s k) ≡ s
 unfolding setBit bitAt

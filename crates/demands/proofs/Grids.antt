@@ -21,7 +21,7 @@ use Rattle.grid.specs.Shift.{available, nodeFactor, surface, northOf, eastOf, f
 use Rattle.grid.proofs.Accepted.{message-grid, held-is-written}
 use Rattle.grid.proofs.Lipschitz.{lipschitz-message, spaced, counted, east-steps}
 use Rattle.grid.proofs.Calls.{shared-answer, calls-agree, count-lossless, sum-below-limit}
-use Rattle.demands.specs.Grids.{gridAt, surfaceAt, northSteps, eastSteps, withNodes, AnsweredAt, exactAt, IsNearest, GridAnswer, SharedEdges, BothCalls, HeldIsWritten, SameWeighted, OnlyWeighted, Lossless, SumBound, AllPresent, stepsNorth, stepsEast, Lipschitz, PlainSteps}
+use Rattle.demands.specs.Grids.{gridAt, surfaceAt, northSteps, eastSteps, withNodes, AnsweredAt, exactAt, GridAnswer, SharedEdges, BothCalls, HeldIsWritten, SameWeighted, OnlyWeighted, Lossless, SumBound, AllPresent, stepsNorth, stepsEast, Lipschitz, PlainSteps}
 
 -- the refusal answered is the one defined
 refusal-is : (s : List ℕ) (c : ℕ) (n e : ℤ) → AnsweredAt s c n e → shiftRefusal s c n e ≡ 0

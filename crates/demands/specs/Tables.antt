@@ -1,13 +1,14 @@
 -- The demands on the table, in document 01's words, as statements: histories are any lists of store, find and remove calls.
 -- The proofs are in the table crate.
 -- Assumes nothing.
-use Prim.Native.Nat.{ℕ, _<_}
+use Prim.Native.Nat.{ℕ, _≤_, _<_}
 use mathlib.Core.Path.{_≡_}
 use mathlib.Core.Bool.{true, cond}
-use mathlib.Core.List.{List}
+use mathlib.Core.List.{List, []}
 use lib.Dec.{eqb}
 use lib.ListN.{length}
-use Rattle.table.specs.Table.{key, wellFormed, findRefusal, found}
+use Rattle.bits.specs.Layout.{blank}
+use Rattle.table.specs.Table.{tableSize, key, wellFormed, findRefusal, found}
 use Rattle.table.specs.History.{Call, number, after, afterAll, logOf, lastOf}
 use Rattle.table.specs.Dict.{entries, replies, dictReplies}
 
@@ -25,6 +26,14 @@ abbrev pub LastStored : Type 0
 LastStored =
     (t : List ℕ) → wellFormed t ≡ true → (cs : List Call) (sin group : ℕ) → group < 3
     → Finds (afterAll t cs) sin group (lastOf (key sin group) (found t sin group) (logOf t cs))
+
+-- "group not 0 to 2" is NONE
+abbrev pub NoGroup : Type 0
+NoGroup = (t : List ℕ) → wellFormed t ≡ true → (cs : List Call) (sin group : ℕ) → 3 ≤ group → Finds (afterAll t cs) sin group []
+
+-- 4,096 zero bytes are a table that holds nothing, so there is a table to begin with
+abbrev pub ZeroBytes : Type 0
+ZeroBytes = (wellFormed (blank tableSize) ≡ true) × (entries (blank tableSize) ≡ [])
 
 -- a well-formed table stays well formed
 abbrev pub StaysFormed : Type 0

@@ -9,7 +9,7 @@ ghost use Rattle.demands.specs.Worked.{WorkedNumbers, WorkedMetres, Grid
 ghost use Rattle.demands.specs.Grids.{GridAnswer, SharedEdges, BothCalls, HeldIsWritten, OnlyWeighted, Lossless, SumBound, AllPresent, surfaceAt, stepsNorth, stepsEast, Lipschitz, PlainSteps};
 ghost use Rattle.bilinear.specs.Bilinear.{LipschitzBound};
 ghost use Rattle.grid.specs.Shift.{messageShift};
-ghost use Rattle.demands.specs.Tables.{LikeADictionary, LastStored, StaysFormed, RefusedKeeps};
+ghost use Rattle.demands.specs.Tables.{LikeADictionary, LastStored, NoGroup, ZeroBytes, StaysFormed, RefusedKeeps};
 
 // Demand 1 of reading: the first refusal that applies, and only then.
 pub fn refusals()
@@ -36,6 +36,8 @@ pub fn round_trips()
 pub fn tables()
     ensures dictionary { λ r. ⌜ LikeADictionary ⌝ }
     ensures last { λ r. ⌜ LastStored ⌝ }
+    ensures group { λ r. ⌜ NoGroup ⌝ }
+    ensures zero { λ r. ⌜ ZeroBytes ⌝ }
     ensures formed { λ r. ⌜ StaysFormed ⌝ }
     ensures refused { λ r. ⌜ RefusedKeeps ⌝ }
 {}

@@ -1,28 +1,25 @@
 -- Laws of the two calls: they agree, every cell that holds a place gives the answer, a node without weight is not asked for, and sum and count are bounded.
 -- Assumes nothing.
 use mathlib.Core.Path.{_≡_, refl, sym, ap, ap₂, _∙_}
-use mathlib.Core.Bool.{Bool, true, false, not, cond, _&&_, _||_}
+use mathlib.Core.Bool.{Bool, false, cond}
 use mathlib.Core.List.{List}
-use mathlib.Core.Logic.{_⊎_, inl, inr}
-use Prim.Native.Nat.{ℕ, suc, _+_, _*_, _-_, _≤_, _<_}
+use Prim.Native.Nat.{ℕ, suc, _*_, _≤_, _<_}
 use native.Mathlib.Omega.{arith}
-use borrow.Author.Tests.{eq-eqb}
-use lib.Dec.{eqb}
-use lib.IntN.{ℤ, pos, natAbs, _+ℤ_, _*ℤ_}
+use lib.IntN.{ℤ, natAbs, _+ℤ_}
 use lib.Ieee.{binary64, ofInt, toSigned}
 use Rattle.arith.specs.First.{first}
 use Rattle.arith.specs.Row.{at}
 use Rattle.records.specs.declared.Grid.{Grid}
 use Rattle.records.specs.Records.{gridOf}
 use Rattle.message.specs.Message.{row, kindRefusal}
-use Rattle.bilinear.specs.Bilinear.{nearestWhole, fromEdge, outside, cell, inCell, exact, interpolated, absentIn}
+use Rattle.bilinear.specs.Bilinear.{nearestWhole, fromEdge, outside, cell, inCell, exact, interpolated}
 use Rattle.bilinear.proofs.Place.{steps-most, cell-le, cell-from, cell-upto}
 use Rattle.bilinear.proofs.Edges.{shared-exact, shared-absent}
 use Rattle.grid.specs.Shift.{nodeFactor, surface, northOf, eastOf, fieldTests, gridTests, outcome, shiftWith, shiftRefusal, recordShift, messageShift}
-use Rattle.grid.specs.Private.{Fields, Within, Placed, cornersOf, sumOf, inside}
+use Rattle.grid.specs.Private.{Fields, Placed, cornersOf, inside}
 use Rattle.grid.proofs.Floats.{lossless}
 use Rattle.grid.proofs.Sum.{area-most, sum-most}
-use Rattle.grid.proofs.Parts.{Early, Answered, early, spacings, factor-most, corners-most, count-is, value-most, in-out}
+use Rattle.grid.proofs.Parts.{Answered, early, spacings, factor-most, corners-most, count-is, value-most, in-out}
 use Rattle.grid.proofs.Accepted.{message-none, message-passed, message-held, message-fields, record-passed}
 use Rattle.grid.proofs.Lipschitz.{placed, counted}
 

@@ -1,7 +1,7 @@
 -- Bounds of weights, of the weighted sum and of its parts, and the signed division that gives the nearest whole number.
 -- Assumes nothing.
 use mathlib.Core.Path.{_≡_, refl, sym, ap, _∙_, subst}
-use Prim.Native.Nat.{ℕ, zero, suc, _+_, _*_, _-_, _/_, _≤_, _<_}
+use Prim.Native.Nat.{ℕ, zero, suc, _+_, _*_, _-_, _/_, _≤_}
 use native.Mathlib.Nat.{mul-le-mul, mul-le-mul-left, le-trans, zero-div, mul-pos}
 use native.Mathlib.Omega.{arith}
 use lib.Dec.{ltb→lt}

@@ -32,7 +32,7 @@ ellipsoidal number = sameZ number (pos 1023)
 abbrev pub stepsOf : ℤ → ℕ
 stepsOf number = cond (ellipsoidal number) 5000 10000
 
--- components: 0 north-south, 1 east-west, 2 height
+-- the components of a shift, document 01's term: 0 north-south, 1 east-west, 2 height
 abbrev pub part : ℕ → Shifts → ℤ
 part c s = cond (eqb c 0) (s .north) (cond (eqb c 1) (s .east) (s .height))
 

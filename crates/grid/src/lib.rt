@@ -97,7 +97,7 @@ fn origin_refusal(number: i64, north: i64, east: i64) -> u8
 
 // OFF, METHOD, ORIGIN, SPACING, or 0.
 fn field_refusal(
-    shown: i64,
+    indicator: i64,
     method: i64,
     number: i64,
     north: i64,
@@ -105,9 +105,9 @@ fn field_refusal(
     rows: i64,
     columns: i64,
 ) -> u8
-    ensures { λ r. ⌜ r ≡ first ((10, sameZ shown (pos 0)) ∷ (11, not (sameZ method (pos 0))) ∷ (12, not (originAvailable number north east)) ∷ (13, sameZ rows (pos 0) || sameZ columns (pos 0)) ∷ []) ⌝ }
+    ensures { λ r. ⌜ r ≡ first ((10, sameZ indicator (pos 0)) ∷ (11, not (sameZ method (pos 0))) ∷ (12, not (originAvailable number north east)) ∷ (13, sameZ rows (pos 0) || sameZ columns (pos 0)) ∷ []) ⌝ }
 {
-    if shown == 0 {
+    if indicator == 0 {
         return 10;
     }
     if method != 0 {
@@ -427,12 +427,12 @@ fn early_refusal(g: Grid, component: u8, north: i64, east: i64) -> u8
     if p != 0 {
         return p;
     }
-    let shown = side_of(component, g.shifts);
+    let indicator = side_of(component, g.shifts);
     let method = side_of(component, g.methods);
     let origin = g.origin;
     let spacing = g.spacing;
     field_refusal(
-        shown,
+        indicator,
         method,
         number,
         origin.north,
@@ -487,7 +487,7 @@ pub fn shift_at(message: &[u8], component: u8, north: i64, east: i64) -> Shift
     shift_in(g, component, north, east)
 }
 
-// The same from a record.
+// The same from a record; RANGE where no grid message holds it.
 pub fn shift_of(grid: Grid, component: u8, north: i64, east: i64) -> Shift
     ensures { λ r. ⌜ r ≡ recordShift grid component north east ⌝ }
 {

@@ -31,9 +31,6 @@ total-limit s lo hi =
     by-number (Most n m) (numberOf s) lo hi
     (omega (arith, total-1021 n m)) (omega (arith, total-1022 n m)) (omega arith) (omega arith) (omega arith) (omega arith) (omega arith)
 
-pub accepted-number : (m : List ℕ) → refusal m ≡ 0 → (1021 ≤ numberOf m) × (numberOf m ≤ 1027)
-accepted-number m e = let h = head-of m (accepted-head m e) in (h .low, h .high)
-
 pub accepted-size : (m : List ℕ) → refusal m ≡ 0 → (2 ≤ length m) × (length m ≤ 127)
 accepted-size m e =
     let h = accepted-head m e in

@@ -81,9 +81,6 @@ refused-keeps t (store m) h = store-kept t m h
 refused-keeps t (find s g) h = refl
 refused-keeps t (remove s g) h = remove-kept t s g h
 
-pub stays-formed : (t : List ℕ) (c : Call) → wellFormed t ≡ true → wellFormed (after t c) ≡ true
-stays-formed t c w = well-formed (after t c) (keep t (formed t w) c .0)
-
 -- ---- a whole history
 
 pub history-formed : (t : List ℕ) → Formed t → (cs : List Call) → Formed (afterAll t cs)

@@ -23,7 +23,7 @@ slotSize = 1 + messageSize
 abbrev pub tableSize : ℕ
 tableSize = slots * slotSize
 
--- ---- keys: "A key is SIN and group: 0 for 1021 and 1022, 1 for 1023 and 1024, 2 for the rest"
+-- ---- keys, whose group is document 01's term: "A key is SIN and group: 0 for 1021 and 1022, 1 for 1023 and 1024, 2 for the rest"
 
 abbrev pub groupOf : ℕ → ℕ
 groupOf number = cond (leb number 1022) 0 (cond (leb number 1024) 1 2)
