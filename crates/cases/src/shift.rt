@@ -31,7 +31,7 @@ fn put_case(bytes: &Bytes, n: usize, given: &[u8], out: &mut Out, at: usize) -> 
     put_shift(text::before(bytes, n), component, north, east, out, at)
 }
 
-// REFUSAL COUNT KIND, and whether the record's shift differs
+// REFUSAL COUNT KIND VALUE, and whether the record's shift differs.
 fn put_shift(s: &[u8], component: u8, north: i64, east: i64, out: &mut Out, at: usize) -> usize {
     let r = grid::shift_at(s, component, north, east);
     let refusal = r.refusal;
@@ -47,13 +47,27 @@ fn put_shift(s: &[u8], component: u8, north: i64, east: i64, out: &mut Out, at: 
     to
 }
 
-// KIND, with a space before it.
+// KIND and VALUE, with a space before each.
 fn put_kind(kind: Answer, out: &mut Out, at: usize) -> usize {
     match kind {
-        Answer::Seconds(_) => output::put_all(out, at, b" seconds"),
-        Answer::Metres(_) => output::put_all(out, at, b" metres"),
-        Answer::Refused(_) => output::put_all(out, at, b" refused"),
+        Answer::Seconds(x) => put_float(b" seconds ", x, out, at),
+        Answer::Metres(x) => put_float(b" metres ", x, out, at),
+        Answer::Refused(n) => put_number(n, out, at),
     }
+}
+
+fn put_number(n: u8, out: &mut Out, at: usize) -> usize {
+    let to = output::put_all(out, at, b" refused ");
+    output::put_small(out, to, n)
+}
+
+// A kind and the bits of its float as a whole number, `?` for a float that is no number.
+fn put_float(kind: &[u8], x: f64, out: &mut Out, at: usize) -> usize {
+    let to = output::put_all(out, at, kind);
+    if x != x {
+        return output::put(out, to, b'?');
+    }
+    output::put_natural(out, to, f64::to_bits(x))
 }
 
 // Whether the message has a record whose shift has another refusal or count.

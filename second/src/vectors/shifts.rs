@@ -40,16 +40,16 @@ pub fn cases() -> Vec<Case> {
 /// A case of the shift on any bytes.
 fn case(name: String, bytes: &[u8], component: u8, [north, east]: [i64; 2]) -> Case {
     let given = shift(bytes, component, north, east);
-    let kind = match answer(bytes, component, north, east) {
-        Answer::Seconds(_) => "seconds",
-        Answer::Metres(_) => "metres",
-        Answer::Refused(_) => "refused",
+    let (kind, value) = match answer(bytes, component, north, east) {
+        Answer::Seconds(value) => ("seconds", value.to_bits()),
+        Answer::Metres(value) => ("metres", value.to_bits()),
+        Answer::Refused(number) => ("refused", u64::from(number)),
     };
     let refusal = number_of(&given);
     Case {
         name,
         call: format!("shift {} {component} {north} {east}", hex(bytes)),
-        answer: format!("{refusal} {} {kind}", given.unwrap_or(0)),
+        answer: format!("{refusal} {} {kind} {value}", given.unwrap_or(0)),
     }
 }
 
