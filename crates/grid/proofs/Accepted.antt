@@ -152,35 +152,35 @@ module _ (g : Grid) (a : List ℕ) (l : length a ≡ 11) (h : allTake (a ++ poin
   nodes-most c i j =
       let s = nodes (4 * i + j) in part-most (getD (g .nodes) (4 * i + j) none) 256 (s .north) (s .east) (s .height) c
 
-fields-1023 : (g : Grid) → Held g layout1023
-unfolding layout1023 gridRow pairRow placeRow shiftsRow
-fields-1023 g h =
-    let t : (i : ℕ) → i < length layout1023 → takes (getD layout1023 i 0) (at (gridRow g) i) ≡ true = takes-at layout1023 (gridRow g) h in
+-- entry i of a layout takes numbers up to b
+abbrev Upto : List ℕ → ℕ → ℕ → Type 0
+Upto es i b = T (leb (cond (signed (getD es i 0)) (2 ^ width (getD es i 0) / 2) (2 ^ width (getD es i 0))) b)
+
+-- the bounds of a record by any layout of its kind: eleven entries, and the points
+fields-by : (g : Grid) (a : List ℕ) → length a ≡ 11 → 11 ≤ length (a ++ points)
+    → Upto (a ++ points) 4 67108864 → Upto (a ++ points) 5 67108864 → getD (a ++ points) 6 0 ≡ 12 → getD (a ++ points) 7 0 ≡ 12
+    → Upto (a ++ points) 8 16384 → Upto (a ++ points) 9 16384 → Upto (a ++ points) 10 16384 → Held g (a ++ points)
+unfolding gridRow pairRow placeRow shiftsRow
+fields-by g a l m north east rows columns p q r h =
+    let t : (i : ℕ) → i < length (a ++ points) → takes (getD (a ++ points) i 0) (at (gridRow g) i) ≡ true = takes-at (a ++ points) (gridRow g) h in
     record {
-      north = bounded _ (g .origin .north) 67108864 (t 4 (omega arith)) tt;
-      east = bounded _ (g .origin .east) 67108864 (t 5 (omega arith)) tt;
-      rows = spaced (g .spacing .north) (t 6 (omega arith));
-      columns = spaced (g .spacing .east) (t 7 (omega arith));
+      north = bounded _ (g .origin .north) 67108864 (t 4 (omega arith)) north;
+      east = bounded _ (g .origin .east) 67108864 (t 5 (omega arith)) east;
+      rows = spaced (g .spacing .north) (subst (λ (e : ℕ). takes e (g .spacing .north) ≡ true) rows (t 6 (omega arith)));
+      columns = spaced (g .spacing .east) (subst (λ (e : ℕ). takes e (g .spacing .east) ≡ true) columns (t 7 (omega arith)));
       mean =
-          part-most (g .mean) 16384 (bounded _ (g .mean .north) 16384 (t 8 (omega arith)) tt) (bounded _ (g .mean .east) 16384 (t 9 (omega arith)) tt)
-          (bounded _ (g .mean .height) 16384 (t 10 (omega arith)) tt);
-      nodes = nodes-most g (take 11 layout1023) refl h;
+          part-most (g .mean) 16384 (bounded _ (g .mean .north) 16384 (t 8 (omega arith)) p) (bounded _ (g .mean .east) 16384 (t 9 (omega arith)) q)
+          (bounded _ (g .mean .height) 16384 (t 10 (omega arith)) r);
+      nodes = nodes-most g a l h;
     }
 
+fields-1023 : (g : Grid) → Held g layout1023
+unfolding layout1023
+fields-1023 g = fields-by g (take 11 layout1023) refl (omega arith) tt tt refl refl tt tt tt
+
 fields-1024 : (g : Grid) → Held g layout1024
-unfolding layout1024 gridRow pairRow placeRow shiftsRow
-fields-1024 g h =
-    let t : (i : ℕ) → i < length layout1024 → takes (getD layout1024 i 0) (at (gridRow g) i) ≡ true = takes-at layout1024 (gridRow g) h in
-    record {
-      north = bounded _ (g .origin .north) 67108864 (t 4 (omega arith)) tt;
-      east = bounded _ (g .origin .east) 67108864 (t 5 (omega arith)) tt;
-      rows = spaced (g .spacing .north) (t 6 (omega arith));
-      columns = spaced (g .spacing .east) (t 7 (omega arith));
-      mean =
-          part-most (g .mean) 16384 (bounded _ (g .mean .north) 16384 (t 8 (omega arith)) tt) (bounded _ (g .mean .east) 16384 (t 9 (omega arith)) tt)
-          (bounded _ (g .mean .height) 16384 (t 10 (omega arith)) tt);
-      nodes = nodes-most g (take 11 layout1024) refl h;
-    }
+unfolding layout1024
+fields-1024 g = fields-by g (take 11 layout1024) refl (omega arith) tt tt refl refl tt tt tt
 
 fields-layout : (g : Grid) (k n m : ℕ) → 1023 ≤ k → k ≤ 1024 → Held g (layoutOf k n m)
 unfolding layoutOf
