@@ -1,5 +1,5 @@
 -- Document 01, "Numbers worked out": one table of rows, each a message, what is asked of it, and the number and count that must be answered.
--- The bytes are those of the second program's cases p1 to p12.
+-- `GridsRead` says what the bytes of the grids hold.
 -- Assumes nothing.
 use Prim.Native.Nat.{ℕ, _+_}
 use mathlib.Core.Path.{_≡_}
@@ -7,6 +7,7 @@ use mathlib.Core.Bool.{cond}
 use mathlib.Core.List.{List, [], _∷_, _++_}
 use lib.Dec.{eqb}
 use lib.IntN.{ℤ, pos, negsuc, negℤ}
+use lib.ListN.{set}
 use Rattle.arith.specs.Row.{upTo}
 use Rattle.bits.specs.Layout.{blank}
 use Rattle.records.specs.Records.{nodesRow}
@@ -29,23 +30,17 @@ gridKNegated =
 
 -- Grid K with "node 7 raw -256"
 unfoldable pub gridKNode7 : List ℕ
-gridKNode7 =
-    63 ∷ 240 ∷ 116 ∷ 172 ∷ 68 ∷ 0 ∷ 154 ∷ 176 ∷ 22 ∷ 129 ∷ 104 ∷ 0 ∷ 0 ∷ 18 ∷ 84 ∷ 0 ∷ 0 ∷ 0 ∷ 32 ∷ 0 ∷ 0 ∷ 8 ∷ 0 ∷ 0 ∷ 1 ∷ 128 ∷ 0 ∷ 0 ∷ 64 ∷ 0 ∷ 0 ∷ 10 ∷ 0 ∷ 0 ∷ 1 ∷ 128 ∷ 0 ∷ 8 ∷ 0 ∷ 0 ∷ 0 ∷ 8 ∷ 0 ∷ 0 ∷ 1 ∷ 32 ∷ 0 ∷ 0 ∷ 40 ∷ 0 ∷ 0 ∷ 5 ∷ 128 ∷ 0 ∷ 0 ∷ 192 ∷ 0 ∷ 0 ∷ 26 ∷ 0 ∷ 0 ∷ 3 ∷ 128 ∷ 0 ∷ 0 ∷ 120 ∷ 0 ∷ 0 ∷ 16 ∷ 0 ∷ 0 ∷ 0 ∷ 0 ∷ []
+gridKNode7 = set (set gridK 37 8) 38 0
 
--- Grid K with a spacing north of 0
+-- Grid K with a spacing north of 0, with a spacing east of 0, and with both: bytes 8 to 10 hold the spacings
 unfoldable pub gridKNorth0 : List ℕ
-gridKNorth0 =
-    63 ∷ 240 ∷ 116 ∷ 172 ∷ 68 ∷ 0 ∷ 154 ∷ 176 ∷ 0 ∷ 1 ∷ 104 ∷ 0 ∷ 0 ∷ 18 ∷ 84 ∷ 0 ∷ 0 ∷ 0 ∷ 32 ∷ 0 ∷ 0 ∷ 8 ∷ 0 ∷ 0 ∷ 1 ∷ 128 ∷ 0 ∷ 0 ∷ 64 ∷ 0 ∷ 0 ∷ 10 ∷ 0 ∷ 0 ∷ 1 ∷ 128 ∷ 0 ∷ 0 ∷ 56 ∷ 0 ∷ 0 ∷ 8 ∷ 0 ∷ 0 ∷ 1 ∷ 32 ∷ 0 ∷ 0 ∷ 40 ∷ 0 ∷ 0 ∷ 5 ∷ 128 ∷ 0 ∷ 0 ∷ 192 ∷ 0 ∷ 0 ∷ 26 ∷ 0 ∷ 0 ∷ 3 ∷ 128 ∷ 0 ∷ 0 ∷ 120 ∷ 0 ∷ 0 ∷ 16 ∷ 0 ∷ 0 ∷ 0 ∷ 0 ∷ []
+gridKNorth0 = set (set gridK 8 0) 9 1
 
--- Grid K with a spacing east of 0
 unfoldable pub gridKEast0 : List ℕ
-gridKEast0 =
-    63 ∷ 240 ∷ 116 ∷ 172 ∷ 68 ∷ 0 ∷ 154 ∷ 176 ∷ 22 ∷ 128 ∷ 0 ∷ 0 ∷ 0 ∷ 18 ∷ 84 ∷ 0 ∷ 0 ∷ 0 ∷ 32 ∷ 0 ∷ 0 ∷ 8 ∷ 0 ∷ 0 ∷ 1 ∷ 128 ∷ 0 ∷ 0 ∷ 64 ∷ 0 ∷ 0 ∷ 10 ∷ 0 ∷ 0 ∷ 1 ∷ 128 ∷ 0 ∷ 0 ∷ 56 ∷ 0 ∷ 0 ∷ 8 ∷ 0 ∷ 0 ∷ 1 ∷ 32 ∷ 0 ∷ 0 ∷ 40 ∷ 0 ∷ 0 ∷ 5 ∷ 128 ∷ 0 ∷ 0 ∷ 192 ∷ 0 ∷ 0 ∷ 26 ∷ 0 ∷ 0 ∷ 3 ∷ 128 ∷ 0 ∷ 0 ∷ 120 ∷ 0 ∷ 0 ∷ 16 ∷ 0 ∷ 0 ∷ 0 ∷ 0 ∷ []
+gridKEast0 = set (set gridK 9 128) 10 0
 
--- Grid K with both spacings 0
 unfoldable pub gridKBoth0 : List ℕ
-gridKBoth0 =
-    63 ∷ 240 ∷ 116 ∷ 172 ∷ 68 ∷ 0 ∷ 154 ∷ 176 ∷ 0 ∷ 0 ∷ 0 ∷ 0 ∷ 0 ∷ 18 ∷ 84 ∷ 0 ∷ 0 ∷ 0 ∷ 32 ∷ 0 ∷ 0 ∷ 8 ∷ 0 ∷ 0 ∷ 1 ∷ 128 ∷ 0 ∷ 0 ∷ 64 ∷ 0 ∷ 0 ∷ 10 ∷ 0 ∷ 0 ∷ 1 ∷ 128 ∷ 0 ∷ 0 ∷ 56 ∷ 0 ∷ 0 ∷ 8 ∷ 0 ∷ 0 ∷ 1 ∷ 32 ∷ 0 ∷ 0 ∷ 40 ∷ 0 ∷ 0 ∷ 5 ∷ 128 ∷ 0 ∷ 0 ∷ 192 ∷ 0 ∷ 0 ∷ 26 ∷ 0 ∷ 0 ∷ 3 ∷ 128 ∷ 0 ∷ 0 ∷ 120 ∷ 0 ∷ 0 ∷ 16 ∷ 0 ∷ 0 ∷ 0 ∷ 0 ∷ []
+gridKBoth0 = set (set (set gridK 8 0) 9 0) 10 0
 
 -- ---- what is asked, and answered
 
