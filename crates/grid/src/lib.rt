@@ -220,7 +220,7 @@ fn cell_of(d: u64, t: u64) -> u64
     2
 }
 
-// For the difference u from the origin and the spacing d, in steps.
+// Where a position stands along one direction: u is its difference from the origin, d the spacing, in steps.
 fn axis(u: i64, d: u64) -> Along
     requires { ⌜ (natAbs u ≤ 10000000000000) × (0 < d) × (d ≤ 40950000) ⌝ }
     ensures { λ r. ⌜ Stands d u r ⌝ }
@@ -281,7 +281,7 @@ fn node_lacks(weight: u64, raw: i64) -> bool
     weight != 0
 }
 
-// A count as arc seconds or metres.
+// A count of 0.00001 arc second as arc seconds.
 fn seconds(count: i64) -> f64
     requires { ⌜ natAbs count ≤ 9007199254740992 ⌝ }
     ensures { λ r. ⌜ r ≡ unitsOf 100000 count ⌝ }
@@ -289,6 +289,7 @@ fn seconds(count: i64) -> f64
     count as f64 / 100000.0
 }
 
+// A count of 0.1 mm as metres.
 fn metres(count: i64) -> f64
     requires { ⌜ natAbs count ≤ 9007199254740992 ⌝ }
     ensures { λ r. ⌜ r ≡ unitsOf 10000 count ⌝ }

@@ -161,7 +161,7 @@ fn append_times(dst: &mut [u64], at: usize, n: usize, e: u64) -> usize
     at + k
 }
 
-// With k coordinates of the rotation point.
+// The layout of 1021 or 1022: names of n and m characters, and k coordinates of the rotation point.
 fn named_plan(n: usize, m: usize, k: usize) -> Plan
     requires { ⌜ (n ≤ 31) × ((m ≤ 31) × (k ≤ 3)) ⌝ }
     ensures { λ r. ⌜ (r .count ≡ length (names n m ++ parameters (replicate k (int 35)))) × ((length (r .entries) ≡ 96) × (take (r .count) (r .entries) ≡ names n m ++ parameters (replicate k (int 35)))) ⌝ }
