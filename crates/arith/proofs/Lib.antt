@@ -6,3 +6,4 @@ pub mod Tests
 pub mod Order
 pub mod First
 pub mod Int
+pub mod Machine

@@ -1,17 +1,16 @@
 // The exported interface: include/tarnoklej.h.
 ghost use mathlib.Core.Path.{_≡_};
 ghost use lib.ListN.{length};
-ghost use Rattle.bits.specs.Layout.{answered, stored};
-ghost use Rattle.message.specs.Message.{header, rowRefusal, rowRead, writeRefusal, message};
+ghost use Rattle.wire.specs.Message.{header, rowRefusal, rowRead, writeRow};
 ghost use Rattle.capi.specs.Counted.{countedShift};
 ghost use Rattle.table.specs.Table.{storeRefusal, storeTable, findRefusal, foundOf, removeTable};
 
 // The number, the length and the system identification number of a message.
 #[no_mangle]
-pub extern "C" fn tarnoklej_read(s: &[u8]) -> message::Header
+pub extern "C" fn tarnoklej_read(s: &[u8]) -> wire::Header
     ensures { λ r. ⌜ r ≡ header (now (s .entry)) ⌝ }
 {
-    message::read_header(s)
+    wire::read_header(s)
 }
 
 // The raw numbers of a message in wire order into the first places of a row.
@@ -20,16 +19,16 @@ pub extern "C" fn tarnoklej_read_fields(s: &[u8], fields: &mut [i64]) -> u8
     ensures answer { λ r. ⌜ r ≡ rowRefusal (now (s .entry)) (length (now (fields .entry))) ⌝ }
     ensures output { λ r. ⌜ now (fields .exit) ≡ rowRead (now (s .entry)) (now (fields .entry)) ⌝ }
 {
-    message::read_row(s, fields)
+    wire::read_row(s, fields)
 }
 
 // The message of a row of raw numbers in the first bytes of out.
 #[no_mangle]
-pub extern "C" fn tarnoklej_write_fields(fields: &[i64], out: &mut [u8]) -> bits::Written
-    ensures answer { λ r. ⌜ r ≡ answered (writeRefusal (now (fields .entry)) (length (now (out .entry)))) (message (now (fields .entry))) ⌝ }
-    ensures output { λ r. ⌜ now (out .exit) ≡ stored (writeRefusal (now (fields .entry)) (length (now (out .entry)))) (message (now (fields .entry))) (now (out .entry)) ⌝ }
+pub extern "C" fn tarnoklej_write_fields(fields: &[i64], out: &mut [u8]) -> layout::Written
+    ensures answer { λ r. ⌜ r ≡ writeRow (now (fields .entry)) (now (out .entry)) .answer ⌝ }
+    ensures output { λ r. ⌜ now (out .exit) ≡ writeRow (now (fields .entry)) (now (out .entry)) .output ⌝ }
 {
-    message::write_row(fields, out)
+    wire::write_row(fields, out)
 }
 
 // A shift as a refusal and a count.

@@ -1,16 +1,10 @@
 // Reads cases from standard input, one to a line, and prints the answer to each, one to a line: second/VECTORS.md has the forms.
 // At most 20,000 lines are read, of at most 600 bytes each. A line that is no case is answered by its name and `?`.
-mod held;
-mod input;
-mod output;
-mod read;
-mod shift;
-mod text;
-mod write;
-
-use input::Chunk;
-use input::Line;
-use output::Out;
+use lines::input;
+use lines::input::Chunk;
+use lines::input::Line;
+use lines::output;
+use lines::output::Out;
 
 const LINES: usize = 20000;
 
@@ -56,23 +50,35 @@ fn answer(
     out: &mut Out,
     at: usize,
 ) -> usize {
-    if 600 < length {
-        let to = output::put_name(out, at, text::word(line));
-        return output::put_all(out, to, b"?\n");
-    }
-    let to = answer_case(text::before(line, length), held, size, out, at);
+    let to = answer_line(line, length, held, size, out, at);
     output::put(out, to, b'\n')
+}
+
+// One line's answer, `?` for a line that is too long.
+fn answer_line(
+    line: &Line,
+    length: usize,
+    held: &mut [u8],
+    size: &mut usize,
+    out: &mut Out,
+    at: usize,
+) -> usize {
+    if 600 < length {
+        let to = output::put_name(out, at, words::word(line));
+        return output::put(out, to, b'?');
+    }
+    answer_case(words::before(line, length), held, size, out, at)
 }
 
 // The case's name, and what its command answers.
 fn answer_case(s: &[u8], held: &mut [u8], size: &mut usize, out: &mut Out, at: usize) -> usize {
-    let name = text::word(s);
+    let name = words::word(s);
     if name.len() == 0 {
         return output::put(out, at, b'?');
     }
     let to = output::put_name(out, at, name);
-    let rest = text::rest(s);
-    answer_command(text::word(rest), text::rest(rest), held, size, out, to)
+    let rest = words::rest(s);
+    answer_command(words::word(rest), words::rest(rest), held, size, out, to)
 }
 
 // What a command answers.
@@ -84,21 +90,26 @@ fn answer_command(
     out: &mut Out,
     at: usize,
 ) -> usize {
-    if text::same(command, b"read") {
-        return read::answer(given, out, at);
+    match words::place(command, b"read write shift table") {
+        0 => read_cases::answer(given, out, at),
+        1 => write_cases::answer(given, out, at),
+        2 => shift_cases::answer(given, out, at),
+        3 => table_cases::fresh(given, held, size, out, at),
+        _ => answer_held(command, given, held, *size, out, at),
     }
-    if text::same(command, b"write") {
-        return write::answer(given, out, at);
-    }
-    if text::same(command, b"shift") {
-        return shift::answer(given, out, at);
-    }
-    if text::same(command, b"table") {
-        return held::fresh(given, held, size, out, at);
-    }
-    let n = *size;
+}
+
+// What a command on the table answers, the first `n` bytes of those held.
+fn answer_held(
+    command: &[u8],
+    given: &[u8],
+    held: &mut [u8],
+    n: usize,
+    out: &mut Out,
+    at: usize,
+) -> usize {
     if held.len() < n {
         return output::put(out, at, b'?');
     }
-    held::answer(command, given, &mut held[0..n], out, at)
+    table_cases::answer(command, given, &mut held[0..n], out, at)
 }

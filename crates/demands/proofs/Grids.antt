@@ -8,16 +8,17 @@ use mathlib.Core.List.{List, [], _∷_, _++_}
 use mathlib.Core.Logic.{_⊎_, inl, inr}
 use lib.IntN.{ℤ, pos, _+ℤ_, _*ℤ_}
 use Rattle.arith.specs.First.{first}
-use Rattle.records.specs.declared.Grid.{Grid}
-use Rattle.records.specs.declared.Shifts.{Shifts}
-use Rattle.records.specs.Records.{gridRow}
-use Rattle.message.specs.Message.{kindRefusal}
+use Rattle.grid_records.specs.declared.Grid.{Grid}
+use Rattle.grid_records.specs.declared.Shifts.{Shifts}
+use Rattle.grid_records.specs.Grids.{gridRow}
+use Rattle.wire.specs.Message.{kindRefusal}
 use Rattle.message.specs.Kinds.{readGrid}
 use Rattle.bilinear.specs.Bilinear.{outside, cell, inCell, exact, absentIn, absent, interpolated, nearestWhole, LipschitzBound}
 use Rattle.bilinear.proofs.Nearest.{nearest-close, nearest-half, nearest-only}
 use Rattle.bilinear.proofs.Unweighted.{absent-same, sum-same}
 use Rattle.grid.specs.declared.Shift.{Shift}
-use Rattle.grid.specs.Shift.{available, nodeFactor, surface, northOf, eastOf, fieldTests, outcome, shiftWith, recordShiftRefusal, shiftRefusal, recordShift, messageShift}
+use Rattle.grid_refusals.specs.Refusals.{available, fieldTests}
+use Rattle.grid.specs.Shift.{nodeFactor, surface, northOf, eastOf, outcome, shiftWith, recordShiftRefusal, shiftRefusal, recordShift, messageShift}
 use Rattle.grid.proofs.Accepted.{message-grid, held-is-written}
 use Rattle.grid.proofs.Lipschitz.{lipschitz-message, spaced, counted, east-steps}
 use Rattle.grid.proofs.Calls.{shared-answer, calls-agree, count-lossless, sum-below-limit}

@@ -12,19 +12,20 @@ use lib.IntN.{ℤ, pos}
 use lib.ListN.{length, length-append, length-replicate}
 use borrow.Author.Tests.{lt-ltb, le-ltb, lt-leb, le-leb, ne-eqb}
 use Rattle.arith.specs.Row.{at}
-use Rattle.bits.specs.Field.{field}
-use Rattle.bits.specs.Layout.{uint, total, size, zeroFrom, allTake, decodeAll, refusalOf, answered}
-use Rattle.bits.proofs.Round.{accepted, refused-none}
-use Rattle.bits.proofs.Answer.{fill-set, out-of-range}
-use Rattle.records.specs.Records.{goodName}
-use Rattle.records.specs.declared.Name.{Name}
-use Rattle.records.proofs.Inverse.{helmert-good, molodenski-badekas-good}
-use Rattle.message.specs.Layouts.{names, tail1021, tail1022, layoutOf, layout1021, layout1022, layout1023, layout1024, layout1025, layout1026, layout1027}
-use Rattle.message.specs.Message.{numberOf, sourceCount, targetCount, counterCut, layout, refusal}
-use Rattle.message.specs.Kinds.{recordRefusal, readHelmert, readMolodenskiBadekas, readGrid, readProjection, readLambert, readObliqueMercator}
-use Rattle.message.proofs.Head.{head-of, head-passes, head-passed, accepted-head, row-of, source-lt, target-lt}
-use Rattle.message.proofs.Length.{total-1021, total-1022, total-names, by-number, layout-most}
-use Rattle.message.proofs.Trips.{value-behind, sized-head, message-of-row, row-written, message-accepted, row-of-message, length-message}
+use Rattle.field.specs.Field.{field}
+use Rattle.layout.specs.Layout.{uint, total, size, zeroFrom, allTake, decodeAll, refusalOf, answered}
+use Rattle.layout.proofs.Round.{accepted, refused-none}
+use Rattle.layout.proofs.Answer.{fill-set, out-of-range}
+use Rattle.transformation_records.specs.Transformations.{goodName}
+use Rattle.transformation_records.specs.declared.Name.{Name}
+use Rattle.transformation_records.proofs.Inverse.{helmert-good, molodenski-badekas-good}
+use Rattle.wire.specs.Layouts.{names, tail1021, tail1022, layoutOf, layout1021, layout1022, layout1023, layout1024, layout1025, layout1026, layout1027}
+use Rattle.wire.specs.Message.{numberOf, sourceCount, targetCount, counterCut, layout, refusal}
+use Rattle.wire.specs.Message.{kindWriteRefusal}
+use Rattle.message.specs.Kinds.{readHelmert, readMolodenskiBadekas, readGrid, readProjection, readLambert, readObliqueMercator}
+use Rattle.wire.proofs.Head.{head-of, head-passes, head-passed, accepted-head, row-of, source-lt, target-lt}
+use Rattle.wire.proofs.Length.{total-1021, total-1022, total-names, by-number, layout-most}
+use Rattle.wire.proofs.Trips.{value-behind, sized-head, message-of-row, row-written, message-accepted, row-of-message, length-message}
 use Rattle.message.proofs.RecordTrips.{layout-at, kept, kept-written, helmert-row, molodenski-badekas-row, grid-row, projection-row, lambert-row, oblique-mercator-row, helmert-back, molodenski-badekas-back, grid-back, projection-back, lambert-back, oblique-mercator-back}
 use Rattle.demands.specs.Messages.{Bytes, FirstThatApplies, CounterCut, AcceptedLengths, SinFound, ReportedLength, MessageAgain, RowAgain, RecordsAgain, RecordsBack}
 
@@ -107,6 +108,13 @@ accepted-lengths s e =
       l1025 = λ q. sized s 1025 e q;
       l1026 = λ q. sized s 1026 e q;
       l1027 = λ q. sized s 1027 e q;
+      b1021 = λ q. ap total (layout-at s 1021 q) ∙ total-1021 n m;
+      b1022 = λ q. ap total (layout-at s 1022 q) ∙ total-1022 n m;
+      b1023 = λ q. ap total (layout-at s 1023 q);
+      b1024 = λ q. ap total (layout-at s 1024 q);
+      b1025 = λ q. ap total (layout-at s 1025 q);
+      b1026 = λ q. ap total (layout-at s 1026 q);
+      b1027 = λ q. ap total (layout-at s 1027 q);
     }
 
 -- the field behind the names
@@ -160,8 +168,8 @@ pub row-again : RowAgain
 row-again v n e = (message-accepted v n e, row-of-message v n e)
 
 -- with both names good the writer answers as for a kind without names
-named-too : (a b : Name) (lo hi n : ℕ) (v : List ℤ) → (goodName a ≡ true) × (goodName b ≡ true) → recordRefusal lo hi true v n ≡ 0
-    → recordRefusal lo hi (goodName a && goodName b) v n ≡ 0
+named-too : (a b : Name) (lo hi n : ℕ) (v : List ℤ) → (goodName a ≡ true) × (goodName b ≡ true) → kindWriteRefusal lo hi true v n ≡ 0
+    → kindWriteRefusal lo hi (goodName a && goodName b) v n ≡ 0
 named-too a b lo hi n v g e = rw (g .0, g .1) e
 
 pub records-again : (s : List ℕ) → Bytes s → RecordsAgain s

@@ -5,11 +5,12 @@ use mathlib.Core.Bool.{true}
 use Prim.Native.Nat.{ℕ, zero, suc, _<_}
 use native.Mathlib.Omega.{arith}
 use Rattle.arith.specs.Whole.{sameZ}
-use Rattle.bits.specs.Field.{bitAt, field, twos}
-use Rattle.bits.specs.Layout.{takes, allTake, total, decodeAll, zeroFrom}
-use Rattle.records.specs.Records.{gridOf, pairAt, placeAt, shiftsAt, shiftsRow, nodesAt, nodesRow}
-use Rattle.message.specs.Layouts.{layoutOf, layout1021, tail1021, layout1023}
-use Rattle.message.specs.Message.{layout, refusal, row}
+use Rattle.field.specs.Field.{bitAt, field, twos}
+use Rattle.layout.specs.Layout.{takes, allTake, total, decodeAll, zeroFrom}
+use Rattle.grid_records.specs.Grids.{gridOf, placeAt, shiftsAt, shiftsRow, nodesAt, nodesRow}
+use Rattle.row.specs.Numbers.{pairAt}
+use Rattle.wire.specs.Layouts.{layoutOf, layout1021, tail1021, layout1023}
+use Rattle.wire.specs.Message.{layout, refusal, row}
 use Rattle.bilinear.specs.Bilinear.{nearestWhole, fromEdge, outside, cell, weighted, inCell, exact, interpolated, lacks, absentIn, absent}
 use Rattle.grid.specs.Shift.{surface, northOf, eastOf, shiftRefusal, answerOf, outcome, shiftWith, messageShift}
 use Rattle.demands.specs.Worked.{gridK, gridKNegated, gridKNode7, gridKNorth0, gridKEast0, gridKBoth0, answerTo, table, given, wanted, WorkedNumbers, WorkedMetres, GridsRead, GridKPresent}

@@ -10,14 +10,15 @@ use lib.IntN.{ℤ, pos, natAbs, _+ℤ_, _-ℤ_, _*ℤ_}
 use lib.Ieee.{binary64, ofInt, toSigned}
 use Rattle.arith.specs.First.{first}
 use Rattle.arith.specs.Row.{at}
-use Rattle.records.specs.declared.Grid.{Grid}
-use Rattle.records.specs.declared.Shifts.{Shifts}
-use Rattle.records.specs.Records.{gridOf, gridRow}
-use Rattle.message.specs.Message.{row}
-use Rattle.message.specs.Kinds.{recordRefusal, readGrid, gridHeld}
+use Rattle.grid_records.specs.declared.Grid.{Grid}
+use Rattle.grid_records.specs.declared.Shifts.{Shifts}
+use Rattle.grid_records.specs.Grids.{gridOf, gridRow}
+use Rattle.wire.specs.Message.{row}
+use Rattle.wire.specs.Message.{kindWriteRefusal}
+use Rattle.message.specs.Kinds.{readGrid, gridHeld}
 use Rattle.bilinear.specs.Bilinear.{Surface, gap, fromEdge, outside, cell, exact, LipschitzBound}
-use Rattle.grid.specs.Shift.{nodeRaw, surface, northOf, eastOf, fieldTests, recordShift, messageShift}
-use Rattle.grid.specs.Private.{inside}
+use Rattle.grid.specs.Shift.{nodeRaw, surface, northOf, eastOf, inCellShift, recordShift, messageShift}
+use Rattle.grid_refusals.specs.Refusals.{fieldTests}
 
 -- the grid of a message, and one component of it
 abbrev pub gridAt : List ℕ → Grid
@@ -74,7 +75,7 @@ pub record Holds (g : Grid) (c k l : ℕ) (n e : ℤ) : Type 0 where
 abbrev pub SharedEdges : Type 0
 SharedEdges =
     (s : List ℕ) (c : ℕ) (n e : ℤ) → readGrid s .refusal ≡ 0 → first (fieldTests (gridAt s) c n e) ≡ 0
-    → (k l : ℕ) → Holds (gridAt s) c k l n e → messageShift s c n e ≡ inside (gridAt s) c k l (northSteps (gridAt s) c n) (eastSteps (gridAt s) c e)
+    → (k l : ℕ) → Holds (gridAt s) c k l n e → messageShift s c n e ≡ inCellShift (gridAt s) c k l (northSteps (gridAt s) c n) (eastSteps (gridAt s) c e)
 
 -- the call on the record that was read from a message answers as the call on the message
 abbrev pub BothCalls : Type 0
@@ -82,7 +83,7 @@ BothCalls = (s : List ℕ) (c : ℕ) (n e : ℤ) → readGrid s .refusal ≡ 0 �
 
 -- a grid record is one that a message holds, and so not RANGE, exactly where the writer with room for it refuses nothing
 abbrev pub HeldIsWritten : Type 0
-HeldIsWritten = (g : Grid) (m : ℕ) → 74 ≤ m → gridHeld g ≡ eqb (recordRefusal 1023 1024 true (gridRow g) m) 0
+HeldIsWritten = (g : Grid) (m : ℕ) → 74 ≤ m → gridHeld g ≡ eqb (kindWriteRefusal 1023 1024 true (gridRow g) m) 0
 
 -- the grid with other nodes
 abbrev pub withNodes : Grid → List Shifts → Grid
@@ -90,7 +91,7 @@ withNodes g ns =
     record {
       number = g .number;
       sin = g .sin;
-      shifts = g .shifts;
+      indicators = g .indicators;
       origin = g .origin;
       spacing = g .spacing;
       mean = g .mean;

@@ -1,6 +1,6 @@
 -- The demands on messages, in document 01's words, as statements. The proofs are in proofs/Messages.antt.
 -- Assumes nothing.
-use Prim.Native.Nat.{ℕ, _+_, _≤_, _<_}
+use Prim.Native.Nat.{ℕ, _+_, _*_, _≤_, _<_}
 use mathlib.Core.Path.{_≡_}
 use mathlib.Core.Logic.{_⊎_}
 use mathlib.Core.Bool.{Bool, true, false, _&&_}
@@ -8,17 +8,20 @@ use mathlib.Core.List.{List}
 use lib.IntN.{ℤ, pos}
 use lib.ListN.{length, getD}
 use Rattle.arith.specs.Row.{at}
-use Rattle.bits.specs.Layout.{size, total, zeroFrom, allTake, decodeAll, answered}
-use Rattle.records.specs.declared.Name.{Name}
-use Rattle.records.specs.declared.Helmert.{Helmert}
-use Rattle.records.specs.declared.MolodenskiBadekas.{MolodenskiBadekas}
-use Rattle.records.specs.declared.Grid.{Grid}
-use Rattle.records.specs.declared.Projection.{Projection}
-use Rattle.records.specs.declared.Lambert.{Lambert}
-use Rattle.records.specs.declared.ObliqueMercator.{ObliqueMercator}
-use Rattle.records.specs.Records.{goodName, helmertRow, molodenskiBadekasRow, gridRow, projectionRow, lambertRow, obliqueMercatorRow}
-use Rattle.message.specs.Message.{numberOf, sourceCount, targetCount, sinOf, layout, refusal, row, rowLayout, writeRefusal, message}
-use Rattle.message.specs.Kinds.{recordRefusal, readHelmert, readMolodenskiBadekas, readGrid, readProjection, readLambert, readObliqueMercator}
+use Rattle.layout.specs.Layout.{size, total, zeroFrom, allTake, decodeAll, answered}
+use Rattle.transformation_records.specs.declared.Name.{Name}
+use Rattle.transformation_records.specs.declared.Helmert.{Helmert}
+use Rattle.transformation_records.specs.declared.MolodenskiBadekas.{MolodenskiBadekas}
+use Rattle.grid_records.specs.declared.Grid.{Grid}
+use Rattle.projection_records.specs.declared.Projection.{Projection}
+use Rattle.projection_records.specs.declared.Lambert.{Lambert}
+use Rattle.projection_records.specs.declared.ObliqueMercator.{ObliqueMercator}
+use Rattle.transformation_records.specs.Transformations.{goodName, helmertRow, molodenskiBadekasRow}
+use Rattle.grid_records.specs.Grids.{gridRow}
+use Rattle.projection_records.specs.Projections.{projectionRow, lambertRow, obliqueMercatorRow}
+use Rattle.wire.specs.Message.{numberOf, sourceCount, targetCount, sinOf, layout, refusal, row, rowLayout, writeRefusal, message}
+use Rattle.wire.specs.Message.{kindWriteRefusal}
+use Rattle.message.specs.Kinds.{readHelmert, readMolodenskiBadekas, readGrid, readProjection, readLambert, readObliqueMercator}
 
 -- a list of bytes
 abbrev pub Bytes : List ℕ → Type 0
@@ -50,6 +53,14 @@ pub record Lengths (s : List ℕ) : Type 0 where
   pub l1025 : numberOf s ≡ 1025 → length s ≡ 25
   pub l1026 : numberOf s ≡ 1026 → length s ≡ 30
   pub l1027 : numberOf s ≡ 1027 → length s ≡ 33
+  -- "Totals: 412 and 517 bits plus 8(N+M); 578; 590; 196; 234; 258"
+  pub b1021 : numberOf s ≡ 1021 → total (layout s) ≡ 412 + 8 * (sourceCount s + targetCount s)
+  pub b1022 : numberOf s ≡ 1022 → total (layout s) ≡ 517 + 8 * (sourceCount s + targetCount s)
+  pub b1023 : numberOf s ≡ 1023 → total (layout s) ≡ 578
+  pub b1024 : numberOf s ≡ 1024 → total (layout s) ≡ 590
+  pub b1025 : numberOf s ≡ 1025 → total (layout s) ≡ 196
+  pub b1026 : numberOf s ≡ 1026 → total (layout s) ≡ 234
+  pub b1027 : numberOf s ≡ 1027 → total (layout s) ≡ 258
 
 abbrev pub AcceptedLengths : Type 0
 AcceptedLengths = (s : List ℕ) → refusal s ≡ 0 → Lengths s
@@ -79,7 +90,7 @@ RowAgain = (v : List ℤ) (n : ℕ) → writeRefusal v n ≡ 0 → (refusal (mes
 
 -- the same of a record kind, read by its reader and written from its row
 abbrev pub Rewritten : ℕ → ℕ → Bool → List ℤ → List ℕ → Type 0
-Rewritten lo hi good v s = (message v ≡ s) × ((n : ℕ) → length s ≤ n → recordRefusal lo hi good v n ≡ 0)
+Rewritten lo hi good v s = (message v ≡ s) × ((n : ℕ) → length s ≤ n → kindWriteRefusal lo hi good v n ≡ 0)
 
 pub record RecordsAgain (s : List ℕ) : Type 0 where
   pub helmert : readHelmert s .refusal ≡ 0
@@ -99,13 +110,13 @@ pub record NameBytes (n : Name) : Type 0 where
 -- a record that is written reads back as itself, for each kind
 pub record RecordsBack (n : ℕ) : Type 0 where
   pub helmert : (r : Helmert) → NameBytes (r .source) → NameBytes (r .target)
-      → recordRefusal 1021 1021 (goodName (r .source) && goodName (r .target)) (helmertRow r) n ≡ 0
+      → kindWriteRefusal 1021 1021 (goodName (r .source) && goodName (r .target)) (helmertRow r) n ≡ 0
       → readHelmert (message (helmertRow r)) ≡ record { refusal = 0; value = r }
   pub molodenskiBadekas : (r : MolodenskiBadekas) → NameBytes (r .source) → NameBytes (r .target)
-      → recordRefusal 1022 1022 (goodName (r .source) && goodName (r .target)) (molodenskiBadekasRow r) n ≡ 0
+      → kindWriteRefusal 1022 1022 (goodName (r .source) && goodName (r .target)) (molodenskiBadekasRow r) n ≡ 0
       → readMolodenskiBadekas (message (molodenskiBadekasRow r)) ≡ record { refusal = 0; value = r }
-  pub grid : (r : Grid) → length (r .nodes) ≡ 16 → recordRefusal 1023 1024 true (gridRow r) n ≡ 0 → readGrid (message (gridRow r)) ≡ record { refusal = 0; value = r }
-  pub projection : (r : Projection) → recordRefusal 1025 1025 true (projectionRow r) n ≡ 0 → readProjection (message (projectionRow r)) ≡ record { refusal = 0; value = r }
-  pub lambert : (r : Lambert) → recordRefusal 1026 1026 true (lambertRow r) n ≡ 0 → readLambert (message (lambertRow r)) ≡ record { refusal = 0; value = r }
-  pub obliqueMercator : (r : ObliqueMercator) → recordRefusal 1027 1027 true (obliqueMercatorRow r) n ≡ 0
+  pub grid : (r : Grid) → length (r .nodes) ≡ 16 → kindWriteRefusal 1023 1024 true (gridRow r) n ≡ 0 → readGrid (message (gridRow r)) ≡ record { refusal = 0; value = r }
+  pub projection : (r : Projection) → kindWriteRefusal 1025 1025 true (projectionRow r) n ≡ 0 → readProjection (message (projectionRow r)) ≡ record { refusal = 0; value = r }
+  pub lambert : (r : Lambert) → kindWriteRefusal 1026 1026 true (lambertRow r) n ≡ 0 → readLambert (message (lambertRow r)) ≡ record { refusal = 0; value = r }
+  pub obliqueMercator : (r : ObliqueMercator) → kindWriteRefusal 1027 1027 true (obliqueMercatorRow r) n ≡ 0
       → readObliqueMercator (message (obliqueMercatorRow r)) ≡ record { refusal = 0; value = r }

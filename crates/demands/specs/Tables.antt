@@ -7,10 +7,10 @@ use mathlib.Core.Bool.{true, cond}
 use mathlib.Core.List.{List, []}
 use lib.Dec.{eqb}
 use lib.ListN.{length}
-use Rattle.bits.specs.Layout.{blank}
+use Rattle.layout.specs.Layout.{blank}
 use Rattle.table.specs.Table.{tableSize, key, wellFormed, findRefusal, found}
-use Rattle.table.specs.History.{Call, number, after, afterAll, logOf, lastOf}
-use Rattle.table.specs.Dict.{entries, replies, dictReplies}
+use Rattle.history.specs.History.{Call, number, after, afterAll, logOf, lastOf}
+use Rattle.history.specs.Dict.{entries, replies, dictReplies}
 
 -- demand 2: every number and every shown byte equals that of a dictionary with at most 32 keys; what a well-formed table holds at first counts as stored
 abbrev pub LikeADictionary : Type 0

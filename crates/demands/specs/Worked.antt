@@ -9,9 +9,9 @@ use lib.Dec.{eqb}
 use lib.IntN.{ℤ, pos, negsuc, negℤ}
 use lib.ListN.{set}
 use Rattle.arith.specs.Row.{upTo}
-use Rattle.bits.specs.Layout.{blank}
-use Rattle.records.specs.Records.{nodesRow}
-use Rattle.message.specs.Message.{refusal, row}
+use Rattle.layout.specs.Layout.{blank}
+use Rattle.grid_records.specs.Grids.{nodesRow}
+use Rattle.wire.specs.Message.{refusal, row}
 use Rattle.grid.specs.declared.Answer.the-variants.{Metres}
 use Rattle.grid.specs.Shift.{unitsOf, messageShift}
 use Rattle.demands.specs.Grids.{AllPresent}

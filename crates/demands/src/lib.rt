@@ -1,6 +1,4 @@
-// The demands as theorems. Each function here does nothing: it carries theorems as its promise, so that none can be taken away unnoticed.
-pub mod promises;
-
+// The demands as theorems, each the promise of a function, so that none can be taken away unnoticed: all but two_shifts, which makes two calls, do nothing.
 ghost use Prim.Native.Nat.{ℕ};
 ghost use mathlib.Core.Path.{_≡_};
 ghost use mathlib.Core.List.{List};

@@ -16,22 +16,24 @@ use Rattle.arith.specs.Row.{at}
 use Rattle.arith.specs.Whole.{natural}
 use Rattle.arith.proofs.First.{passed, not-false}
 use Rattle.arith.proofs.Tests.{false-ne-true, both-first, both-second}
-use Rattle.bits.specs.Layout.{allTake, takes, fits, signed, width, int, size, total}
-use Rattle.bits.proofs.Loop.{take-length}
-use Rattle.bits.proofs.Round.{of-true, accepted}
-use Rattle.records.specs.declared.Grid.{Grid}
-use Rattle.records.specs.declared.Shifts.{Shifts}
-use Rattle.records.specs.Records.{gridOf, gridRow, nodesRow, pairRow, placeRow, shiftsRow}
-use Rattle.records.proofs.Inverse.{grid-row-of}
-use Rattle.message.specs.Layouts.{layoutOf, layout1023, layout1024, times, points}
-use Rattle.message.specs.Message.{tests, refusal, numberOf, sourceCount, targetCount, layout, row, rowLayout, kindRefusal, kindRow}
-use Rattle.message.specs.Kinds.{recordRefusal, rowHeld, gridHeld}
-use Rattle.message.proofs.Head.{head-passed, accepted-head, row-of}
-use Rattle.message.proofs.Rows.{length-row}
-use Rattle.message.proofs.Trips.{row-layout-of, row-number}
+use Rattle.layout.specs.Layout.{allTake, takes, fits, signed, width, int, size, total}
+use Rattle.layout.proofs.Loop.{take-length}
+use Rattle.layout.proofs.Round.{of-true, accepted}
+use Rattle.grid_records.specs.declared.Grid.{Grid}
+use Rattle.grid_records.specs.declared.Shifts.{Shifts}
+use Rattle.grid_records.specs.Grids.{gridOf, gridRow, nodesRow, placeRow, shiftsRow}
+use Rattle.row.specs.Numbers.{pairRow}
+use Rattle.grid_records.proofs.Inverse.{grid-row-of}
+use Rattle.wire.specs.Layouts.{layoutOf, layout1023, layout1024, times, points}
+use Rattle.wire.specs.Message.{tests, refusal, numberOf, sourceCount, targetCount, layout, row, rowLayout, kindRefusal, kindRow}
+use Rattle.wire.specs.Message.{kindWriteRefusal, rowHeld}
+use Rattle.message.specs.Kinds.{gridHeld}
+use Rattle.wire.proofs.Head.{head-passed, accepted-head, row-of}
+use Rattle.wire.proofs.Rows.{length-row}
+use Rattle.wire.proofs.Trips.{row-layout-of, row-number}
 use Rattle.grid.specs.Shift.{part, nodeRaw, gridTests, recordShiftRefusal, shiftRefusal}
 use Rattle.grid.specs.Private.{Fields}
-use Rattle.grid.proofs.Parts.{stops, goes-on, passes}
+use Rattle.arith.proofs.First.{stops, goes-on, passes}
 
 -- ---- a number that its field takes
 
@@ -142,7 +144,7 @@ module _ (g : Grid) (a : List ℕ) (l : length a ≡ 11) (h : allTake (a ++ poin
   unfolding gridRow pairRow placeRow shiftsRow
   taken-nodes =
       skips a points
-      (g .number ∷ g .sin ∷ g .shifts .horizontal ∷ g .shifts .vertical ∷ g .origin .north ∷ g .origin .east ∷ g .spacing .north ∷ g .spacing .east ∷ g .mean .north ∷ g .mean .east ∷ g .mean .height ∷ [])
+      (g .number ∷ g .sin ∷ g .indicators .horizontal ∷ g .indicators .vertical ∷ g .origin .north ∷ g .origin .east ∷ g .spacing .north ∷ g .spacing .east ∷ g .mean .north ∷ g .mean .east ∷ g .mean .height ∷ [])
       _ l h
 
   nodes : (k : ℕ) → Small (getD (g .nodes) k none)
@@ -214,19 +216,19 @@ room : (v : List ℤ) → 1023 ≤ natural (at v 0) → natural (at v 0) ≤ 102
 unfolding rowLayout
 room v lo hi = room-of (natural (at v 0)) _ _ lo hi
 
-pub held-is-written : (v : List ℤ) (m : ℕ) → 74 ≤ m → rowHeld 1023 1024 v ≡ eqb (recordRefusal 1023 1024 true v m) 0
-unfolding rowHeld recordRefusal
+pub held-is-written : (v : List ℤ) (m : ℕ) → 74 ≤ m → rowHeld 1023 1024 v ≡ eqb (kindWriteRefusal 1023 1024 true v m) 0
+unfolding rowHeld kindWriteRefusal
 held-is-written v m h = by (kind (natural (at v 0))) refl
   where
     last : (b : Bool) → b ≡ eqb (first ((5, not b) ∷ (6, false) ∷ [])) 0
     last true = refl
     last false = refl
 
-    by : (b : Bool) → kind (natural (at v 0)) ≡ b → rowHeld 1023 1024 v ≡ eqb (recordRefusal 1023 1024 true v m) 0
+    by : (b : Bool) → kind (natural (at v 0)) ≡ b → rowHeld 1023 1024 v ≡ eqb (kindWriteRefusal 1023 1024 true v m) 0
     by true e =
         let k = kind-low (natural (at v 0)) e in
         let r = room v (k .0) (k .1) in
-        unfold rowHeld recordRefusal in
+        unfold rowHeld kindWriteRefusal in
         rw (
           le-leb 1023 (natural (at v 0)) (k .0),
           le-leb (natural (at v 0)) 1024 (k .1),
@@ -236,7 +238,7 @@ held-is-written v m h = by (kind (natural (at v 0))) refl
           le-ltb m (size (rowLayout v)) (omega arith),
         )
         (last (allTake (rowLayout v) v))
-    by false e = unfold rowHeld recordRefusal in rw e
+    by false e = unfold rowHeld kindWriteRefusal in rw e
 
 module _ (g : Grid) (c : ℕ) (n e : ℤ) where
   pub record-refused : gridHeld g ≡ false → 5 ≡ recordShiftRefusal g c n e

@@ -9,16 +9,17 @@ use lib.IntN.{ℤ, natAbs, _+ℤ_}
 use lib.Ieee.{binary64, ofInt, toSigned}
 use Rattle.arith.specs.First.{first}
 use Rattle.arith.specs.Row.{at}
-use Rattle.records.specs.declared.Grid.{Grid}
-use Rattle.records.specs.Records.{gridOf}
-use Rattle.message.specs.Message.{row, kindRefusal}
+use Rattle.grid_records.specs.declared.Grid.{Grid}
+use Rattle.grid_records.specs.Grids.{gridOf}
+use Rattle.wire.specs.Message.{row, kindRefusal}
 use Rattle.bilinear.specs.Bilinear.{nearestWhole, fromEdge, outside, cell, inCell, exact, interpolated}
 use Rattle.bilinear.proofs.Place.{steps-most, cell-le, cell-from, cell-upto}
 use Rattle.bilinear.proofs.Edges.{shared-exact, shared-absent}
-use Rattle.grid.specs.Shift.{nodeFactor, surface, northOf, eastOf, fieldTests, gridTests, outcome, shiftWith, shiftRefusal, recordShift, messageShift}
-use Rattle.grid.specs.Private.{Fields, Placed, cornersOf, inside}
+use Rattle.grid.specs.Shift.{nodeFactor, surface, northOf, eastOf, gridTests, outcome, inCellShift, shiftWith, shiftRefusal, recordShift, messageShift}
+use Rattle.grid_refusals.specs.Refusals.{fieldTests}
+use Rattle.grid.specs.Private.{Fields, Placed, cornersOf}
 use Rattle.grid.proofs.Floats.{lossless}
-use Rattle.grid.proofs.Sum.{area-most, sum-most}
+use Rattle.cell.proofs.Sum.{area-most, sum-most}
 use Rattle.grid.proofs.Parts.{Answered, early, spacings, factor-most, corners-most, count-is, value-most, in-out}
 use Rattle.grid.proofs.Accepted.{message-none, message-passed, message-held, message-fields, record-passed}
 use Rattle.grid.proofs.Lipschitz.{placed, counted}
@@ -103,12 +104,12 @@ module _ (s : List ℕ) (c : ℕ) (n e : ℤ) where
       X = natAbs (fromEdge (surface g c .W) (eastOf g e))
 
       pub shared-answer : k * surface g c .H ≤ Y → Y ≤ suc k * surface g c .H → l * surface g c .W ≤ X → X ≤ suc l * surface g c .W
-          → messageShift s c n e ≡ inside g c k l Y X
+          → messageShift s c n e ≡ inCellShift g c k l Y X
       unfolding messageShift
       shared-answer p q r t =
           let d = spacings g c n e (message-fields s c n e h) (early g c n e f) in
-          let own : inside g c (cell (surface g c .H) Y) (cell (surface g c .W) X) Y X ≡ shiftWith g c n e (first (gridTests g c n e)) =
-          in-out g c n e f a (inside g c (cell (surface g c .H) Y) (cell (surface g c .W) X) Y X) b refl in
+          let own : inCellShift g c (cell (surface g c .H) Y) (cell (surface g c .W) X) Y X ≡ shiftWith g c n e (first (gridTests g c n e)) =
+          in-out g c n e f a (inCellShift g c (cell (surface g c .H) Y) (cell (surface g c .W) X) Y X) b refl in
           ap (shiftWith g c n e) (sym (message-passed s c n e h)) ∙ sym own
           ∙ ap₂
           (λ (m : Bool) (z : ℤ). outcome (g .number) c (cond m 15 0) (surface g c .mean +ℤ nearestWhole z (surface g c .H * surface g c .W)))

@@ -5,9 +5,9 @@ use mathlib.Core.List.{List}
 use Prim.Native.Nat.{ℕ, _<_}
 use lib.IntN.{ℤ, pos, negℤ, _*ℤ_}
 use Rattle.arith.specs.Row.{at}
-use Rattle.records.specs.declared.Grid.{Grid}
-use Rattle.records.specs.Records.{gridOf}
-use Rattle.message.specs.Message.{row}
+use Rattle.grid_records.specs.declared.Grid.{Grid}
+use Rattle.grid_records.specs.Grids.{gridOf}
+use Rattle.wire.specs.Message.{row}
 use Rattle.bilinear.specs.Bilinear.{gap, interpolated, LipschitzBound}
 use Rattle.bilinear.proofs.Gap.{gap-add}
 use Rattle.bilinear.proofs.Lipschitz.{lipschitz}

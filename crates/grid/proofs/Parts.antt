@@ -1,4 +1,4 @@
--- From tests to answers: lists of tests one behind the other, what the tests on the fields say, and the answer of each way out.
+-- From tests to answers: what the tests on the fields say, and the answer of each way out.
 -- Assumes nothing.
 use mathlib.Core.Path.{_≡_, refl, sym, ap, _∙_}
 use mathlib.Core.Bool.{Bool, true, false, not, cond, _&&_, _||_}
@@ -11,35 +11,23 @@ use lib.Dec.{T, eqb, ltb, lit≤}
 use lib.IntN.{ℤ, pos, negsuc, natAbs, _+ℤ_, _*ℤ_}
 use Rattle.arith.specs.First.{Test, first}
 use Rattle.arith.specs.Whole.{natural, sameZ}
-use Rattle.arith.proofs.First.{first-append, positive, passed, or-false}
+use Rattle.arith.proofs.First.{passed, or-false, stops, goes-on, passes}
 use Rattle.arith.proofs.Tests.{false-ne-true}
-use Rattle.records.specs.declared.Grid.{Grid}
+use Rattle.grid_records.specs.declared.Grid.{Grid}
 use Rattle.bilinear.specs.Bilinear.{nearestWhole, fromEdge, outside, cell, inCell, exact, interpolated, lacks, absent, absentIn}
 use Rattle.bilinear.proofs.Place.{steps-most, cell-le, cell-from, cell-upto}
-use Rattle.grid.specs.Shift.{side, originAvailable, stepsOf, nodeFactor, surface, northOf, eastOf, beyond, fieldTests, gridTests, answerOf, outcome, shiftWith, available, meanWidth, meanFactor, part}
-use Rattle.grid.specs.Private.{Fields, Stands, Placed, Most, cornersOf, sumOf, nodesLack, inside}
-use Rattle.grid.proofs.Machine.{lit, arg, mul, add}
-use Rattle.grid.proofs.Sum.{near-most}
+use Rattle.grid_refusals.specs.Refusals.{side, originAvailable, beyond, fieldTests, available}
+use Rattle.grid.specs.Shift.{stepsOf, nodeFactor, surface, northOf, eastOf, gridTests, answerOf, outcome, inCellShift, shiftWith, meanWidth, meanFactor, part}
+use Rattle.grid.specs.Private.{Fields, Placed, cornersOf, nodesLack}
+use Rattle.arith.proofs.Machine.{Num, lit, arg, mul, add}
+use Rattle.cell.specs.Cell.{alongOf, sumOf, countIn}
+use Rattle.cell.specs.Private.{Most}
+use Rattle.cell.specs.declared.Place.{Place}
+use Rattle.cell.specs.declared.Corners.{Corners}
+use Rattle.cell.proofs.Sum.{near-most}
+use Rattle.cell.proofs.Held.{along-steps, along-cell, count-in-is}
 use Rattle.grid.specs.declared.Answer.the-variants.{Refused}
 use Rattle.grid.specs.declared.Shift.{Shift}
-use Rattle.grid.specs.declared.Along.{Along}
-use Rattle.grid.specs.declared.Corners.{Corners}
-
--- ---- lists of tests one behind the other
-
-pub stops : (a b : List Test) → T (positive a) → {r : ℕ} → r ≡ first a → (r ≡ 0 → ⊥) → r ≡ first (a ++ b)
-stops a b p {r} e h = e ∙ sym (first-append a b p ∙ ap (λ (t : Bool). cond t (first b) (first a)) (ne-eqb (first a) 0 (λ z. h (e ∙ z))))
-
-pub goes-on : (a b : List Test) → T (positive a) → first a ≡ 0 → first b ≡ first (a ++ b)
-goes-on a b p e = sym (first-append a b p ∙ ap (λ (t : Bool). cond t (first b) (first a)) (eq-eqb (first a) 0 e))
-
--- no test of both held
-pub passes : (a b : List Test) → T (positive a) → first (a ++ b) ≡ 0 → (first a ≡ 0) × (first b ≡ 0)
-passes a b p e = by (first a) refl (sym (first-append a b p) ∙ e)
-  where
-    by : (n : ℕ) → first a ≡ n → cond (eqb (first a) 0) (first b) (first a) ≡ 0 → (first a ≡ 0) × (first b ≡ 0)
-    by zero f h = (f, rw (eq-eqb (first a) 0 f) at h)
-    by (suc n) f h = let z : first a ≡ 0 = rw (ne-eqb (first a) 0 (λ q. absurd (omega arith))) at h in absurd (omega arith)
 
 -- ---- a refusal
 
@@ -75,7 +63,7 @@ two-of a b c d f h e =
 pub early : (g : Grid) (c : ℕ) (n e : ℤ) → first (fieldTests g c n e) ≡ 0 → Early g n e
 early g c n e h =
     let p =
-    two-of (ltb 2 c) (beyond (g .number) n e) (sameZ (side c (g .shifts)) (pos 0)) (not (sameZ (side c (g .methods)) (pos 0)))
+    two-of (ltb 2 c) (beyond (g .number) n e) (sameZ (side c (g .indicators)) (pos 0)) (not (sameZ (side c (g .methods)) (pos 0)))
     (not (originAvailable (g .number) (g .origin .north) (g .origin .east)))
     (sameZ (g .spacing .north) (pos 0) || sameZ (g .spacing .east) (pos 0)) h in
     let far = not-beyond (sameZ (g .number) (pos 1023)) (natAbs n) (natAbs e) (p .0) in
@@ -107,14 +95,38 @@ spacings g c n e f p =
 
 -- ---- a place along one direction
 
-module _ (d : ℕ) (u : ℤ) (a : Along) (p : 0 < d) (s : Stands d u a) (h : outside d u ≡ false) where
+module _ (d : ℕ) (u : ℤ) (p : 0 < d) (q : d ≤ 40950000) (h : outside d u ≡ false) where
   abbrev t : ℕ
   t = natAbs (fromEdge d u)
 
-  pub in-cell : (a .cell ≤ 2) × (a .cell * a .spacing ≤ a .steps) × (a .steps - a .cell * a .spacing ≤ a .spacing)
-  in-cell =
-      rw (s .spacing, s .inside h .0, s .inside h .1)
-      (cell-le d t, cell-from d t, omega (arith, cell-upto d t p (steps-most d u h)))
+  abbrev a : Place
+  a = alongOf d u
+
+  pub in-cell : (a .cell ≤ 2) × (a .cell * d ≤ a .steps) × (a .steps - a .cell * d ≤ d)
+  in-cell = rw (along-steps d u p q h, along-cell d u p q h) (cell-le d t, cell-from d t, omega (arith, cell-upto d t p (steps-most d u h)))
+
+-- a place in both directions, as the code finds it
+placed : (g : Grid) (c : ℕ) (u v : ℤ) → Fields g → (0 < surface g c .H) × (surface g c .H ≤ 40950000) → (0 < surface g c .W) × (surface g c .W ≤ 40950000)
+    → outside (surface g c .H) u ≡ false → outside (surface g c .W) v ≡ false
+    → Placed g c (alongOf (surface g c .H) u .cell) (alongOf (surface g c .W) v .cell) (alongOf (surface g c .H) u .steps) (alongOf (surface g c .W) v .steps)
+    (surface g c .H) (surface g c .W)
+placed g c u v f p q a b =
+    let y = in-cell (surface g c .H) u (p .0) (p .1) a in
+    let x = in-cell (surface g c .W) v (q .0) (q .1) b in
+    record {
+      fields = f;
+      high = refl;
+      wide = refl;
+      within = record { north = y .2; east = x .2; high = p; wide = q };
+      row = (y .0, y .1);
+      column = (x .0, x .1);
+    }
+
+pub placed-by : (g : Grid) (c : ℕ) (u v : ℤ) {n e : Place} {h w : ℕ} → Fields g → (0 < surface g c .H) × (surface g c .H ≤ 40950000)
+    → (0 < surface g c .W) × (surface g c .W ≤ 40950000) → outside (surface g c .H) u ≡ false → outside (surface g c .W) v ≡ false
+    → n ≡ alongOf (surface g c .H) u → e ≡ alongOf (surface g c .W) v → h ≡ surface g c .H → w ≡ surface g c .W
+    → Placed g c (n .cell) (e .cell) (n .steps) (e .steps) h w
+placed-by g c u v f p q a b i j k l = rw (i, j, k, l) (placed g c u v f p q a b)
 
 pub outside-yes : {r : ℕ} (b : Bool) → r ≡ cond b 14 0 → (r ≡ 0 → ⊥) → b ≡ true
 outside-yes true e h = refl
@@ -173,7 +185,7 @@ module _ (g : Grid) (c : ℕ) (n e : ℤ) where
       x = natAbs (fromEdge (surface g c .W) (eastOf g e))
 
       pub in-out : (s : Shift) → outside (surface g c .W) (eastOf g e) ≡ false
-          → s ≡ inside g c (cell (surface g c .H) y) (cell (surface g c .W) x) y x
+          → s ≡ inCellShift g c (cell (surface g c .H) y) (cell (surface g c .W) x) y x
           → s ≡ shiftWith g c n e (first (gridTests g c n e))
       unfolding shiftWith interpolated exact absent
       in-out s o h =
@@ -219,18 +231,25 @@ module _ {g : Grid} {c k l y x h w : ℕ} (p : Placed g c k l y x h w) where
   abbrev value : ℤ
   value = pos meanFactor *ℤ part c (g .mean) +ℤ nearestWhole (sumOf (nodeFactor (g .number) c) h w (y - k * h) (x - l * w) n) (h * w)
 
-  pub absent-out : (s : Shift) → absentIn (surface g c) k l y x ≡ true → Refuses 15 s → s ≡ inside g c k l y x
+  pub absent-out : (s : Shift) → absentIn (surface g c) k l y x ≡ true → Refuses 15 s → s ≡ inCellShift g c k l y x
   absent-out s e r =
       refuses (g .number) c 15 (surface g c .mean +ℤ nearestWhole (inCell (surface g c) k l y x) (surface g c .H * surface g c .W)) s r (λ z. absurd (omega arith))
       ∙ rw e
 
-  pub present-out : (s : Shift) → absentIn (surface g c) k l y x ≡ false → s ≡ outcome (g .number) c 0 value → s ≡ inside g c k l y x
+  pub present-out : (s : Shift) → absentIn (surface g c) k l y x ≡ false → s ≡ outcome (g .number) c 0 value → s ≡ inCellShift g c k l y x
   present-out s e f = f ∙ rw (e, count-is)
+
+  abbrev means : Num
+  means = mul (lit 100 tt) (arg (part c (g .mean)) 16384 (p .fields .mean c) tt) tt
+
+  pub value-is : countIn (pos meanFactor *ℤ part c (g .mean)) (nodeFactor (g .number) c) n h w (y - k * h) (x - l * w) ≡ value
+  value-is =
+      count-in-is (means .z) (nodeFactor (g .number) c) n h w (y - k * h) (x - l * w) (p .within) corners-most (means .le) (factor-most (g .number) c)
 
   pub value-most : natAbs value ≤ 9007199254740992
   value-most =
       le-trans
-      (add (mul (lit 100 tt) (arg (part c (g .mean)) 16384 (p .fields .mean c) tt) tt)
+      (add means
       (arg (nearestWhole (sumOf (nodeFactor (g .number) c) h w (y - k * h) (x - l * w) n) (h * w)) 2560
       (near-most (p .within) (nodeFactor (g .number) c) n (factor-most (g .number) c) corners-most) tt) tt .le)
       (lit≤ tt)

@@ -2,17 +2,17 @@
 -- Assumes nothing.
 use mathlib.Core.Path.{_≡_}
 use mathlib.Core.List.{List}
-use mathlib.Core.Bool.{Bool, false, cond, _||_}
-use Prim.Native.Nat.{ℕ, _+_, _-_, _*_, _≤_, _<_}
-use lib.IntN.{ℤ, pos, natAbs, _+ℤ_, _*ℤ_}
+use mathlib.Core.Bool.{Bool, _||_}
+use Prim.Native.Nat.{ℕ, _+_, _-_, _*_, _≤_}
+use lib.IntN.{pos, natAbs}
 use Rattle.arith.specs.Whole.{natural}
-use Rattle.records.specs.declared.Grid.{Grid}
-use Rattle.records.specs.declared.Shifts.{Shifts}
-use Rattle.bilinear.specs.Bilinear.{nearestWhole, fromEdge, outside, cell, weighted, inCell, lacks, absentIn}
-use Rattle.grid.specs.Shift.{part, nodeRaw, available, surface, outcome}
-use Rattle.grid.specs.declared.Shift.{Shift}
-use Rattle.grid.specs.declared.Along.{Along}
-use Rattle.grid.specs.declared.Corners.{Corners}
+use Rattle.grid_records.specs.declared.Grid.{Grid}
+use Rattle.grid_records.specs.declared.Shifts.{Shifts}
+use Rattle.bilinear.specs.Bilinear.{lacks}
+use Rattle.cell.specs.Private.{Within}
+use Rattle.cell.specs.declared.Corners.{Corners}
+use Rattle.grid.specs.Shift.{part, nodeRaw, surface}
+use Rattle.grid_refusals.specs.Refusals.{available}
 
 -- what the ranges of the fields say of a record that a grid message holds
 pub record Fields (g : Grid) : Type 0 where
@@ -23,19 +23,6 @@ pub record Fields (g : Grid) : Type 0 where
   pub mean : (c : ℕ) → natAbs (part c (g .mean)) ≤ 16384
   pub nodes : (c i j : ℕ) → natAbs (nodeRaw (g .nodes) c i j) ≤ 256
 
--- where a position stands along one direction, u being its difference from the origin and d the spacing
-pub record Stands (d : ℕ) (u : ℤ) (a : Along) : Type 0 where
-  pub spacing : a .spacing ≡ d
-  pub refusal : a .refusal ≡ cond (outside d u) 14 0
-  pub inside : outside d u ≡ false → (a .steps ≡ natAbs (fromEdge d u)) × (a .cell ≡ cell d (natAbs (fromEdge d u)))
-
--- a place on or within the edges of a cell of height h and width w
-pub record Within (h w y x : ℕ) : Type 0 where
-  pub north : y ≤ h
-  pub east : x ≤ w
-  pub high : (0 < h) × (h ≤ 40950000)
-  pub wide : (0 < w) × (w ≤ 40950000)
-
 -- the cell k from the south and l from the west, its height h and width w, and a place y and x steps from the edges of the grid
 pub record Placed (g : Grid) (c k l y x h w : ℕ) : Type 0 where
   pub fields : Fields g
@@ -44,13 +31,6 @@ pub record Placed (g : Grid) (c k l y x h w : ℕ) : Type 0 where
   pub within : Within h w (y - k * h) (x - l * w)
   pub row : (k ≤ 2) × (k * h ≤ y)
   pub column : (l ≤ 2) × (l * w ≤ x)
-
--- nodes of at most b
-pub record Most (b : ℕ) (n : Corners) : Type 0 where
-  pub sw : natAbs (n .sw) ≤ b
-  pub se : natAbs (n .se) ≤ b
-  pub nw : natAbs (n .nw) ≤ b
-  pub ne : natAbs (n .ne) ≤ b
 
 -- the raw nodes of a cell
 abbrev pub cornersOf : List Shifts → (c k l : ℕ) → Corners
@@ -62,10 +42,6 @@ cornersOf nodes c k l =
       ne = nodeRaw nodes c (2 - k) (l + 1);
     }
 
--- their weighted sum, each raw number f counts
-abbrev pub sumOf : ℕ → (h w y x : ℕ) → Corners → ℤ
-sumOf f h w y x n = weighted h w y x (pos f *ℤ n .sw) (pos f *ℤ n .se) (pos f *ℤ n .nw) (pos f *ℤ n .ne)
-
 -- a node that has weight and is not present
 abbrev pub nodesLack : (h w y x : ℕ) → Corners → Bool
 nodesLack h w y x n =
@@ -73,9 +49,3 @@ nodesLack h w y x n =
     || lacks (x * (h - y)) (available 9 (n .se))
     || lacks ((w - x) * y) (available 9 (n .nw))
     || lacks (x * y) (available 9 (n .ne))
-
--- the answer in the cell k from the south and l from the west, y and x steps from the edges of the grid
-abbrev pub inside : Grid → ℕ → (k l y x : ℕ) → Shift
-inside g c k l y x =
-    outcome (g .number) c (cond (absentIn (surface g c) k l y x) 15 0)
-    (surface g c .mean +ℤ nearestWhole (inCell (surface g c) k l y x) (surface g c .H * surface g c .W))

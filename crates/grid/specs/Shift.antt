@@ -1,31 +1,27 @@
 -- The shift at a position from a grid message: document 01, "The grid" and "Refusal numbers".
 -- Assumes nothing.
-use Prim.Native.Nat.{ℕ, _+_, _-_, _*_, _/_, _^_}
-use mathlib.Core.Bool.{Bool, not, cond, _&&_, _||_}
+use Prim.Native.Nat.{ℕ, _+_, _*_}
+use mathlib.Core.Bool.{not, cond, _&&_, _||_}
 use mathlib.Core.List.{List, [], _∷_, _++_}
 use lib.Dec.{eqb, leb, ltb}
 use lib.Ieee.{Float, binary64, div, ofInt}
-use lib.IntN.{ℤ, pos, negsuc, natAbs, _-ℤ_, _*ℤ_}
+use lib.IntN.{ℤ, pos, _+ℤ_, _-ℤ_, _*ℤ_}
 use lib.ListN.{getD}
 use Rattle.arith.specs.First.{Test, first}
 use Rattle.arith.specs.Row.{at}
-use Rattle.arith.specs.Whole.{natural, sameZ}
-use Rattle.records.specs.declared.Grid.{Grid}
-use Rattle.records.specs.declared.Shifts.{Shifts}
-use Rattle.records.specs.declared.Pair.{Pair}
-use Rattle.records.specs.Records.{gridOf}
-use Rattle.message.specs.Message.{tests, numberOf, row}
+use Rattle.arith.specs.Whole.{natural}
+use Rattle.grid_records.specs.declared.Grid.{Grid}
+use Rattle.grid_records.specs.declared.Shifts.{Shifts}
+use Rattle.grid_records.specs.Grids.{gridOf}
+use Rattle.wire.specs.Message.{tests, numberOf, row}
 use Rattle.message.specs.Kinds.{gridHeld}
-use Rattle.bilinear.specs.Bilinear.{Surface, outside, absent, interpolated}
+use Rattle.grid_refusals.specs.Refusals.{ellipsoidal, available, fieldTests}
+use Rattle.bilinear.specs.Bilinear.{Surface, nearestWhole, outside, inCell, absentIn, absent, interpolated}
 use Rattle.grid.specs.declared.Answer.{Answer}
 use Rattle.grid.specs.declared.Answer.the-variants.{Seconds, Metres, Refused}
 use Rattle.grid.specs.declared.Shift.{Shift}
 
 -- ---- from raw numbers to steps and counts
-
--- by the message number: 1023 gives angles, 1024 metres
-abbrev pub ellipsoidal : ℤ → Bool
-ellipsoidal number = sameZ number (pos 1023)
 
 -- "Positions are whole steps: 0.0001 arc second for 1023 (origin and spacing raw times 5,000), 1 mm for 1024 (raw times 10,000)":
 -- DF192 to DF195 have a resolution of 0.5", DF202 to DF205 of 10 m
@@ -36,10 +32,6 @@ stepsOf number = cond (ellipsoidal number) 5000 10000
 abbrev pub part : ℕ → Shifts → ℤ
 part c s = cond (eqb c 0) (s .north) (cond (eqb c 1) (s .east) (s .height))
 
--- components 0 and 1 go by the horizontal indicators, component 2 by the vertical ones
-abbrev pub side : ℕ → Pair → ℤ
-side c p = cond (eqb c 2) (p .vertical) (p .horizontal)
-
 -- counts in a raw step of a node: 0.00003" over 0.00001" (DF199, DF200), 0.001 m over 0.1 mm (DF201, DF209 to DF211)
 abbrev pub nodeFactor : ℤ → ℕ → ℕ
 nodeFactor number c = cond (ellipsoidal number && ltb c 2) 3 10
@@ -49,22 +41,10 @@ nodeFactor number c = cond (ellipsoidal number && ltb c 2) 3 10
 abbrev pub meanFactor : ℕ
 meanFactor = 100
 
--- ---- the "not available" pattern of an int of w bits
-
-abbrev pub available : ℕ → ℤ → Bool
-available w z = not (sameZ z (negsuc (2 ^ w / 2 - 1)))
-
 -- int9 for every node (DF199 to DF201, DF209 to DF211); int15 for the mean height (DF198, DF208),
 -- int8 for the other means of 1023 (DF196, DF197), int10 for those of 1024 (DF206, DF207)
 abbrev pub meanWidth : ℤ → ℕ → ℕ
 meanWidth number c = cond (eqb c 2) 15 (cond (ellipsoidal number) 8 10)
-
--- int21 and int22 (DF192, DF193); int25 (DF202), and DF203, a uint26, is always available
-abbrev pub originAvailable : ℤ → ℤ → ℤ → Bool
-originAvailable number north east =
-    cond (ellipsoidal number)
-    (available 21 north && available 22 east)
-    (available 25 north)
 
 -- ---- the component's surface, and the place in it
 
@@ -90,27 +70,7 @@ northOf g n = n -ℤ pos (stepsOf (g .number)) *ℤ g .origin .north
 unfoldable pub eastOf : Grid → ℤ → ℤ
 eastOf g e = e -ℤ pos (stepsOf (g .number)) *ℤ g .origin .east
 
--- ---- refusals
-
--- "1023: beyond ±3,240,000,000 or ±6,480,000,000; 1024: either beyond ±10^12"
-abbrev pub beyond : ℤ → ℤ → ℤ → Bool
-beyond number n e =
-    cond (ellipsoidal number)
-    (ltb 3240000000 (natAbs n) || ltb 6480000000 (natAbs e))
-    (ltb 1000000000000 (natAbs n) || ltb 1000000000000 (natAbs e))
-
--- 8 COMPONENT, 9 POSITION, 10 OFF, 11 METHOD, 12 ORIGIN, 13 SPACING
-abbrev pub fieldTests : Grid → ℕ → ℤ → ℤ → List Test
-fieldTests g c n e =
-    (8, ltb 2 c)
-    ∷ (9, beyond (g .number) n e)
-    ∷ (10, sameZ (side c (g .shifts)) (pos 0))
-    ∷ (11, not (sameZ (side c (g .methods)) (pos 0)))
-    ∷ (12, not (originAvailable (g .number) (g .origin .north) (g .origin .east)))
-    ∷ (13, sameZ (g .spacing .north) (pos 0) || sameZ (g .spacing .east) (pos 0))
-    ∷ []
-
--- then 14 OUTSIDE, 15 ABSENT
+-- ---- refusals: 8 to 13 (`fieldTests`, crate grid_refusals), then 14 OUTSIDE, 15 ABSENT
 abbrev pub gridTests : Grid → ℕ → ℤ → ℤ → List Test
 gridTests g c n e =
     fieldTests g c n e
@@ -145,6 +105,12 @@ unfoldable pub outcome : ℤ → ℕ → ℕ → ℤ → Shift
 outcome number c r count =
     let given = cond (eqb r 0) count (pos 0) in
     record { refusal = r; count = given; answer = answerOf number c r given }
+
+-- the answer in the cell k from the south and l from the west, y and x steps from the edges of the grid
+abbrev pub inCellShift : Grid → ℕ → (k l y x : ℕ) → Shift
+inCellShift g c k l y x =
+    outcome (g .number) c (cond (absentIn (surface g c) k l y x) 15 0)
+    (surface g c .mean +ℤ nearestWhole (inCell (surface g c) k l y x) (surface g c .H * surface g c .W))
 
 unfoldable pub shiftWith : Grid → ℕ → ℤ → ℤ → ℕ → Shift
 shiftWith g c n e r = outcome (g .number) c r (interpolated (surface g c) (northOf g n) (eastOf g e))

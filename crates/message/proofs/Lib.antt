@@ -1,9 +1,2 @@
-pub mod Store
-pub mod Head
-pub mod Length
-pub mod Rows
-pub mod Sin
-pub mod Trips
-pub mod OneKind
+pub mod RecordNumbers
 pub mod RecordTrips
-pub mod Limits

@@ -18,26 +18,31 @@ use Rattle.arith.specs.Row.{at}
 use Rattle.arith.specs.Whole.{natural}
 use Rattle.arith.proofs.First.{passed, not-false}
 use Rattle.arith.proofs.Tests.{both-first, both-second}
-use Rattle.bits.specs.Field.{field}
-use Rattle.bits.specs.Layout.{uint, value, total, decodeAll}
-use Rattle.bits.proofs.Bit.{Bytes, field-lt}
-use Rattle.records.specs.declared.Helmert.{Helmert}
-use Rattle.records.specs.declared.MolodenskiBadekas.{MolodenskiBadekas}
-use Rattle.records.specs.declared.Grid.{Grid}
-use Rattle.records.specs.declared.Projection.{Projection}
-use Rattle.records.specs.declared.Lambert.{Lambert}
-use Rattle.records.specs.declared.ObliqueMercator.{ObliqueMercator}
-use Rattle.records.specs.Records.{goodName, helmertOf, helmertRow, molodenskiBadekasOf, molodenskiBadekasRow, gridOf, gridRow, projectionOf, projectionRow, lambertOf, lambertRow, obliqueMercatorOf, obliqueMercatorRow}
-use Rattle.records.proofs.Names as Names
-use Rattle.records.proofs.Inverse.{helmert-of-row, helmert-row-of, molodenski-badekas-of-row, molodenski-badekas-row-of, grid-of-row, grid-row-of, projection-of-row, projection-row-of, lambert-of-row, lambert-row-of, oblique-mercator-of-row, oblique-mercator-row-of}
-use Rattle.message.specs.Layouts.{names, layoutOf, tail1021, tail1022, layout1021, layout1022, layout1023, layout1024, layout1025, layout1026, layout1027}
-use Rattle.message.specs.Message.{numberOf, sourceCount, targetCount, layout, refusal, row, kindRefusal, kindRow, rowTests, writeRefusal, message}
-use Rattle.message.specs.Kinds.{recordRefusal, readHelmert, readMolodenskiBadekas, readGrid, readProjection, readLambert, readObliqueMercator}
-use Rattle.message.proofs.Head.{row-of, source-lt, target-lt}
-use Rattle.message.proofs.Length.{length-1021, length-1022}
-use Rattle.message.proofs.Rows.{length-row}
-use Rattle.message.proofs.OneKind.{kind-of, kind-read}
-use Rattle.message.proofs.Trips.{front, names-split, value-behind, length-front, source-at, target-at, message-of-row, row-number, row-written, number-back, message-accepted, row-of-message}
+use Rattle.field.specs.Field.{field}
+use Rattle.layout.specs.Layout.{uint, value, total, decodeAll}
+use Rattle.field.proofs.Bit.{Bytes, field-lt}
+use Rattle.transformation_records.specs.declared.Helmert.{Helmert}
+use Rattle.transformation_records.specs.declared.MolodenskiBadekas.{MolodenskiBadekas}
+use Rattle.grid_records.specs.declared.Grid.{Grid}
+use Rattle.projection_records.specs.declared.Projection.{Projection}
+use Rattle.projection_records.specs.declared.Lambert.{Lambert}
+use Rattle.projection_records.specs.declared.ObliqueMercator.{ObliqueMercator}
+use Rattle.transformation_records.specs.Transformations.{goodName, helmertOf, helmertRow, molodenskiBadekasOf, molodenskiBadekasRow}
+use Rattle.grid_records.specs.Grids.{gridOf, gridRow}
+use Rattle.projection_records.specs.Projections.{projectionOf, projectionRow, lambertOf, lambertRow, obliqueMercatorOf, obliqueMercatorRow}
+use Rattle.transformation_records.proofs.Names as Names
+use Rattle.transformation_records.proofs.Inverse.{helmert-of-row, helmert-row-of, molodenski-badekas-of-row, molodenski-badekas-row-of}
+use Rattle.grid_records.proofs.Inverse.{grid-of-row, grid-row-of}
+use Rattle.projection_records.proofs.Inverse.{projection-of-row, projection-row-of, lambert-of-row, lambert-row-of, oblique-mercator-of-row, oblique-mercator-row-of}
+use Rattle.wire.specs.Layouts.{names, layoutOf, tail1021, tail1022, layout1021, layout1022, layout1023, layout1024, layout1025, layout1026, layout1027}
+use Rattle.wire.specs.Message.{numberOf, sourceCount, targetCount, layout, refusal, row, kindRefusal, kindRow, rowTests, writeRefusal, message}
+use Rattle.wire.specs.Message.{kindWriteRefusal}
+use Rattle.message.specs.Kinds.{readHelmert, readMolodenskiBadekas, readGrid, readProjection, readLambert, readObliqueMercator}
+use Rattle.wire.proofs.Head.{row-of, source-lt, target-lt}
+use Rattle.wire.proofs.Length.{length-1021, length-1022}
+use Rattle.wire.proofs.Rows.{length-row}
+use Rattle.wire.proofs.OneKind.{kind-of, kind-read}
+use Rattle.wire.proofs.Trips.{front, names-split, value-behind, length-front, source-at, target-at, message-of-row, row-number, row-written, number-back, message-accepted, row-of-message}
 
 -- ---- one kind, whatever its record
 
@@ -45,8 +50,8 @@ use Rattle.message.proofs.Trips.{front, names-split, value-behind, leng
 pub kept : (lo hi : ℕ) (s : List ℕ) (v : List ℤ) → kindRefusal lo hi s ≡ 0 → Bytes s → v ≡ row s → message v ≡ s
 kept lo hi s v e b f = ap message f ∙ message-of-row s (kind-of lo hi s e .accepted) b
 
-pub kept-written : (lo hi : ℕ) (s : List ℕ) (v : List ℤ) (n : ℕ) → kindRefusal lo hi s ≡ 0 → v ≡ row s → length s ≤ n → recordRefusal lo hi true v n ≡ 0
-unfolding recordRefusal writeRefusal
+pub kept-written : (lo hi : ℕ) (s : List ℕ) (v : List ℤ) (n : ℕ) → kindRefusal lo hi s ≡ 0 → v ≡ row s → length s ≤ n → kindWriteRefusal lo hi true v n ≡ 0
+unfolding kindWriteRefusal writeRefusal
 kept-written lo hi s v n e f r =
     let k = kind-of lo hi s e in
     let w : first (rowTests v n) ≡ 0 = subst (λ (u : List ℤ). writeRefusal u n ≡ 0) (sym f) (row-written s (k .accepted) n r) in
@@ -60,8 +65,8 @@ pub record Fit (lo hi : ℕ) (good : Bool) (v : List ℤ) (n : ℕ) : Type 0 whe
   pub high : natural (at v 0) ≤ hi
   pub written : writeRefusal v n ≡ 0
 
-pub fit-of : (lo hi : ℕ) (good : Bool) (v : List ℤ) (n : ℕ) → recordRefusal lo hi good v n ≡ 0 → Fit lo hi good v n
-unfolding recordRefusal writeRefusal
+pub fit-of : (lo hi : ℕ) (good : Bool) (v : List ℤ) (n : ℕ) → kindWriteRefusal lo hi good v n ≡ 0 → Fit lo hi good v n
+unfolding kindWriteRefusal writeRefusal
 fit-of lo hi good v n e =
     let k : ℕ = natural (at v 0) in
     let a = passed 4 (not good) _ e in
@@ -79,7 +84,7 @@ pub record Back (lo hi : ℕ) (v : List ℤ) : Type 0 where
   pub accepted : kindRefusal lo hi (message v) ≡ 0
   pub numbers : kindRow lo hi (message v) ≡ v
 
-pub back : (lo hi : ℕ) (good : Bool) (v : List ℤ) (n : ℕ) → recordRefusal lo hi good v n ≡ 0 → Back lo hi v
+pub back : (lo hi : ℕ) (good : Bool) (v : List ℤ) (n : ℕ) → kindWriteRefusal lo hi good v n ≡ 0 → Back lo hi v
 back lo hi good v n e =
     let f = fit-of lo hi good v n e in
     let m : natural (at v 0) ≡ numberOf (message v) = number-back v n (f .written) in
@@ -212,7 +217,7 @@ oblique-mercator-row s e =
 
 module _ (n : ℕ) where
   pub helmert-back : (r : Helmert) → length (r .source .chars) ≡ 31 → length (r .target .chars) ≡ 31 → Names.Bytes (r .source) → Names.Bytes (r .target)
-      → recordRefusal 1021 1021 (goodName (r .source) && goodName (r .target)) (helmertRow r) n ≡ 0
+      → kindWriteRefusal 1021 1021 (goodName (r .source) && goodName (r .target)) (helmertRow r) n ≡ 0
       → readHelmert (message (helmertRow r)) ≡ record { refusal = 0; value = r }
   unfolding readHelmert
   helmert-back r l l′ b b′ e =
@@ -225,7 +230,7 @@ module _ (n : ℕ) where
 
   pub molodenski-badekas-back : (r : MolodenskiBadekas) → length (r .source .chars) ≡ 31 → length (r .target .chars) ≡ 31
       → Names.Bytes (r .source) → Names.Bytes (r .target)
-      → recordRefusal 1022 1022 (goodName (r .source) && goodName (r .target)) (molodenskiBadekasRow r) n ≡ 0
+      → kindWriteRefusal 1022 1022 (goodName (r .source) && goodName (r .target)) (molodenskiBadekasRow r) n ≡ 0
       → readMolodenskiBadekas (message (molodenskiBadekasRow r)) ≡ record { refusal = 0; value = r }
   unfolding readMolodenskiBadekas
   molodenski-badekas-back r l l′ b b′ e =
@@ -236,25 +241,25 @@ module _ (n : ℕ) where
         value = (ap (λ (v : List ℤ). molodenskiBadekasOf (at v)) (k .numbers) ∙ molodenski-badekas-of-row r l l′ b b′ (both-first _ _ g) (both-second (goodName (r .source)) _ g)) i;
       }
 
-  pub grid-back : (r : Grid) → length (r .nodes) ≡ 16 → recordRefusal 1023 1024 true (gridRow r) n ≡ 0 → readGrid (message (gridRow r)) ≡ record { refusal = 0; value = r }
+  pub grid-back : (r : Grid) → length (r .nodes) ≡ 16 → kindWriteRefusal 1023 1024 true (gridRow r) n ≡ 0 → readGrid (message (gridRow r)) ≡ record { refusal = 0; value = r }
   unfolding readGrid
   grid-back r l e =
       let k = back 1023 1024 true (gridRow r) n e in
       λ i. record { refusal = k .accepted i; value = (ap (λ (v : List ℤ). gridOf (at v)) (k .numbers) ∙ grid-of-row r l) i }
 
-  pub projection-back : (r : Projection) → recordRefusal 1025 1025 true (projectionRow r) n ≡ 0 → readProjection (message (projectionRow r)) ≡ record { refusal = 0; value = r }
+  pub projection-back : (r : Projection) → kindWriteRefusal 1025 1025 true (projectionRow r) n ≡ 0 → readProjection (message (projectionRow r)) ≡ record { refusal = 0; value = r }
   unfolding readProjection
   projection-back r e =
       let k = back 1025 1025 true (projectionRow r) n e in
       λ i. record { refusal = k .accepted i; value = (ap (λ (v : List ℤ). projectionOf (at v)) (k .numbers) ∙ projection-of-row r) i }
 
-  pub lambert-back : (r : Lambert) → recordRefusal 1026 1026 true (lambertRow r) n ≡ 0 → readLambert (message (lambertRow r)) ≡ record { refusal = 0; value = r }
+  pub lambert-back : (r : Lambert) → kindWriteRefusal 1026 1026 true (lambertRow r) n ≡ 0 → readLambert (message (lambertRow r)) ≡ record { refusal = 0; value = r }
   unfolding readLambert
   lambert-back r e =
       let k = back 1026 1026 true (lambertRow r) n e in
       λ i. record { refusal = k .accepted i; value = (ap (λ (v : List ℤ). lambertOf (at v)) (k .numbers) ∙ lambert-of-row r) i }
 
-  pub oblique-mercator-back : (r : ObliqueMercator) → recordRefusal 1027 1027 true (obliqueMercatorRow r) n ≡ 0
+  pub oblique-mercator-back : (r : ObliqueMercator) → kindWriteRefusal 1027 1027 true (obliqueMercatorRow r) n ≡ 0
       → readObliqueMercator (message (obliqueMercatorRow r)) ≡ record { refusal = 0; value = r }
   unfolding readObliqueMercator
   oblique-mercator-back r e =

@@ -1,17 +1,20 @@
 -- Reading and writing a record of one kind: refusals 1 to 5 and 7, and 5 and 6.
 -- Assumes nothing.
 use Prim.Native.Nat.{ℕ}
-use mathlib.Core.Bool.{Bool, not, _&&_}
-use mathlib.Core.List.{List, _∷_}
-use lib.Dec.{leb}
-use lib.IntN.{ℤ}
-use Rattle.arith.specs.First.{first}
+use mathlib.Core.Bool.{Bool, true, _&&_}
+use mathlib.Core.List.{List}
 use Rattle.arith.specs.Row.{at}
-use Rattle.arith.specs.Whole.{natural}
-use Rattle.bits.specs.Layout.{allTake}
-use Rattle.records.specs.declared.Grid.{Grid}
-use Rattle.records.specs.Records.{helmertOf, molodenskiBadekasOf, gridOf, gridRow, projectionOf, lambertOf, obliqueMercatorOf}
-use Rattle.message.specs.Message.{kindRefusal, kindRow, rowLayout, rowTests}
+use Rattle.transformation_records.specs.declared.Name.{Name}
+use Rattle.transformation_records.specs.declared.Helmert.{Helmert}
+use Rattle.transformation_records.specs.declared.MolodenskiBadekas.{MolodenskiBadekas}
+use Rattle.grid_records.specs.declared.Grid.{Grid}
+use Rattle.projection_records.specs.declared.Projection.{Projection}
+use Rattle.projection_records.specs.declared.Lambert.{Lambert}
+use Rattle.projection_records.specs.declared.ObliqueMercator.{ObliqueMercator}
+use Rattle.transformation_records.specs.Transformations.{goodName, helmertOf, helmertRow, molodenskiBadekasOf, molodenskiBadekasRow}
+use Rattle.grid_records.specs.Grids.{gridOf, gridRow}
+use Rattle.projection_records.specs.Projections.{projectionOf, projectionRow, lambertOf, lambertRow, obliqueMercatorOf, obliqueMercatorRow}
+use Rattle.wire.specs.Message.{kindRefusal, kindRow, rowHeld, Outcome, writeKind}
 use Rattle.message.specs.declared.HelmertRead.{HelmertRead}
 use Rattle.message.specs.declared.MolodenskiBadekasRead.{MolodenskiBadekasRead}
 use Rattle.message.specs.declared.GridRead.{GridRead}
@@ -39,17 +42,31 @@ readLambert s = record { refusal = kindRefusal 1026 1026 s; value = lambertOf (a
 unfoldable pub readObliqueMercator : List ℕ → ObliqueMercatorRead
 readObliqueMercator s = record { refusal = kindRefusal 1027 1027 s; value = obliqueMercatorOf (at (kindRow 1027 1027 s)) }
 
--- ---- writing the numbers v of a record whose kind has the message numbers lo to hi; good: its names are
+-- ---- writing: what is answered, and the output afterwards
 
--- 5 RANGE: "a field outside its range or width, a number not of the record's kind, or a bad name"; 6 ROOM
-unfoldable pub recordRefusal : ℕ → ℕ → Bool → List ℤ → ℕ → ℕ
-recordRefusal lo hi good v n = first ((5, not good) ∷ (5, not (leb lo (natural (at v 0)) && leb (natural (at v 0)) hi)) ∷ rowTests v n)
+-- both names of a record are good
+abbrev pub goodNames : Name → Name → Bool
+goodNames source target = goodName source && goodName target
 
--- ---- a record that a message of its kind holds: its number is of the kind, and each field takes its value
+abbrev pub writeHelmert : Helmert → List ℕ → Outcome
+writeHelmert r out = writeKind 1021 1021 (goodNames (r .source) (r .target)) (helmertRow r) out
 
--- of the numbers v of a record
-unfoldable pub rowHeld : ℕ → ℕ → List ℤ → Bool
-rowHeld lo hi v = (leb lo (natural (at v 0)) && leb (natural (at v 0)) hi) && allTake (rowLayout v) v
+abbrev pub writeMolodenskiBadekas : MolodenskiBadekas → List ℕ → Outcome
+writeMolodenskiBadekas r out = writeKind 1022 1022 (goodNames (r .source) (r .target)) (molodenskiBadekasRow r) out
+
+abbrev pub writeGrid : Grid → List ℕ → Outcome
+writeGrid r out = writeKind 1023 1024 true (gridRow r) out
+
+abbrev pub writeProjection : Projection → List ℕ → Outcome
+writeProjection r out = writeKind 1025 1025 true (projectionRow r) out
+
+abbrev pub writeLambert : Lambert → List ℕ → Outcome
+writeLambert r out = writeKind 1026 1026 true (lambertRow r) out
+
+abbrev pub writeObliqueMercator : ObliqueMercator → List ℕ → Outcome
+writeObliqueMercator r out = writeKind 1027 1027 true (obliqueMercatorRow r) out
+
+-- ---- a grid record that a message holds
 
 abbrev pub gridHeld : Grid → Bool
 gridHeld g = rowHeld 1023 1024 (gridRow g)

@@ -1,3 +1,1 @@
-pub mod Layouts
-pub mod Message
 pub mod Kinds

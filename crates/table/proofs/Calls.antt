@@ -12,10 +12,10 @@ use borrow.Author.Tests.{ltb-true, eq-eqb, ne-eqb, lt-ltb, le-ltb}
 use native.Mathlib.Decide.{decLt}
 use Rattle.arith.specs.First.{Test, first}
 use Rattle.arith.proofs.First.{passed, not-false}
-use Rattle.message.specs.Message.{tests, refusal}
+use Rattle.wire.specs.Message.{tests, refusal}
 use Rattle.table.specs.declared.Found.{Found}
 use Rattle.table.specs.Table.{slots, foundOf, slotSize, key, keyOf, slot, place, wellFormed, put, storePlace, storeRefusal, storeTable, keyPlace, findRefusal, foundAt, foundLength, removeTable}
-use Rattle.message.proofs.Limits.{first-behind}
+use Rattle.wire.proofs.Limits.{first-behind}
 use Rattle.table.proofs.Whole.{formed}
 use Rattle.table.proofs.Slot.{size-byte}
 

@@ -3,10 +3,3 @@ pub mod Slot
 pub mod Whole
 pub mod Marks
 pub mod Calls
-pub mod Put
-pub mod Look
-pub mod Step
-pub mod Last
-pub mod Answers
-pub mod Dict
-pub mod Replies

@@ -11,9 +11,9 @@ use lib.ListN.{length, getD}
 use borrow.Author.Tests.{eq-eqb, ne-eqb}
 use Rattle.arith.specs.Row.{upTo}
 use Rattle.arith.proofs.Rows.{getD-upTo}
-use Rattle.message.specs.declared.Header.{Header}
-use Rattle.message.specs.Message.{numberOf, sinOf, refusal, header}
-use Rattle.message.proofs.Limits.{sin-most}
+use Rattle.wire.specs.declared.Header.{Header}
+use Rattle.wire.specs.Message.{numberOf, sinOf, refusal, header}
+use Rattle.wire.proofs.Limits.{sin-most}
 use Rattle.table.specs.Table.{slots, tableSize, groupOf, key, keyOf, firstOf, slot, held, wellSlot, tag, hasTag, place, newKey, flawed, wellFormed, storePlace}
 use Rattle.table.specs.Marks.{noTag, mark, markAt, marks, hasMark, markPlace, flawedMark, soundMarks, markOrFree}
 use Rattle.table.proofs.First.{agree}

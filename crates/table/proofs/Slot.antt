@@ -14,8 +14,8 @@ use Rattle.arith.proofs.Rows.{is-upTo}
 use Rattle.arith.proofs.Tests.{both-first, both-second}
 use lib.Dec.{eqb}
 use borrow.Author.Tests.{eqb-true, eq-eqb, ne-eqb}
-use Rattle.message.specs.Message.{refusal}
-use Rattle.message.proofs.Limits.{accepted-size}
+use Rattle.wire.specs.Message.{refusal}
+use Rattle.wire.proofs.Limits.{accepted-size}
 use Rattle.table.specs.Table.{slots, messageSize, slotSize, tableSize, keyOf, allZero, held, used, wellSlot, tag, slot, slotOf}
 
 -- a loop's turn over zeros

@@ -1,5 +1,3 @@
 pub mod Table
 pub mod Marks
 pub mod Shown
-pub mod History
-pub mod Dict

@@ -6,7 +6,7 @@ use mathlib.Core.Bool.{Bool, true, false, not, cond, _&&_, _||_}
 use lib.ListN.{length, getD, take, drop, replicate}
 use lib.Dec.{ltb, leb, eqb}
 use Rattle.arith.specs.First.{first}
-use Rattle.message.specs.Message.{tests, refusal, numberOf, sinOf}
+use Rattle.wire.specs.Message.{tests, refusal, numberOf, sinOf}
 use Rattle.table.specs.declared.Found.{Found}
 
 -- ---- sizes, named once: 32 slots of a length byte and 127 message bytes

@@ -77,7 +77,7 @@ fn slot_mark(s: &[u8]) -> usize
     if !zeros(&s[e..]) {
         return NO_TAG;
     }
-    let h = message::read_header(&s[1..e]);
+    let h = wire::read_header(&s[1..e]);
     if h.refusal != 0 {
         return NO_TAG;
     }
@@ -219,7 +219,7 @@ pub fn store(table: &mut [u8], message: &[u8]) -> u8
     if !sound_marks(&row) {
         return TABLE;
     }
-    let h = message::read_header(message);
+    let h = wire::read_header(message);
     let refusal = h.refusal;
     if refusal != 0 {
         return refusal;

@@ -2,7 +2,7 @@
 -- Assumes nothing.
 use mathlib.Core.Path.{ap, _∙_}
 use Rattle.arith.proofs.Back.{held}
-use Rattle.bits.proofs.Sign.{bits-z}
+use Rattle.field.proofs.Sign.{bits-z}
 use Rattle.grid.specs.declared.Shift.{Shift}
 use Rattle.capi.specs.Counted.{countedShift}
 use Rattle.capi.proofs.tarnoklej_shift_at.Statement.{statement}

@@ -1,8 +1,8 @@
 -- `demands::tables` carries its theorems: those of the table crate over histories.
 -- Assumes nothing.
-use Rattle.table.proofs.Replies.{replies-same, zeroed-formed, zeroed-empty}
-use Rattle.table.proofs.Answers.{find-last, find-no-group}
-use Rattle.table.proofs.Last.{stays-formed-all, refused-keeps}
+use Rattle.history.proofs.Replies.{replies-same, zeroed-formed, zeroed-empty}
+use Rattle.history.proofs.Answers.{find-last, find-no-group}
+use Rattle.history.proofs.Last.{stays-formed-all, refused-keeps}
 use Rattle.demands.specs.Tables.{LastStored, NoGroup}
 use Rattle.demands.proofs.tables.Statement.{statement}
 use Rattle.demands.proofs.tables.Tie as tie

@@ -2,7 +2,7 @@
 -- Assumes nothing.
 use mathlib.Core.Path.{_≡_}
 use borrow.Author.Needs.{needs}
-use Rattle.bits.proofs.Sign.{bits-z}
+use Rattle.field.proofs.Sign.{bits-z}
 use Rattle.grid.specs.Shift.{messageShift}
 use Rattle.demands.proofs.Grids.{lipschitz-answers}
 use Rattle.demands.proofs.two_shifts.Statement.{statement}

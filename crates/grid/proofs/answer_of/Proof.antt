@@ -5,7 +5,7 @@ use borrow.Author.Needs.{needs}
 use Rattle.arith.proofs.Order.{signed-tests}
 use Rattle.grid.specs.Shift.{answerOf, unitsOf}
 use Rattle.grid.specs.declared.Answer.the-variants.{Seconds, Metres}
-use Rattle.grid.proofs.Machine.{is-back}
+use Rattle.arith.proofs.Machine.{is-back}
 use Rattle.grid.proofs.answer_of.Statement.{statement}
 use Rattle.grid.proofs.answer_of.Tie as tie
 

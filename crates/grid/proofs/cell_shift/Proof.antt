@@ -2,15 +2,17 @@
 -- Assumes nothing.
 use mathlib.Core.Path.{_≡_, sym, ap, _∙_, subst}
 use mathlib.Core.Bool.{Bool, not}
-use Prim.Native.Nat.{ℕ, _*_, _-_, _≤_}
+use Prim.Native.Nat.{_*_, _-_, _≤_, ℕ}
 use lib.IntN.{ℤ, pos, natAbs, _+ℤ_, _*ℤ_}
 use mir.Syntax.{w64}
 use mir.Val.{toZ, ofZ}
 use Rattle.arith.proofs.Back.{held}
 use Rattle.bilinear.specs.Bilinear.{nearestWhole, absentIn}
-use Rattle.grid.specs.Shift.{part, available, meanWidth, meanFactor, nodeFactor, surface, outcome}
-use Rattle.grid.specs.Private.{cornersOf, sumOf, nodesLack, Most}
-use Rattle.grid.proofs.Parts.{absent-is, absent-out, present-out, value-most, corners-most, factor-most}
+use Rattle.cell.specs.Cell.{sumOf, countIn}
+use Rattle.grid.specs.Shift.{part, meanWidth, meanFactor, nodeFactor, surface, outcome}
+use Rattle.grid_refusals.specs.Refusals.{available}
+use Rattle.grid.specs.Private.{cornersOf, nodesLack}
+use Rattle.grid.proofs.Parts.{absent-is, absent-out, present-out, value-is, value-most}
 use borrow.Author.Needs.{needs}
 use Rattle.grid.proofs.cell_shift.Statement.{statement}
 use Rattle.grid.proofs.cell_shift.Tie as tie
@@ -60,33 +62,30 @@ returns-2 c =
     let l = c .before .before in
     absent-out (s (k l) .pre) (c .refused2 .result) (absent-nodes l (c .before .if2 .taken)) (c .refused2 .ensures)
 
-module _ (f : tie.After-factor-of) where
-  abbrev j : tie.After-mean-lacks
-  j = f .before .before .before .before
+mean-counts-requires : tie.Need-mean-counts-requires
+mean-counts-requires c κs =
+    let a = c .before .before .before in
+    subst (λ (z : ℤ). natAbs z ≤ 16384) (sym (mean a)) (s a .pre .fields .mean (s a .args .component))
 
-  factor : f .factor-of .result ≡ nodeFactor (s j .args .g .number) (s j .args .component)
-  factor = f .factor-of .ensures ∙ ap (λ (z : ℤ). nodeFactor z (s j .args .component)) (number j)
-
-count-of-requires : tie.Need-count-of-requires
-count-of-requires f κs =
-    let a = j f in (
-      s a .pre .within,
-      subst (Most 256) (sym (corners a)) (corners-most (s a .pre)),
-      subst (λ (z : ℤ). natAbs z ≤ 16384) (sym (mean a)) (s a .pre .fields .mean (s a .args .component)),
-      subst (λ (m : ℕ). m ≤ 10) (sym (factor f)) (factor-most (s a .args .g .number) (s a .args .component)),
-    )
-
-module _ (n : tie.After-count-of) where
+module _ (n : tie.After-count-in) where
   abbrev a : tie.After-mean-lacks
-  a = j (n .before)
+  a = n .before .before .before .before .before .before
 
-  count : toZ w64 (ofZ w64 (n .count-of .result))
+  factor : n .before .factor-of .result ≡ nodeFactor (s a .args .g .number) (s a .args .component)
+  factor = n .before .factor-of .ensures ∙ ap (λ (z : ℤ). nodeFactor z (s a .args .component)) (number a)
+
+  in-counts : toZ w64 (ofZ w64 (n .before .before .mean-counts .result)) ≡ pos meanFactor *ℤ part (s a .args .component) (s a .args .g .mean)
+  in-counts =
+      let r = n .before .before .mean-counts in held (r .result) (r .ok) ∙ r .ensures ∙ ap (λ (z : ℤ). pos meanFactor *ℤ z) (mean a)
+
+  count : toZ w64 (ofZ w64 (n .count-in .result))
       ≡ pos meanFactor *ℤ part (s a .args .component) (s a .args .g .mean)
       +ℤ nearestWhole (sumOf (nodeFactor (s a .args .g .number) (s a .args .component)) (s a .args .h) (s a .args .w) (y a) (x a) (cornersOf (s a .args .g .nodes) (s a .args .component) (s a .args .k) (s a .args .l))) (s a .args .h * s a .args .w)
   count =
-      held (n .count-of .result) (n .count-of .ok)
-      ∙ n .count-of .ensures
-      ∙ (λ i. pos meanFactor *ℤ mean a i +ℤ nearestWhole (sumOf (factor (n .before) i) (s a .args .h) (s a .args .w) (y a) (x a) (corners a i)) (s a .args .h * s a .args .w))
+      held (n .count-in .result) (n .count-in .ok)
+      ∙ n .count-in .ensures
+      ∙ (λ i. countIn (in-counts i) (factor i) (corners a i) (s a .args .h) (s a .args .w) (y a) (x a))
+      ∙ value-is (s a .pre)
 
 done-requires : tie.Need-done-requires
 done-requires n κs = subst (λ (z : ℤ). natAbs z ≤ 9007199254740992) (sym (count n)) (value-most (s (a n) .pre))
@@ -94,8 +93,8 @@ done-requires n κs = subst (λ (z : ℤ). natAbs z ≤ 9007199254740992) (sym (
 returns-3 : tie.Need-returns-3
 returns-3 c =
     let n = c .before in
-    let l = n .before .before .before in
-    present-out (s (a n) .pre) (c .done .result) (absent-nodes l (n .before .before .if2 .left))
+    let l = n .before .before .before .before in
+    present-out (s (a n) .pre) (c .done .result) (absent-nodes l (n .before .before .before .if2 .left))
     (c .done .ensures ∙ (λ i. outcome (number (a n) i) (s (a n) .args .component) 0 (count n i)))
 
 pub cell-shift-spec : {M : Type 1} → statement M
@@ -114,7 +113,8 @@ cell-shift-spec =
     (λ c κs. s (c .before) .pre .within)
     (λ c κs. tt)
     returns-2
+    mean-counts-requires
     (λ c κs. tt)
-    count-of-requires
+    (λ c κs. tt)
     done-requires
     returns-3)

@@ -1,6 +1,6 @@
 -- `grid::difference` meets its contract.
 -- Assumes nothing.
-use Rattle.grid.proofs.Machine.{Num, arg, cast, mul, sub, fits}
+use Rattle.arith.proofs.Machine.{Num, arg, cast, mul, sub, fits}
 use Rattle.grid.proofs.difference.Statement.{statement}
 use Rattle.grid.proofs.difference.Tie as tie
 use borrow.Author.Needs.{needs}

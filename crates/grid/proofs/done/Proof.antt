@@ -3,7 +3,7 @@
 use mathlib.Core.Path.{_∙_}
 use borrow.Author.Needs.{needs}
 use Rattle.grid.specs.Shift.{answerOf, outcome}
-use Rattle.grid.proofs.Machine.{is-back}
+use Rattle.arith.proofs.Machine.{is-back}
 use Rattle.grid.proofs.done.Statement.{statement}
 use Rattle.grid.proofs.done.Tie as tie
 

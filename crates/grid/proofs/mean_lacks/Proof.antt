@@ -11,7 +11,7 @@ use borrow.Author.Tests.{eq-eqb, eqb-true}
 use Rattle.arith.proofs.Tests.{false-ne-true}
 use Rattle.arith.specs.Whole.{sameZ}
 use Rattle.arith.proofs.Order.{same-yes, same-no, signed-tests}
-use Rattle.grid.specs.Shift.{available}
+use Rattle.grid_refusals.specs.Refusals.{available}
 use Rattle.grid.proofs.mean_lacks.Statement.{statement}
 use Rattle.grid.proofs.mean_lacks.Tie as tie
 

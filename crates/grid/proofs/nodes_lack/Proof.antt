@@ -11,8 +11,8 @@ use mir.Syntax.{w64}
 use mir.Val.{toZ, ofZ}
 use Rattle.arith.proofs.Back.{held}
 use Rattle.bilinear.specs.Bilinear.{lacks}
-use Rattle.grid.specs.Shift.{available}
-use Rattle.grid.proofs.Sum.{southwest, southeast, northwest, northeast, fits-weight}
+use Rattle.grid_refusals.specs.Refusals.{available}
+use Rattle.cell.proofs.Sum.{southwest, southeast, northwest, northeast, fits-weight}
 use Rattle.grid.proofs.nodes_lack.Statement.{statement}
 use Rattle.grid.proofs.nodes_lack.Tie as tie
 

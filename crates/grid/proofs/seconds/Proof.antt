@@ -4,7 +4,7 @@ use mathlib.Core.Path.{sym, subst}
 use lib.Dec.{T}
 use lib.IntN.{ℤ}
 use lib.Ieee.{binary64, inFloat, ofInt, div}
-use Rattle.grid.proofs.Machine.{is-back}
+use Rattle.arith.proofs.Machine.{is-back}
 use Rattle.grid.proofs.Floats.{in-float, per-second}
 use Rattle.grid.proofs.seconds.Statement.{statement}
 use Rattle.grid.proofs.seconds.Tie as tie

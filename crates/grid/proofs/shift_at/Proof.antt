@@ -5,16 +5,16 @@ use mathlib.Core.List.{List}
 use Prim.Native.Nat.{ℕ}
 use Rattle.arith.specs.First.{first}
 use Rattle.arith.specs.Row.{at}
-use Rattle.records.specs.Records.{gridOf}
+use Rattle.grid_records.specs.Grids.{gridOf}
 use Rattle.message.specs.declared.GridRead.{GridRead}
-use Rattle.message.specs.Message.{row, kindRefusal, kindRow}
+use Rattle.wire.specs.Message.{row, kindRefusal, kindRow}
 use Rattle.message.specs.Kinds.{readGrid}
 use Rattle.bilinear.specs.Bilinear.{interpolated}
 use Rattle.grid.specs.Shift.{surface, northOf, eastOf, gridTests, outcome, shiftWith, messageShift}
 use Rattle.grid.specs.Private.{Fields}
 use Rattle.grid.proofs.Parts.{refuses}
 use Rattle.grid.proofs.Accepted.{message-refused, message-passed, message-grid, message-fields}
-use Rattle.grid.proofs.Machine.{is-back}
+use Rattle.arith.proofs.Machine.{is-back}
 use Rattle.grid.proofs.shift_at.Statement.{statement}
 use Rattle.grid.proofs.shift_at.Tie as tie
 

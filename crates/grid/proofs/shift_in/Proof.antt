@@ -1,34 +1,38 @@
 -- `grid::shift_in` meets its contract.
 -- Assumes nothing.
 use mathlib.Core.Path.{_≡_, sym, ap, _∙_}
-use mathlib.Core.Bool.{false}
-use Prim.Native.Nat.{ℕ, _*_, _-_, _≤_, _<_}
+use mathlib.Core.Bool.{false, cond}
+use Prim.Native.Nat.{ℕ, _*_, _≤_, _<_}
 use lib.IntN.{ℤ, pos, natAbs, _-ℤ_, _*ℤ_}
 use mir.Syntax.{w64}
 use mir.Val.{toZ, ofZ}
 use Rattle.arith.specs.First.{first}
 use Rattle.arith.specs.Whole.{natural}
 use Rattle.arith.proofs.Back.{held}
-use Rattle.bilinear.specs.Bilinear.{outside, cell}
-use Rattle.records.specs.declared.Grid.{Grid}
-use Rattle.grid.specs.Shift.{stepsOf, surface, northOf, eastOf, fieldTests}
-use Rattle.grid.specs.Private.{Stands, Placed, inside}
-use Rattle.grid.specs.declared.Along.{Along}
-use Rattle.grid.proofs.Parts.{Early, early, above-zero, in-cell, outside-yes, outside-no, early-out, north-out, east-out, in-out, steps-some, spacings}
-use Rattle.grid.proofs.Machine.{is-back}
+use Rattle.arith.proofs.Machine.{is-back}
+use Rattle.bilinear.specs.Bilinear.{fromEdge, outside, cell}
+use Rattle.cell.specs.Cell.{alongOf}
+use Rattle.cell.specs.declared.Place.{Place}
+use Rattle.cell.proofs.Held.{along-refusal, along-steps, along-cell}
+use Rattle.grid_records.specs.declared.Grid.{Grid}
+use Rattle.grid.specs.Shift.{stepsOf, surface, northOf, eastOf, inCellShift}
+use Rattle.grid_refusals.specs.Refusals.{fieldTests}
+use Rattle.grid.proofs.Parts.{Early, early, placed-by, outside-yes, outside-no, early-out, north-out, east-out, in-out, steps-some, spacings}
 use Rattle.grid.proofs.shift_in.Statement.{statement}
 use Rattle.grid.proofs.shift_in.Tie as tie
 
--- what `place` asks and answers, of numbers read back
-abbrev Asks : ℤ → ℤ → ℤ → ℕ → Type 0
-Asks z o d q =
-    (natAbs z ≤ 1000000000000) × (natAbs o ≤ 67108864) × (d ≡ pos (natural d)) × (0 < natural d) × (natural d ≤ 4095) × (0 < q) × (q ≤ 10000)
+-- what `spacing_of` and `place` ask, of numbers read back
+abbrev Raw : ℤ → ℕ → Type 0
+Raw d q = (d ≡ pos (natural d)) × (natural d ≤ 4095) × (q ≤ 10000)
 
-asks : {z z′ o o′ d d′ : ℤ} {q q′ : ℕ} → z′ ≡ z → o′ ≡ o → d′ ≡ d → q′ ≡ q → Asks z o d q → Asks z′ o′ d′ q′
-asks a b c e h = rw (a, b, c, e) h
+raw : {d d′ : ℤ} {q q′ : ℕ} → d′ ≡ d → q′ ≡ q → Raw d q → Raw d′ q′
+raw a b h = rw (a, b) h
 
-moved : {z z′ o o′ d d′ : ℤ} {q q′ : ℕ} {a : Along} → z′ ≡ z → o′ ≡ o → d′ ≡ d → q′ ≡ q → Stands (natural d′ * q′) (z′ -ℤ pos q′ *ℤ o′) a → Stands (natural d * q) (z -ℤ pos q *ℤ o) a
-moved e f g h s = rw (e, f, g, h) at s
+abbrev Asks : ℤ → ℤ → ℕ → Type 0
+Asks z o q = (natAbs z ≤ 1000000000000) × (natAbs o ≤ 67108864) × (q ≤ 10000)
+
+asks : {z z′ o o′ : ℤ} {q q′ : ℕ} → z′ ≡ z → o′ ≡ o → q′ ≡ q → Asks z o q → Asks z′ o′ q′
+asks a b c h = rw (a, b, c) h
 
 -- ---- the fields
 
@@ -49,148 +53,162 @@ returns c =
 
 -- ---- north-south
 
-module _ (c : tie.After-struct-told3) where
+module _ (c : tie.After-struct-told2) where
   abbrev k : tie.After-early-refusal
-  k = c .before .before .before .before .before .before .before
+  k = c .before .before .before .before .before .before
 
   none : first (fieldTests (g k) (s k .args .component) (s k .args .north) (s k .args .east)) ≡ 0
-  none = sym (told k) ∙ c .before .before .before .before .before .before .if1 .left
+  none = sym (told k) ∙ c .before .before .before .before .before .if1 .left
 
   known : Early (g k) (s k .args .north) (s k .args .east)
   known = early (g k) (s k .args .component) (s k .args .north) (s k .args .east) none
 
-  steps : c .before .before .before .before .steps-of .result ≡ stepsOf (g k .number)
-  steps =
-      c .before .before .before .before .steps-of .ensures
-      ∙ ap stepsOf (held (g k .number) (c .before .before .before .before .before .struct-told .given .0 .1))
+  steps : c .before .before .before .steps-of .result ≡ stepsOf (g k .number)
+  steps = c .before .before .before .steps-of .ensures ∙ ap stepsOf (held (g k .number) (c .before .before .before .before .struct-told .given .0 .1))
 
-  origin-north : toZ w64 (ofZ w64 (g k .origin .north)) ≡ g k .origin .north
-  origin-north = held (g k .origin .north) (c .before .struct-told2 .given .0 .1)
+  few : stepsOf (g k .number) ≤ 10000
+  few = steps-some (g k .number) .1
 
   rows : toZ w64 (ofZ w64 (g k .spacing .north)) ≡ g k .spacing .north
-  rows = held (g k .spacing .north) (c .struct-told3 .given .0 .1)
-
-  some-rows : 0 < natural (g k .spacing .north)
-  some-rows = above-zero (g k .spacing .north) (s k .pre .rows .0) (known .rows)
-
-place-requires : tie.Need-place-requires
-place-requires c κs =
-    let p = s (k c) .pre in
-    asks (is-back (s (k c) .fits .north)) (origin-north c) (rows c) (steps c)
-    (known c .north, p .north, p .rows .0, some-rows c, p .rows .1, steps-some (g (k c) .number) .0, steps-some (g (k c) .number) .1)
-
-module _ (m : tie.After-place) where
-  abbrev b : tie.After-struct-told3
-  b = m .before
+  rows = held (g k .spacing .north) (c .struct-told2 .given .0 .1)
 
   abbrev h : ℕ
-  h = surface (g (k b)) (s (k b) .args .component) .H
+  h = surface (g k) (s k .args .component) .H
+
+  abbrev w : ℕ
+  w = surface (g k) (s k .args .component) .W
 
   abbrev u : ℤ
-  u = northOf (g (k b)) (s (k b) .args .north)
+  u = northOf (g k) (s k .args .north)
 
-  stands-north : Stands h u (m .place .result)
-  unfolding surface northOf
-  stands-north = moved (is-back (s (k b) .fits .north)) (origin-north b) (rows b) (steps b) (m .place .ensures)
+  abbrev v : ℤ
+  v = eastOf (g k) (s k .args .east)
 
-  high : (0 < h) × (h ≤ 40950000)
-  high = spacings (g (k b)) (s (k b) .args .component) (s (k b) .args .north) (s (k b) .args .east) (s (k b) .pre) (known b) .0
+  sizes : ((0 < h) × (h ≤ 40950000)) × ((0 < w) × (w ≤ 40950000))
+  sizes = spacings (g k) (s k .args .component) (s k .args .north) (s k .args .east) (s k .pre) known
+
+spacing-of-requires : tie.Need-spacing-of-requires
+spacing-of-requires c κs = let p = s (k c) .pre .rows in raw (rows c) (steps c) (p .0, p .1, few c)
+
+module _ (m : tie.After-struct-told3) where
+  abbrev b : tie.After-struct-told2
+  b = m .before .before
+
+  height : m .before .spacing-of .result ≡ h b
+  unfolding surface
+  height = m .before .spacing-of .ensures ∙ (λ i. natural (rows b i) * steps b i)
+
+  origin-north : toZ w64 (ofZ w64 (g (k b) .origin .north)) ≡ g (k b) .origin .north
+  origin-north = held (g (k b) .origin .north) (m .struct-told3 .given .0 .1)
+
+place-requires : tie.Need-place-requires
+place-requires m κs =
+    let a = s (k (b m)) in
+    asks (is-back (a .fits .north)) (origin-north m) (steps (b m)) (known (b m) .north, a .pre .north, few (b m))
+
+module _ (n : tie.After-place) where
+  abbrev d : tie.After-struct-told2
+  d = b (n .before)
+
+  placed-north : n .place .result ≡ alongOf (h d) (u d)
+  unfolding northOf
+  placed-north =
+      n .place .ensures
+      ∙ (λ i. alongOf (height (n .before) i) (is-back (s (k d) .fits .north) i -ℤ pos (steps d i) *ℤ origin-north (n .before) i))
+
+  refusal-north : n .place .result .refusal ≡ cond (outside (h d) (u d)) 14 0
+  refusal-north = ap (λ (a : Place). a .refusal) placed-north ∙ along-refusal (h d) (u d) (sizes d .0 .0) (sizes d .0 .1)
 
 returns-2 : tie.Need-returns-2
 returns-2 c =
-    let m = c .before .before .before in
-    let a = k (b m) in
-    north-out (g a) (s a .args .component) (s a .args .north) (s a .args .east) (none (b m)) (c .refused2 .result)
-    (outside-yes (outside (h m) (u m)) (stands-north m .refusal) (c .before .if2 .taken)) (c .refused2 .ensures)
+    let n = c .before .before .before in
+    let a = s (k (d n)) .args in
+    north-out (g (k (d n))) (a .component) (a .north) (a .east) (none (d n)) (c .refused2 .result)
+    (outside-yes (outside (h (d n)) (u (d n))) (refusal-north n) (c .before .if2 .taken)) (c .refused2 .ensures)
 
 -- ---- east-west
 
-module _ (c : tie.After-struct-told5) where
+module _ (c : tie.After-struct-told4) where
   abbrev n : tie.After-place
-  n = c .before .before .before .before
+  n = c .before .before .before
 
-  abbrev a : tie.After-early-refusal
-  a = k (b n)
+  abbrev e : tie.After-struct-told2
+  e = d n
 
-  in-north : outside (h n) (u n) ≡ false
-  in-north = outside-no (outside (h n) (u n)) (stands-north n .refusal) (c .before .before .if2 .left)
+  in-north : outside (h e) (u e) ≡ false
+  in-north = outside-no (outside (h e) (u e)) (refusal-north n) (c .before .if2 .left)
 
-  origin-east : toZ w64 (ofZ w64 (g a .origin .east)) ≡ g a .origin .east
-  origin-east = held (g a .origin .east) (c .before .struct-told4 .given .1 .0 .1)
+  columns : toZ w64 (ofZ w64 (g (k e) .spacing .east)) ≡ g (k e) .spacing .east
+  columns = held (g (k e) .spacing .east) (c .struct-told4 .given .1 .0 .1)
 
-  columns : toZ w64 (ofZ w64 (g a .spacing .east)) ≡ g a .spacing .east
-  columns = held (g a .spacing .east) (c .struct-told5 .given .1 .0 .1)
+spacing-of-requires-2 : tie.Need-spacing-of-requires-2
+spacing-of-requires-2 c κs = let p = s (k (e c)) .pre .columns in raw (columns c) (steps (e c)) (p .0, p .1, few (e c))
 
-  some-columns : 0 < natural (g a .spacing .east)
-  some-columns = above-zero (g a .spacing .east) (s a .pre .columns .0) (known (b n) .columns)
+module _ (m : tie.After-struct-told5) where
+  abbrev f : tie.After-struct-told4
+  f = m .before .before
+
+  width : m .before .spacing-of2 .result ≡ w (e f)
+  unfolding surface
+  width = m .before .spacing-of2 .ensures ∙ (λ i. natural (columns f i) * steps (e f) i)
+
+  origin-east : toZ w64 (ofZ w64 (g (k (e f)) .origin .east)) ≡ g (k (e f)) .origin .east
+  origin-east = held (g (k (e f)) .origin .east) (m .struct-told5 .given .1 .0 .1)
 
 place-requires-2 : tie.Need-place-requires-2
-place-requires-2 c κs =
-    let p = s (a c) .pre in
-    asks (is-back (s (a c) .fits .east)) (origin-east c) (columns c) (steps (b (n c)))
-    (known (b (n c)) .east, p .east, p .columns .0, some-columns c, p .columns .1, steps-some (g (a c) .number) .0, steps-some (g (a c) .number) .1)
+place-requires-2 m κs =
+    let a = s (k (e (f m))) in
+    asks (is-back (a .fits .east)) (origin-east m) (steps (e (f m))) (known (e (f m)) .east, a .pre .east, few (e (f m)))
 
-module _ (m : tie.After-place2) where
-  abbrev f : tie.After-struct-told5
-  f = m .before
+module _ (q : tie.After-place2) where
+  abbrev j : tie.After-struct-told4
+  j = f (q .before)
 
-  abbrev w : ℕ
-  w = surface (g (a f)) (s (a f) .args .component) .W
+  abbrev o : tie.After-struct-told2
+  o = e j
 
-  abbrev v : ℤ
-  v = eastOf (g (a f)) (s (a f) .args .east)
+  placed-east : q .place2 .result ≡ alongOf (w o) (v o)
+  unfolding eastOf
+  placed-east =
+      q .place2 .ensures
+      ∙ (λ i. alongOf (width (q .before) i) (is-back (s (k o) .fits .east) i -ℤ pos (steps o i) *ℤ origin-east (q .before) i))
 
-  stands-east : Stands w v (m .place2 .result)
-  unfolding surface eastOf
-  stands-east = moved (is-back (s (a f) .fits .east)) (origin-east f) (columns f) (steps (b (n f))) (m .place2 .ensures)
-
-  wide : (0 < w) × (w ≤ 40950000)
-  wide = spacings (g (a f)) (s (a f) .args .component) (s (a f) .args .north) (s (a f) .args .east) (s (a f) .pre) (known (b (n f))) .1
+  refusal-east : q .place2 .result .refusal ≡ cond (outside (w o) (v o)) 14 0
+  refusal-east = ap (λ (a : Place). a .refusal) placed-east ∙ along-refusal (w o) (v o) (sizes o .1 .0) (sizes o .1 .1)
 
 returns-3 : tie.Need-returns-3
 returns-3 c =
-    let m = c .before .before .before in
-    let e = a (f m) in
-    east-out (g e) (s e .args .component) (s e .args .north) (s e .args .east) (none (b (n (f m)))) (in-north (f m)) (c .refused3 .result)
-    (outside-yes (outside (w m) (v m)) (stands-east m .refusal) (c .before .if3 .taken)) (c .refused3 .ensures)
+    let q = c .before .before .before in
+    let a = s (k (o q)) .args in
+    east-out (g (k (o q))) (a .component) (a .north) (a .east) (none (o q)) (in-north (j q)) (c .refused3 .result)
+    (outside-yes (outside (w (o q)) (v (o q))) (refusal-east q) (c .before .if3 .taken)) (c .refused3 .ensures)
 
 -- ---- inside
 
-module _ (m : tie.After-place2) (i : outside (w m) (v m) ≡ false) where
-  abbrev north : Along
-  north = n (f m) .place .result
-
-  abbrev east : Along
-  east = m .place2 .result
-
-  placed : Placed (g (a (f m))) (s (a (f m)) .args .component) (north .cell) (east .cell) (north .steps) (east .steps) (north .spacing) (east .spacing)
-  placed =
-      let q = stands-north (n (f m)) in
-      let y = in-cell (h (n (f m))) (u (n (f m))) north (high (n (f m)) .0) q (in-north (f m)) in
-      let x = in-cell (w m) (v m) east (wide m .0) (stands-east m) i in
-      record {
-        fields = s (a (f m)) .pre;
-        high = q .spacing;
-        wide = stands-east m .spacing;
-        within = record { north = y .2; east = x .2; high = rw (q .spacing) (high (n (f m))); wide = rw (stands-east m .spacing) (wide m) };
-        row = (y .0, y .1);
-        column = (x .0, x .1);
-      }
-
 cell-shift-requires : tie.Need-cell-shift-requires
 cell-shift-requires c κs =
-    let m = c .before .before in
-    placed m (outside-no (outside (w m) (v m)) (stands-east m .refusal) (c .if3 .left))
+    let q = c .before .before in
+    let a = o q in
+    placed-by (g (k a)) (s (k a) .args .component) (u a) (v a) (s (k a) .pre) (sizes a .0) (sizes a .1) (in-north (j q))
+    (outside-no (outside (w a) (v a)) (refusal-east q) (c .if3 .left)) (placed-north (n (j q))) (placed-east q) (height (n (j q) .before)) (width (q .before))
+
+-- the answer in the cell of a place
+in-place : (gr : Grid) (c h w : ℕ) (u v : ℤ) {n e : Place} → (0 < h) × (h ≤ 40950000) → (0 < w) × (w ≤ 40950000) → outside h u ≡ false → outside w v ≡ false
+    → n ≡ alongOf h u → e ≡ alongOf w v
+    → inCellShift gr c (n .cell) (e .cell) (n .steps) (e .steps)
+    ≡ inCellShift gr c (cell h (natAbs (fromEdge h u))) (cell w (natAbs (fromEdge w v))) (natAbs (fromEdge h u)) (natAbs (fromEdge w v))
+in-place gr c h w u v p q a b i j =
+    rw (i, j, along-steps h u (p .0) (p .1) a, along-cell h u (p .0) (p .1) a, along-steps w v (q .0) (q .1) b, along-cell w v (q .0) (q .1) b)
 
 returns-4 : tie.Need-returns-4
 returns-4 c =
-    let m = c .before .before .before in
-    let e = a (f m) in
-    let o = outside-no (outside (w m) (v m)) (stands-east m .refusal) (c .before .if3 .left) in
-    let y = stands-north (n (f m)) .inside (in-north (f m)) in
-    let x = stands-east m .inside o in
-    in-out (g e) (s e .args .component) (s e .args .north) (s e .args .east) (none (b (n (f m)))) (in-north (f m)) (c .cell-shift .result) o
-    (c .cell-shift .ensures ∙ (λ i. inside (g e) (s e .args .component) (y .1 i) (x .1 i) (y .0 i) (x .0 i)))
+    let q = c .before .before .before in
+    let a = o q in
+    let x = s (k a) .args in
+    let i = outside-no (outside (w a) (v a)) (refusal-east q) (c .before .if3 .left) in
+    in-out (g (k a)) (x .component) (x .north) (x .east) (none a) (in-north (j q)) (c .cell-shift .result) i
+    (c .cell-shift .ensures
+    ∙ in-place (g (k a)) (x .component) (h a) (w a) (u a) (v a) (sizes a .0) (sizes a .1) (in-north (j q)) i (placed-north (n (j q))) (placed-east q))
 
 pub shift-in-spec : {M : Type 1} → statement M
 shift-in-spec =
@@ -200,9 +218,11 @@ shift-in-spec =
     (λ c κs. tt)
     returns
     (λ c κs. tt)
+    spacing-of-requires
     place-requires
     (λ c κs. tt)
     returns-2
+    spacing-of-requires-2
     place-requires-2
     (λ c κs. tt)
     returns-3

@@ -11,7 +11,7 @@ use Rattle.bilinear.specs.Bilinear.{interpolated}
 use Rattle.grid.specs.Shift.{surface, northOf, eastOf, gridTests, outcome, shiftWith, recordShift}
 use Rattle.grid.proofs.Parts.{refuses}
 use Rattle.grid.proofs.Accepted.{record-refused, record-passed, record-fields}
-use Rattle.grid.proofs.Machine.{is-back}
+use Rattle.arith.proofs.Machine.{is-back}
 use Rattle.grid.proofs.shift_of.Statement.{statement}
 use Rattle.grid.proofs.shift_of.Tie as tie
 

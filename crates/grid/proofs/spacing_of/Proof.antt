@@ -8,7 +8,7 @@ use lib.IntN.{ℤ, pos, natAbs}
 use mir.Syntax.{w64}
 use mir.Val.{toZ, ofZ}
 use Rattle.arith.specs.Whole.{natural}
-use Rattle.grid.proofs.Machine.{is-back}
+use Rattle.arith.proofs.Machine.{is-back}
 use Rattle.grid.proofs.spacing_of.Statement.{statement}
 use Rattle.grid.proofs.spacing_of.Tie as tie
 

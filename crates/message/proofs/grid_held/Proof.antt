@@ -3,8 +3,8 @@
 use mathlib.Core.Path.{sym, ap, _∙_}
 use lib.Seq.{length-take-le}
 use borrow.Author.Needs.{needs}
-use Rattle.message.specs.Kinds.{rowHeld}
-use Rattle.message.proofs.OneKind.{numbers-within, numbers-row}
+use Rattle.wire.specs.Message.{rowHeld}
+use Rattle.message.proofs.RecordNumbers.{numbers-within, numbers-row}
 use Rattle.message.proofs.grid_held.Statement.{statement}
 use Rattle.message.proofs.grid_held.Tie as tie
 

@@ -3,20 +3,21 @@
 use mathlib.Core.Path.{ap, _∙_}
 use Rattle.arith.specs.Row.{at}
 use Rattle.arith.proofs.Rows.{at-padded}
-use Rattle.records.specs.Records.{helmertOf}
-use Rattle.message.specs.Message.{kindRow}
+use Rattle.transformation_records.specs.Transformations.{helmertOf}
+use Rattle.wire.specs.declared.Read.{Read}
+use Rattle.wire.specs.Message.{kindRow, kindRead}
 use Rattle.message.specs.Kinds.{readHelmert}
 use Rattle.message.proofs.read_helmert.Statement.{statement}
 use Rattle.message.proofs.read_helmert.Tie as tie
 
 returns : tie.Need-returns
-unfolding readHelmert
+unfolding readHelmert kindRead
 returns c =
     let s = c .before .before .before .before .before .args .s .now in
     let r = c .before .before .before .read-kind .ensures in
     λ i. record {
-      refusal = (r .0) i;
-      value = (c .helmert-of .ensures ∙ ap (λ v. helmertOf (at v)) (r .1) ∙ ap helmertOf (at-padded (kindRow 1021 1021 s))) i;
+      refusal = (r i) .refusal;
+      value = (c .helmert-of .ensures ∙ ap (λ v. helmertOf (at v)) (ap (λ (x : Read). x .values) r) ∙ ap helmertOf (at-padded (kindRow 1021 1021 s))) i;
     }
 
 pub read-helmert-spec : {M : Type 1} → statement M

@@ -3,20 +3,21 @@
 use mathlib.Core.Path.{ap, _∙_}
 use Rattle.arith.specs.Row.{at}
 use Rattle.arith.proofs.Rows.{at-padded}
-use Rattle.records.specs.Records.{lambertOf}
-use Rattle.message.specs.Message.{kindRow}
+use Rattle.projection_records.specs.Projections.{lambertOf}
+use Rattle.wire.specs.declared.Read.{Read}
+use Rattle.wire.specs.Message.{kindRow, kindRead}
 use Rattle.message.specs.Kinds.{readLambert}
 use Rattle.message.proofs.read_lambert.Statement.{statement}
 use Rattle.message.proofs.read_lambert.Tie as tie
 
 returns : tie.Need-returns
-unfolding readLambert
+unfolding readLambert kindRead
 returns c =
     let s = c .before .before .before .before .before .args .s .now in
     let r = c .before .before .before .read-kind .ensures in
     λ i. record {
-      refusal = (r .0) i;
-      value = (c .lambert-of .ensures ∙ ap (λ v. lambertOf (at v)) (r .1) ∙ ap lambertOf (at-padded (kindRow 1026 1026 s))) i;
+      refusal = (r i) .refusal;
+      value = (c .lambert-of .ensures ∙ ap (λ v. lambertOf (at v)) (ap (λ (x : Read). x .values) r) ∙ ap lambertOf (at-padded (kindRow 1026 1026 s))) i;
     }
 
 pub read-lambert-spec : {M : Type 1} → statement M

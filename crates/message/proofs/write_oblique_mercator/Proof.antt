@@ -3,7 +3,7 @@
 use mathlib.Core.Path.{sym, _∙_}
 use lib.Seq.{length-take-le}
 use borrow.Author.Needs.{needs}
-use Rattle.message.proofs.OneKind.{numbers-within, written-record}
+use Rattle.message.proofs.RecordNumbers.{numbers-within, written-record}
 use Rattle.message.proofs.write_oblique_mercator.Statement.{statement}
 use Rattle.message.proofs.write_oblique_mercator.Tie as tie
 

@@ -5,7 +5,7 @@ use native.Mathlib.Omega.{arith}
 use mathlib.Core.Path.{sym, ap, _∙_}
 use lib.ListN.{getD}
 use borrow.Author.Tests.{not-true, not-false}
-use Rattle.message.specs.Message.{refusal, header}
+use Rattle.wire.specs.Message.{refusal, header}
 use Rattle.table.specs.Table.{key, allZero, held}
 use Rattle.table.proofs.Slot.{part-held, part-rest, tag-free, tag-used, well-free, well-long, well-rest, well-refused, well-used}
 use Rattle.table.proofs.Marks.{mark-well, mark-ill, header-refusal, header-tag}

@@ -5,8 +5,8 @@ use mathlib.Core.Path.{_≡_, sym, ap, subst, _∙_}
 use mathlib.Core.Bool.{true}
 use mathlib.Core.List.{List}
 use borrow.Author.Tests.{not-true, not-false}
-use Rattle.message.specs.Message.{refusal}
-use Rattle.message.proofs.Limits.{accepted-size}
+use Rattle.wire.specs.Message.{refusal}
+use Rattle.wire.proofs.Limits.{accepted-size}
 use Rattle.table.specs.Table.{slots, key, wellFormed, put, storePlace}
 use Rattle.table.specs.Marks.{markOrFree}
 use Rattle.table.proofs.Whole.{formed}

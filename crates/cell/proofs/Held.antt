@@ -1,0 +1,148 @@
+-- What a grid message can hold: the tests, what they say, and the two definitions where they hold.
+-- Assumes nothing.
+use mathlib.Core.Path.{_≡_, refl, _∙_}
+use mathlib.Core.Bool.{Bool, true, false, not, cond, _&&_, _||_}
+use Prim.Native.Nat.{ℕ, zero, suc, _+_, _*_, _/_, _≤_, _<_}
+use native.Mathlib.Omega.{arith}
+use borrow.Author.Tests.{eqb-false, leb-true, not-true, lt-ltb, le-ltb, le-leb, lt-leb, ne-eqb}
+use lib.Dec.{T, eqb, leb, ltb}
+use lib.IntN.{ℤ, pos, negsuc, natAbs, _+ℤ_, _-ℤ_}
+use lib.Signed.{ltZ, _≤ℤ_, _<ℤ_}
+use Rattle.arith.proofs.Int.{at, nat, _⊞_, _⊟_, known, known-lt, order-lt, abs-parts, abs-within}
+use Rattle.arith.proofs.Tests.{both-first, both-second}
+use Rattle.bilinear.specs.Bilinear.{nearestWhole, fromEdge, outside, cell}
+use Rattle.cell.specs.Cell.{greatestSpacing, alongOf, sumOf, spaced, placeHeld, nodesHeld, inBounds, countIn}
+use Rattle.cell.specs.Private.{Within, Most}
+use Rattle.cell.specs.declared.Place.{Place}
+use Rattle.cell.specs.declared.Corners.{Corners}
+
+-- ---- a magnitude of at most b
+
+module _ (z : ℤ) (b : ℕ) where
+  pub below : z <ℤ (pos 0 -ℤ pos b) → leb (natAbs z) b ≡ false
+  below h = lt-leb (natAbs z) b (omega (arith, known-lt (at z) (nat 0 ⊟ nat b) h, abs-parts z))
+
+  pub above : pos b <ℤ z → leb (natAbs z) b ≡ false
+  above h = lt-leb (natAbs z) b (omega (arith, known-lt (nat b) (at z) h, abs-parts z))
+
+  pub between : (pos 0 -ℤ pos b) ≤ℤ z → z ≤ℤ pos b → leb (natAbs z) b ≡ true
+  between h k =
+      le-leb (natAbs z) b
+      (abs-within (at z) (omega (arith, known (at z) (nat b) k)) (omega (arith, known (nat 0 ⊟ nat b) (at z) h)))
+
+-- ---- along one direction
+
+is-true : (t : Bool) → T t → t ≡ true
+is-true true h = refl
+is-true false h = absurd h
+
+or-second : (a b : Bool) → b ≡ true → (a || b) ≡ true
+or-second true b e = refl
+or-second false b e = e
+
+or-first : (a b : Bool) → a ≡ true → (a || b) ≡ true
+or-first a b e = rw e
+
+-- a difference beyond 10^13 is outside of any grid
+pub far-outside : (d : ℕ) (u : ℤ) → d ≤ greatestSpacing → 10000000000000 < natAbs u → outside d u ≡ true
+unfolding outside fromEdge
+far-outside d (pos n) h k = or-second (ltb (n + 3 * (d / 2)) 0) _ (lt-ltb (3 * d) (n + 3 * (d / 2)) (omega arith))
+far-outside d (negsuc n) h k =
+    let l : (negsuc n +ℤ pos (3 * (d / 2))) <ℤ pos 0 = order-lt (at (negsuc n) ⊞ nat (3 * (d / 2))) (nat 0) (omega arith) in
+    or-first (ltZ (negsuc n +ℤ pos (3 * (d / 2))) (pos 0)) _ (is-true _ (l .lt))
+
+abbrev pub unplaced : ℕ → ℤ → Bool
+unplaced d u = eqb d 0 || ltb greatestSpacing d || outside d u
+
+module _ (d : ℕ) (u : ℤ) where
+  pub along-out : {a : Place} → (a .refusal ≡ 14) × (a .steps ≡ 0) × (a .cell ≡ 0) → unplaced d u ≡ true → a ≡ alongOf d u
+  unfolding alongOf
+  along-out h e = (λ i. record { refusal = h .0 i; steps = h .1 i; cell = h .2 i }) ∙ rw e
+
+  module _ (p : 0 < d) (q : d ≤ greatestSpacing) where
+    pub unplaced-is : {b : Bool} → outside d u ≡ b → unplaced d u ≡ b
+    unplaced-is e = rw (ne-eqb d 0 (λ z. absurd (omega arith)), le-ltb greatestSpacing d q) e
+
+    pub along-in : {a : Place} → a .refusal ≡ 0 → a .steps ≡ natAbs (fromEdge d u) → a .cell ≡ cell d (natAbs (fromEdge d u)) → outside d u ≡ false → a ≡ alongOf d u
+    unfolding alongOf
+    along-in h k l e = (λ i. record { refusal = h i; steps = k i; cell = l i }) ∙ rw (unplaced-is e)
+
+    -- of a spacing that a grid has
+    pub along-refusal : alongOf d u .refusal ≡ cond (outside d u) 14 0
+    unfolding alongOf
+    along-refusal = by (outside d u) (unplaced-is refl)
+      where
+        by : (b : Bool) → unplaced d u ≡ b → alongOf d u .refusal ≡ cond b 14 0
+        by true e = unfold alongOf in rw e
+        by false e = unfold alongOf in rw e
+
+    module _ (o : outside d u ≡ false) where
+      pub along-steps : alongOf d u .steps ≡ natAbs (fromEdge d u)
+      unfolding alongOf
+      along-steps = rw (unplaced-is o)
+
+      pub along-cell : alongOf d u .cell ≡ cell d (natAbs (fromEdge d u))
+      unfolding alongOf
+      along-cell = rw (unplaced-is o)
+
+-- ---- in a cell
+
+pub four : (a b c d : Bool) → (a && b && c && d) ≡ true → (a ≡ true) × (b ≡ true) × (c ≡ true) × (d ≡ true)
+four a b c d h =
+    let p = both-first (a && b && c) d h in
+    let q = both-first (a && b) c p in
+    (both-first a b q, both-second a b q, both-second (a && b) c p, both-second (a && b && c) d h)
+
+spaced-says : (d : ℕ) → spaced d ≡ true → (0 < d) × (d ≤ greatestSpacing)
+spaced-says d h =
+    let some = eqb-false d 0 (not-true (eqb d 0) (both-first (not (eqb d 0)) (leb d greatestSpacing) h)) in
+    (above-zero d some, leb-true d greatestSpacing (both-second (not (eqb d 0)) (leb d greatestSpacing) h))
+  where
+    above-zero : (d : ℕ) → (d ≡ 0 → ⊥) → 0 < d
+    above-zero zero n = absurd (n refl)
+    above-zero (suc d) n = omega arith
+
+pub within-of : {h w y x : ℕ} → placeHeld h w y x ≡ true → Within h w y x
+unfolding placeHeld
+within-of {h} {w} {y} {x} e =
+    let p = four (spaced h) (spaced w) (leb y h) (leb x w) e in
+    record { north = leb-true y h (p .2); east = leb-true x w (p .3); high = spaced-says h (p .0); wide = spaced-says w (p .1) }
+
+pub most-of : {n : Corners} → nodesHeld n ≡ true → Most 256 n
+unfolding nodesHeld
+most-of {n} e =
+    let p = four (leb (natAbs (n .sw)) 256) (leb (natAbs (n .se)) 256) (leb (natAbs (n .nw)) 256) (leb (natAbs (n .ne)) 256) e in
+    record {
+      sw = leb-true (natAbs (n .sw)) 256 (p .0);
+      se = leb-true (natAbs (n .se)) 256 (p .1);
+      nw = leb-true (natAbs (n .nw)) 256 (p .2);
+      ne = leb-true (natAbs (n .ne)) 256 (p .3);
+    }
+
+module _ (mean : ℤ) (f : ℕ) (n : Corners) (h w y x : ℕ) where
+  pub count-held : inBounds mean f n h w y x ≡ true → mean +ℤ nearestWhole (sumOf f h w y x n) (h * w) ≡ countIn mean f n h w y x
+  unfolding countIn
+  count-held e = rw e
+
+  pub count-none : inBounds mean f n h w y x ≡ false → pos 0 ≡ countIn mean f n h w y x
+  unfolding countIn
+  count-none e = rw e
+
+  -- what a caller shows
+  pub count-in-is : Within h w y x → Most 256 n → natAbs mean ≤ 1638400 → f ≤ 10 → countIn mean f n h w y x ≡ mean +ℤ nearestWhole (sumOf f h w y x n) (h * w)
+  unfolding countIn inBounds placeHeld nodesHeld
+  count-in-is p m a b =
+      rw (
+        ne-eqb h 0 (λ e. absurd (omega (arith, p .high .0))),
+        le-leb h greatestSpacing (p .high .1),
+        ne-eqb w 0 (λ e. absurd (omega (arith, p .wide .0))),
+        le-leb w greatestSpacing (p .wide .1),
+        le-leb y h (p .north),
+        le-leb x w (p .east),
+        le-leb f 10 b,
+        le-leb (natAbs mean) 1638400 a,
+        le-leb (natAbs (n .sw)) 256 (m .sw),
+        le-leb (natAbs (n .se)) 256 (m .se),
+        le-leb (natAbs (n .nw)) 256 (m .nw),
+        le-leb (natAbs (n .ne)) 256 (m .ne),
+      )

@@ -1,0 +1,106 @@
+-- Bounds of weights, of the weighted sum and of its parts, and the signed division that gives the nearest whole number.
+-- Assumes nothing.
+use mathlib.Core.Path.{_≡_, refl, sym, ap, _∙_, subst}
+use Prim.Native.Nat.{ℕ, zero, suc, _+_, _*_, _-_, _/_, _≤_}
+use native.Mathlib.Nat.{mul-le-mul, mul-le-mul-left, le-trans, zero-div, mul-pos}
+use native.Mathlib.Omega.{arith}
+use lib.Dec.{ltb→lt}
+use lib.IntN.{ℤ, pos, negsuc, negℤ, natAbs, _+ℤ_, _-ℤ_, _*ℤ_}
+use lib.Signed.{_≤ℤ_, _<ℤ_, quotZ}
+use Rattle.arith.proofs.Int.{ring, at, nat, minus, _⊟_, _⊠_, abs-add, abs-mul}
+use mir.Syntax.{w64}
+use mir.Val.{Fits}
+use Rattle.bilinear.specs.Bilinear.{nearestWhole}
+use Rattle.bilinear.proofs.Bounds.{weighted-bound, nearest-bound}
+use Rattle.cell.specs.Cell.{sumOf}
+use Rattle.cell.specs.Private.{Within, Most}
+use Rattle.cell.specs.declared.Corners.{Corners}
+
+pub product : (a b : ℕ) → a ≤ 40950000 → b ≤ 40950000 → a * b ≤ 1676902500000000
+product a b h k = mul-le-mul h k
+
+pub scaled : (f : ℕ) (z : ℤ) → f ≤ 10 → natAbs z ≤ 256 → natAbs (pos f *ℤ z) ≤ 2560
+scaled f z h k = subst (λ (m : ℕ). m ≤ 2560) (sym (abs-mul (pos f) z)) (mul-le-mul h k)
+
+pub fits-weight : {n : ℕ} → n ≤ 1676902500000000 → Fits w64 n
+fits-weight h = record { fits = omega arith }
+
+-- ---- a cell cut in four, its nodes at most 2,560
+
+sums : (u x v y a b c d : ℕ) → a ≤ 2560 → b ≤ 2560 → c ≤ 2560 → d ≤ 2560 → u * v * a + x * v * b + u * y * c + x * y * d ≤ 2560 * ((u + x) * (v + y))
+sums u x v y a b c d ha hb hc hd = omega (arith, mul-le-mul-left (u * v) ha, mul-le-mul-left (x * v) hb, mul-le-mul-left (u * y) hc, mul-le-mul-left (x * y) hd)
+
+abbrev pub size : (u x v y : ℕ) (sw se nw ne : ℤ) → ℕ
+size u x v y sw se nw ne =
+    natAbs (pos (u * v) *ℤ sw) + natAbs (pos (x * v) *ℤ se) + natAbs (pos (u * y) *ℤ nw) + natAbs (pos (x * y) *ℤ ne)
+
+pub in-area : (u x v y : ℕ) (sw se nw ne : ℤ) → natAbs sw ≤ 2560 → natAbs se ≤ 2560 → natAbs nw ≤ 2560 → natAbs ne ≤ 2560 →
+    u + x ≤ 40950000 → v + y ≤ 40950000 → size u x v y sw se nw ne ≤ 2560 * 1676902500000000
+in-area u x v y sw se nw ne a b c d h k =
+    le-trans
+    (omega (
+      arith,
+      abs-mul (pos (u * v)) sw,
+      abs-mul (pos (x * v)) se,
+      abs-mul (pos (u * y)) nw,
+      abs-mul (pos (x * y)) ne,
+      sums u x v y (natAbs sw) (natAbs se) (natAbs nw) (natAbs ne) a b c d,
+    ))
+    (mul-le-mul-left 2560 (product (u + x) (v + y) h k))
+
+pub three-of : (p q r s : ℤ) {b : ℕ} → natAbs p + natAbs q + natAbs r + natAbs s ≤ b → natAbs (p +ℤ q +ℤ r) ≤ b
+three-of p q r s h = omega (arith, h, abs-add p q, abs-add (p +ℤ q) r)
+
+pub four-of : (p q r s : ℤ) {b : ℕ} → natAbs p + natAbs q + natAbs r + natAbs s ≤ b → natAbs (p +ℤ q +ℤ r +ℤ s) ≤ b
+four-of p q r s h = omega (arith, h, abs-add p q, abs-add (p +ℤ q) r, abs-add (p +ℤ q +ℤ r) s)
+
+-- ---- the weights of a place in a cell
+
+module _ {h w y x : ℕ} (p : Within h w y x) where
+  pub columns : w - x + x ≤ 40950000
+  columns = omega (arith, p .east, p .wide)
+
+  pub rows : h - y + y ≤ 40950000
+  rows = omega (arith, p .north, p .high)
+
+  pub southwest : (w - x) * (h - y) ≤ 1676902500000000
+  southwest = product (w - x) (h - y) (omega (arith, columns)) (omega (arith, rows))
+
+  pub southeast : x * (h - y) ≤ 1676902500000000
+  southeast = product x (h - y) (omega (arith, columns)) (omega (arith, rows))
+
+  pub northwest : (w - x) * y ≤ 1676902500000000
+  northwest = product (w - x) y (omega (arith, columns)) (omega (arith, rows))
+
+  pub northeast : x * y ≤ 1676902500000000
+  northeast = product x y (omega (arith, columns)) (omega (arith, rows))
+
+  pub area-most : h * w ≤ 1676902500000000
+  area-most = product h w (p .high .1) (p .wide .1)
+
+  -- ---- nodes of at most 256 raw numbers, each at most 10 counts
+  module _ (f : ℕ) (n : Corners) (k : f ≤ 10) (m : Most 256 n) where
+    pub sum-most : natAbs (sumOf f h w y x n) ≤ 2560 * (h * w)
+    sum-most =
+        weighted-bound h w y x _ _ _ _ 2560 (p .north) (p .east)
+        (scaled f (n .sw) k (m .sw)) (scaled f (n .se) k (m .se)) (scaled f (n .nw) k (m .nw)) (scaled f (n .ne) k (m .ne))
+
+    pub near-most : natAbs (nearestWhole (sumOf f h w y x n) (h * w)) ≤ 2560
+    near-most = nearest-bound _ (h * w) 2560 (mul-pos (p .high .0) (p .wide .0)) sum-most
+
+-- ---- the division of the code, toward zero, by twice the area
+
+quot-neg : (k m : ℕ) → quotZ (negℤ (pos k)) (pos m) ≡ negℤ (pos (k / m))
+quot-neg zero m = ap pos (zero-div m) ∙ sym (ap (λ (n : ℕ). negℤ (pos n)) (zero-div m))
+quot-neg (suc k) m = refl
+
+pub nearest-below : (s : ℤ) (d : ℕ) → s <ℤ pos 0 → quotZ (pos 2 *ℤ s -ℤ pos d) (pos 2 *ℤ pos d) ≡ nearestWhole s d
+unfolding nearestWhole
+nearest-below (pos n) d h = absurd (omega (arith, ltb→lt n 0 (h .lt)))
+nearest-below (negsuc n) d h =
+    ap (λ (z : ℤ). quotZ z (pos (2 * d))) (ring (nat 2 ⊠ at (negsuc n) ⊟ nat d) (minus (nat (2 * suc n + d))) (omega arith)) ∙ quot-neg (2 * suc n + d) (2 * d)
+
+pub nearest-above : (s : ℤ) (d : ℕ) → pos 0 ≤ℤ s → quotZ (pos 2 *ℤ s +ℤ pos d) (pos 2 *ℤ pos d) ≡ nearestWhole s d
+unfolding nearestWhole
+nearest-above (pos n) d h = refl
+nearest-above (negsuc n) d h = absurd (h .le)

@@ -1,0 +1,19 @@
+-- What the private functions ask for.
+-- Assumes nothing.
+use Prim.Native.Nat.{ℕ, _≤_, _<_}
+use lib.IntN.{natAbs}
+use Rattle.cell.specs.declared.Corners.{Corners}
+
+-- a place on or within the edges of a cell of height h and width w
+pub record Within (h w y x : ℕ) : Type 0 where
+  pub north : y ≤ h
+  pub east : x ≤ w
+  pub high : (0 < h) × (h ≤ 40950000)
+  pub wide : (0 < w) × (w ≤ 40950000)
+
+-- nodes of at most b
+pub record Most (b : ℕ) (n : Corners) : Type 0 where
+  pub sw : natAbs (n .sw) ≤ b
+  pub se : natAbs (n .se) ≤ b
+  pub nw : natAbs (n .nw) ≤ b
+  pub ne : natAbs (n .ne) ≤ b

@@ -1,0 +1,193 @@
+// The arithmetic of a grid along one direction and in one cell.
+ghost use mathlib.Core.Path.{_≡_};
+ghost use mathlib.Core.Bool.{cond};
+ghost use Prim.Native.Nat.{_*_, _≤_, _<_};
+ghost use lib.Dec.{leb};
+ghost use lib.IntN.{pos, natAbs, _+ℤ_};
+ghost use Rattle.bilinear.specs.Bilinear.{cell, weighted, nearestWhole};
+ghost use Rattle.cell.specs.Cell.{alongOf, sumOf, placeHeld, nodesHeld, countIn};
+ghost use Rattle.cell.specs.Private.{Within, Most};
+
+// Where a position stands along one direction: OUTSIDE, or 0 with the steps from the southern or western edge and the cell, 0 to 2 from there.
+pub struct Place {
+    pub refusal: u8,
+    pub steps: u64,
+    pub cell: u64,
+}
+
+// The raw nodes of a cell.
+pub struct Corners {
+    pub sw: i64,
+    pub se: i64,
+    pub nw: i64,
+    pub ne: i64,
+}
+
+// The number without its sign is at most the bound.
+fn no_larger(z: i64, bound: u64) -> bool
+    requires { ⌜ bound ≤ 10000000000000 ⌝ }
+    ensures { λ r. ⌜ r ≡ leb (natAbs z) bound ⌝ }
+{
+    let b = bound as i64;
+    if z < 0 - b {
+        return false;
+    }
+    if b < z {
+        return false;
+    }
+    true
+}
+
+// OUTSIDE.
+fn outer() -> Place
+    ensures { λ r. ⌜ (r .refusal ≡ 14) × (r .steps ≡ 0) × (r .cell ≡ 0) ⌝ }
+{
+    Place {
+        refusal: 14,
+        steps: 0,
+        cell: 0,
+    }
+}
+
+// The cell of a place t steps from the edge.
+fn cell_of(d: u64, t: u64) -> u64
+    requires { ⌜ (0 < d) × (d ≤ 40950000) ⌝ }
+    ensures { λ r. ⌜ r ≡ cell d t ⌝ }
+{
+    if t < d {
+        return 0;
+    }
+    if t < 2 * d {
+        return 1;
+    }
+    2
+}
+
+// Where a position stands along one direction: u is its difference from the origin, d the spacing, in steps.
+fn axis(u: i64, d: u64) -> Place
+    requires { ⌜ (natAbs u ≤ 10000000000000) × (0 < d) × (d ≤ 40950000) ⌝ }
+    ensures { λ r. ⌜ r ≡ alongOf d u ⌝ }
+{
+    let t = u + (3 * (d / 2)) as i64;
+    if t < 0 {
+        return outer();
+    }
+    if ((3 * d) as i64) < t {
+        return outer();
+    }
+    let steps = t as u64;
+    Place {
+        refusal: 0,
+        steps,
+        cell: cell_of(d, steps),
+    }
+}
+
+// The same of any difference and any spacing.
+pub fn along(difference: i64, spacing: u64) -> Place
+    ensures { λ r. ⌜ r ≡ alongOf spacing difference ⌝ }
+{
+    if spacing == 0 {
+        return outer();
+    }
+    if 40950000 < spacing {
+        return outer();
+    }
+    if !no_larger(difference, 10000000000000) {
+        return outer();
+    }
+    axis(difference, spacing)
+}
+
+// The weighted sum of a cell's nodes: the exact mean times h * w.
+fn weighted_sum(h: u64, w: u64, y: u64, x: u64, sw: i64, se: i64, nw: i64, ne: i64) -> i64
+    requires { ⌜ Within h w y x × (natAbs sw ≤ 2560) × (natAbs se ≤ 2560) × (natAbs nw ≤ 2560) × (natAbs ne ≤ 2560) ⌝ }
+    ensures { λ r. ⌜ r ≡ weighted h w y x sw se nw ne ⌝ }
+{
+    let u = w - x;
+    let v = h - y;
+    (u * v) as i64 * sw + (x * v) as i64 * se + (u * y) as i64 * nw + (x * y) as i64 * ne
+}
+
+// The whole number nearest to sum / area, halves away from zero.
+fn nearest_to(sum: i64, area: u64) -> i64
+    requires { ⌜ (natAbs sum ≤ 2560 * 1676902500000000) × (0 < area) × (area ≤ 1676902500000000) ⌝ }
+    ensures { λ r. ⌜ r ≡ nearestWhole sum area ⌝ }
+{
+    let d = area as i64;
+    if sum < 0 {
+        return (2 * sum - d) / (2 * d);
+    }
+    (2 * sum + d) / (2 * d)
+}
+
+// The count: the mean, and the whole number nearest to the exact weighted mean of the nodes.
+fn count_of(mean: i64, factor: u64, n: Corners, h: u64, w: u64, y: u64, x: u64) -> i64
+    requires { ⌜ Within h w y x × Most 256 n × (natAbs mean ≤ 1638400) × (factor ≤ 10) ⌝ }
+    ensures { λ r. ⌜ r ≡ mean +ℤ nearestWhole (sumOf factor h w y x n) (h * w) ⌝ }
+{
+    let f = factor as i64;
+    let sum = weighted_sum(h, w, y, x, f * n.sw, f * n.se, f * n.nw, f * n.ne);
+    mean + nearest_to(sum, h * w)
+}
+
+// The place is on or within the edges of a cell that a grid can have.
+fn place_held(h: u64, w: u64, y: u64, x: u64) -> bool
+    ensures { λ r. ⌜ r ≡ placeHeld h w y x ⌝ }
+{
+    if h == 0 {
+        return false;
+    }
+    if 40950000 < h {
+        return false;
+    }
+    if w == 0 {
+        return false;
+    }
+    if 40950000 < w {
+        return false;
+    }
+    if h < y {
+        return false;
+    }
+    if w < x {
+        return false;
+    }
+    true
+}
+
+// The nodes are within what a grid message can hold.
+fn nodes_held(n: Corners) -> bool
+    ensures { λ r. ⌜ r ≡ nodesHeld n ⌝ }
+{
+    if !no_larger(n.sw, 256) {
+        return false;
+    }
+    if !no_larger(n.se, 256) {
+        return false;
+    }
+    if !no_larger(n.nw, 256) {
+        return false;
+    }
+    no_larger(n.ne, 256)
+}
+
+// The count in a cell, of its mean in counts, the counts in a raw number of a node, its raw nodes, height and width, and a place y and x steps from its south and west;
+// 0 where they are not within what a grid message can hold.
+pub fn count_in(mean: i64, factor: u64, n: Corners, h: u64, w: u64, y: u64, x: u64) -> i64
+    ensures { λ r. ⌜ r ≡ countIn mean factor n h w y x ⌝ }
+{
+    if !place_held(h, w, y, x) {
+        return 0;
+    }
+    if 10 < factor {
+        return 0;
+    }
+    if !no_larger(mean, 1638400) {
+        return 0;
+    }
+    if !nodes_held(n) {
+        return 0;
+    }
+    count_of(mean, factor, n, h, w, y, x)
+}

@@ -1,0 +1,68 @@
+-- Bits and fields of a list of bytes, most significant bit first (document 01, "Message layouts").
+-- Assumes nothing.
+use Prim.Native.Nat.{ℕ, zero, suc, _+_, _-_, _*_, _/_, _%_, _^_}
+use mathlib.Core.List.{List}
+use mathlib.Core.Bool.{Bool, cond, _&&_}
+use lib.Dec.{ltb, leb}
+use lib.ListN.{length, getD, set}
+use lib.IntN.{ℤ, pos, negsuc}
+use lib.Signed.{mag}
+
+-- ---- numbers in bits
+
+-- bit k of s: bit 0 is the most significant of the first byte
+unfoldable pub bitAt : List ℕ → ℕ → ℕ
+bitAt s k = getD s (k / 8) 0 / 2 ^ (7 - k % 8) % 2
+
+-- the number in the w bits from bit p on
+unfoldable pub field : List ℕ → ℕ → ℕ → ℕ
+field s p zero = 0
+field s p (suc w) = field s p w * 2 + bitAt s (p + w)
+
+-- b with x in the m bits that have j bits below them
+unfoldable pub putBits : ℕ → ℕ → ℕ → ℕ → ℕ
+putBits b j m x = (b / 2 ^ (m + j) * 2 ^ m + x) * 2 ^ j + b % 2 ^ j
+
+-- s with x for bit k
+unfoldable pub setBit : List ℕ → ℕ → ℕ → List ℕ
+setBit s k x = set s (k / 8) (putBits (getD s (k / 8) 0) (7 - k % 8) 1 x)
+
+-- s with the number v in the w bits from bit p on
+unfoldable pub setField : List ℕ → ℕ → ℕ → ℕ → List ℕ
+setField s p zero v = s
+setField s p (suc w) v = setBit (setField s p w (v / 2)) (p + w) (v % 2)
+
+-- ---- intN: two's complement (000, table 3.3-1)
+
+-- the pattern u of w bits, read as two's complement: u, or u - 2^w where its first bit is set
+unfoldable pub twos : ℕ → ℕ → ℤ
+twos w u = cond (ltb (u * 2) (2 ^ w)) (pos u) (negsuc (2 ^ w - suc u))
+
+-- the pattern of z in w bits: z itself, or z + 2^w where z is negative
+unfoldable pub patternOf : ℕ → ℤ → ℕ
+patternOf w (pos n) = n
+patternOf w (negsuc n) = 2 ^ w - suc n
+
+-- z has a pattern of w bits: `mag` is n both of n and of -n - 1
+abbrev pub fitsSigned : ℕ → ℤ → Bool
+fitsSigned w z = ltb (mag z) (2 ^ w / 2)
+
+-- ---- fields of lent bytes
+
+-- the field has at most 63 bits, begins at a bit of at most 65,535 and ends within s
+abbrev pub contains : List ℕ → ℕ → ℕ → Bool
+contains s p w = leb w 63 && (leb p 65535 && leb (p + w) (8 * length s))
+
+-- the number in a field that s contains, else 0; and the same as two's complement
+unfoldable pub fieldAt : List ℕ → ℕ → ℕ → ℕ
+fieldAt s p w = cond (contains s p w) (field s p w) 0
+
+unfoldable pub signedAt : List ℕ → ℕ → ℕ → ℤ
+signedAt s p w = twos w (fieldAt s p w)
+
+-- s with a number in a field that s contains and that has room for it, else s; and the same with a signed number
+unfoldable pub putField : List ℕ → ℕ → ℕ → ℕ → List ℕ
+putField s p w v = cond (contains s p w && ltb v (2 ^ w)) (setField s p w v) s
+
+unfoldable pub putSigned : List ℕ → ℕ → ℕ → ℤ → List ℕ
+putSigned s p w z = cond (fitsSigned w z) (putField s p w (patternOf w z)) s

@@ -1,0 +1,186 @@
+// One field of bits in bytes, most significant bit first. The leaves have a requires and are private.
+ghost use mathlib.Core.Path.{_≡_};
+ghost use Prim.Native.Nat.{_+_, _*_, _/_, _%_, _^_, _≤_, _<_, min};
+ghost use lib.ListN.{length};
+ghost use lib.Signed.{mag};
+ghost use Rattle.field.specs.Field.{field, putBits, setField, twos, patternOf, contains, fieldAt, signedAt, putField, putSigned};
+
+fn pow2(m: usize) -> u64
+    requires { ⌜ m < 64 ⌝ }
+    ensures { λ r. ⌜ r ≡ 2 ^ m ⌝ }
+{
+    1u64 << m
+}
+
+fn lesser(a: usize, b: usize) -> usize
+    ensures { λ r. ⌜ r ≡ min a b ⌝ }
+{
+    if a < b { a } else { b }
+}
+
+// r, followed by the m bits of b that have j bits below them.
+fn join_bits(r: u64, b: u8, j: usize, m: usize) -> u64
+    requires { ⌜ (m ≤ 8) × ((j ≤ 8) × (r * 2 ^ m + 2 ^ m ≤ 2 ^ 64)) ⌝ }
+    ensures { λ x. ⌜ x ≡ r * 2 ^ m + b / 2 ^ j % 2 ^ m ⌝ }
+{
+    let n = pow2(m);
+    let d = pow2(j);
+    r * n + (b as u64) / d % n
+}
+
+// The number in the w bits of s from bit p on, a byte's share at a time.
+fn read_bits(s: &[u8], p: usize, w: usize) -> u64
+    requires { ⌜ (w ≤ 63) × ((p + w ≤ 8 * length (now s)) × (p ≤ 65535)) ⌝ }
+    ensures { λ r. ⌜ r ≡ field (now (s .entry)) p w ⌝ }
+{
+    let mut r: u64 = 0;
+    let mut k: usize = 0;
+    while k < w {
+        let at = p + k;
+        let free = 8 - at % 8;
+        let m = lesser(free, w - k);
+        r = join_bits(r, s[at / 8], free - m, m);
+        k += m;
+    }
+    r
+}
+
+// The 32 bits of s from byte q on.
+fn four_bytes(s: &[u8], q: usize) -> u64
+    requires { ⌜ (q + 4 ≤ length (now s)) × (q ≤ 8192) ⌝ }
+    ensures { λ r. ⌜ r ≡ field (now (s .entry)) (8 * q) 32 ⌝ }
+{
+    let a = join_bits(0, s[q], 0, 8);
+    let b = join_bits(a, s[q + 1], 0, 8);
+    let c = join_bits(b, s[q + 2], 0, 8);
+    join_bits(c, s[q + 3], 0, 8)
+}
+
+// Whether w is at most 63, p at most 65,535, and the w bits from bit p on all stand in s.
+fn contains_field(s: &[u8], p: usize, w: usize) -> bool
+    ensures { λ r. ⌜ r ≡ contains (now (s .entry)) p w ⌝ }
+{
+    if 63 < w {
+        return false;
+    }
+    if 65535 < p {
+        return false;
+    }
+    (p + w + 7) / 8 <= s.len()
+}
+
+// The number in the w bits of s from bit p on; 0 where w is over 63, p is over 65,535, or the bits do not all stand in s.
+// Bits that stand in four bytes are read by one load.
+pub fn field_at(s: &[u8], p: usize, w: usize) -> u64
+    ensures { λ r. ⌜ r ≡ fieldAt (now (s .entry)) p w ⌝ }
+{
+    if 65535 < p {
+        return 0;
+    }
+    let q = p / 8;
+    let o = p % 8;
+    if q + 4 <= s.len() {
+        if w <= 32 - o {
+            return four_bytes(s, q) / pow2(32 - o - w) % pow2(w);
+        }
+    }
+    if contains_field(s, p, w) {
+        return read_bits(s, p, w);
+    }
+    0
+}
+
+// The pattern u of w bits as two's complement.
+fn signed_of(u: u64, w: usize) -> i64
+    requires { ⌜ (w ≤ 63) × (u < 2 ^ w) ⌝ }
+    ensures { λ r. ⌜ r ≡ twos w u ⌝ }
+{
+    let n = pow2(w);
+    if u * 2 < n {
+        return u as i64;
+    }
+    -1 - ((n - 1 - u) as i64)
+}
+
+// The same number as two's complement.
+pub fn signed_at(s: &[u8], p: usize, w: usize) -> i64
+    ensures { λ r. ⌜ r ≡ signedAt (now (s .entry)) p w ⌝ }
+{
+    if 63 < w {
+        return 0;
+    }
+    signed_of(field_at(s, p, w), w)
+}
+
+// n for n, and for -n - 1.
+pub fn magnitude(z: i64) -> u64
+    ensures { λ r. ⌜ r ≡ mag z ⌝ }
+{
+    if z < 0 {
+        return (-1 - z) as u64;
+    }
+    z as u64
+}
+
+// b with x in the m bits that have j bits below them.
+fn put_bits(b: u8, j: usize, m: usize, x: u64) -> u8
+    requires { ⌜ (m + j ≤ 8) × (x < 2 ^ m) ⌝ }
+    ensures { λ r. ⌜ r ≡ putBits b j m x ⌝ }
+{
+    let n = pow2(m);
+    let d = pow2(j);
+    let e = pow2(m + j);
+    let c = b as u64;
+    ((c / e * n + x) * d + c % d) as u8
+}
+
+// s with the number v in the w bits from bit p on, a byte's share at a time.
+fn write_bits(s: &mut [u8], p: usize, w: usize, v: u64)
+    requires { ⌜ (w ≤ 63) × ((p + w ≤ 8 * length (now s)) × ((p ≤ 65535) × (v < 2 ^ w))) ⌝ }
+    ensures { λ _. ⌜ now (s .exit) ≡ setField (now (s .entry)) p w v ⌝ }
+{
+    let mut k: usize = 0;
+    while k < w {
+        let at = p + k;
+        let free = 8 - at % 8;
+        let m = lesser(free, w - k);
+        let x = v / pow2(w - k - m) % pow2(m);
+        let q = at / 8;
+        s[q] = put_bits(s[q], free - m, m, x);
+        k += m;
+    }
+}
+
+// s with the number v in the w bits from bit p on; s as it is where it does not contain them or v has more bits.
+pub fn put_field(s: &mut [u8], p: usize, w: usize, v: u64)
+    ensures { λ _. ⌜ now (s .exit) ≡ putField (now (s .entry)) p w v ⌝ }
+{
+    if contains_field(s, p, w) {
+        if v < pow2(w) {
+            write_bits(s, p, w, v);
+        }
+    }
+}
+
+// The pattern of z in w bits.
+fn pattern_of(z: i64, w: usize) -> u64
+    requires { ⌜ (w ≤ 63) × (mag z < 2 ^ w) ⌝ }
+    ensures { λ r. ⌜ r ≡ patternOf w z ⌝ }
+{
+    let m = magnitude(z);
+    if z < 0 {
+        return pow2(w) - 1 - m;
+    }
+    m
+}
+
+// s with z as two's complement in the w bits from bit p on; s as it is where it does not contain them or z has more bits.
+pub fn put_signed(s: &mut [u8], p: usize, w: usize, z: i64)
+    ensures { λ _. ⌜ now (s .exit) ≡ putSigned (now (s .entry)) p w z ⌝ }
+{
+    if contains_field(s, p, w) {
+        if magnitude(z) < pow2(w) / 2 {
+            write_bits(s, p, w, pattern_of(z, w));
+        }
+    }
+}

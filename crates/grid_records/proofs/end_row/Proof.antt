@@ -1,0 +1,19 @@
+-- `grid_records::end_row` meets its contract.
+-- Assumes nothing.
+use mathlib.Core.List.{[], _∷_, _++_}
+use Rattle.arith.proofs.Back.{held, backs}
+use Rattle.row.specs.Numbers.{pairRow}
+use Rattle.grid_records.proofs.end_row.Statement.{statement}
+use Rattle.grid_records.proofs.end_row.Tie as tie
+
+returns : tie.Need-returns
+unfolding pairRow
+returns c =
+    let s = c .before .before in
+    let a = s .args in
+    λ i. backs (pairRow (a .methods)) _ (c .before .struct-told .given) i
+    ++ backs (pairRow (a .quality)) _ (c .struct-told2 .given) i
+    ++ (held (a .day) (s .fits .day .sfits) i ∷ [])
+
+pub end-row-spec : {M : Type 1} → statement M
+end-row-spec = tie.close (tie.spec returns)

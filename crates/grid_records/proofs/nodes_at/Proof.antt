@@ -1,0 +1,52 @@
+-- `grid_records::nodes_at` meets its contract: a loop that fills the nodes from the front.
+-- Assumes nothing.
+use Prim.Native.Nat.{_+_, _*_, _-_, _≤_}
+use mathlib.Core.Path.{_≡_, refl}
+use mathlib.Core.List.{_++_}
+use native.Mathlib.Omega.{arith}
+use lib.IntN.{pos}
+use lib.ListN.{drop}
+use Rattle.arith.specs.Row.{upTo, at}
+use Rattle.arith.proofs.Rows.{fill-turn, fill-done}
+use Rattle.grid_records.specs.Grids.{shiftsAt, nodesAt}
+use Rattle.grid_records.proofs.nodes_at.Statement.{statement}
+use Rattle.grid_records.proofs.nodes_at.Tie as tie
+
+abbrev Inv-loop : tie.InvT-loop
+Inv-loop v k nodes₀ i₀ nodes i = (i ≤ 16) × (nodes ≡ upTo (λ j. shiftsAt (at v) (k + 3 * j)) i ++ drop i nodes₀)
+
+abbrev μ-loop : tie.MeasureT-loop
+μ-loop v k nodes₀ i₀ nodes i = 16 - i
+
+loop-holds : tie.Need-loop-holds Inv-loop μ-loop
+loop-holds c = (omega arith, refl)
+
+loop-again : tie.Need-loop-again Inv-loop μ-loop
+loop-again c =
+    let l = c .before .before .loop in
+    let a = c .before .before .before .args in
+    (omega arith, fill-turn (λ j. shiftsAt (at (a .v .now)) (a .k + 3 * j)) _ _ (l .i) _ (record { north = pos 0; east = pos 0; height = pos 0 }) (l .inv .1) (c .shifts-at .ensures) (omega arith))
+
+returns : tie.Need-returns Inv-loop μ-loop
+unfolding nodesAt
+returns c =
+    let l = c .before .loop in
+    let a = c .before .before .args in
+    fill-done (λ j. shiftsAt (at (a .v .now)) (a .k + 3 * j)) _ _ (l .i) 16 (l .inv .1) (omega arith) (omega arith)
+
+pub nodes-at-spec : {M : Type 1} → statement M
+nodes-at-spec =
+    tie.close
+    (tie.spec
+    Inv-loop
+    μ-loop
+    loop-holds
+    (λ c. omega arith)
+    (λ c. omega arith)
+    (λ c κs. omega arith)
+    (λ c. omega arith)
+    (λ c. omega arith)
+    (λ c. omega arith)
+    (λ c. omega arith)
+    loop-again
+    returns)

@@ -1,0 +1,4 @@
+pub mod Answer
+pub mod Loop
+pub mod Round
+pub mod Sign

@@ -1,0 +1,18 @@
+-- `projection_records::oblique_mercator_row` meets its contract.
+-- Assumes nothing.
+use mathlib.Core.Path.{ap, _∙_}
+use mathlib.Core.Bool.{true}
+use Rattle.arith.proofs.Back.{backs}
+use Rattle.row.specs.Numbers.{numbers}
+use Rattle.projection_records.specs.Projections.{obliqueMercatorRow}
+use borrow.Author.Needs.{needs}
+use Rattle.projection_records.proofs.oblique_mercator_row.Statement.{statement}
+use Rattle.projection_records.proofs.oblique_mercator_row.Tie as tie
+
+returns : tie.Need-returns
+unfolding obliqueMercatorRow
+returns c = c .numbers-of .ensures ∙ ap (numbers true) (backs (obliqueMercatorRow (c .before .before .before .args .r)) _ (c .before .before .struct-told .given))
+
+pub oblique-mercator-row-spec : {M : Type 1} → statement M
+oblique-mercator-row-spec =
+    tie.close (tie.spec (λ c. search needs) (λ c κs. search needs) returns)

@@ -1,0 +1,73 @@
+// The six kinds of record by a number: 1 Helmert, 2 Molodenski-Badekas, 3 grid, 4 projection, 5 Lambert, 6 oblique Mercator, as any other number is.
+
+// The refusal that the reader of a kind answers.
+pub fn refusal(s: &[u8], kind: usize) -> u8 {
+    match kind {
+        1 => message::read_helmert(s).refusal,
+        2 => message::read_molodenski_badekas(s).refusal,
+        3 => message::read_grid(s).refusal,
+        _ => projection_refusal(s, kind),
+    }
+}
+
+fn projection_refusal(s: &[u8], kind: usize) -> u8 {
+    match kind {
+        4 => message::read_projection(s).refusal,
+        5 => message::read_lambert(s).refusal,
+        _ => message::read_oblique_mercator(s).refusal,
+    }
+}
+
+// The first kind of record whose reader answers 0; 0 for none.
+pub fn kind_of(s: &[u8]) -> usize {
+    let mut kind: usize = 1;
+    while kind < 7 {
+        if refusal(s, kind) == 0 {
+            return kind;
+        }
+        kind += 1;
+    }
+    0
+}
+
+// A message's record of a kind, written: its length.
+pub fn rewrite(s: &[u8], kind: usize, buffer: &mut [u8]) -> usize {
+    match kind {
+        1 => rewrite_helmert(s, buffer),
+        2 => rewrite_molodenski_badekas(s, buffer),
+        3 => rewrite_grid(s, buffer),
+        _ => rewrite_projected(s, kind, buffer),
+    }
+}
+
+fn rewrite_projected(s: &[u8], kind: usize, buffer: &mut [u8]) -> usize {
+    match kind {
+        4 => rewrite_projection(s, buffer),
+        5 => rewrite_lambert(s, buffer),
+        _ => rewrite_oblique_mercator(s, buffer),
+    }
+}
+
+fn rewrite_helmert(s: &[u8], buffer: &mut [u8]) -> usize {
+    message::write_helmert(message::read_helmert(s).value, buffer).length
+}
+
+fn rewrite_molodenski_badekas(s: &[u8], buffer: &mut [u8]) -> usize {
+    message::write_molodenski_badekas(message::read_molodenski_badekas(s).value, buffer).length
+}
+
+fn rewrite_grid(s: &[u8], buffer: &mut [u8]) -> usize {
+    message::write_grid(message::read_grid(s).value, buffer).length
+}
+
+fn rewrite_projection(s: &[u8], buffer: &mut [u8]) -> usize {
+    message::write_projection(message::read_projection(s).value, buffer).length
+}
+
+fn rewrite_lambert(s: &[u8], buffer: &mut [u8]) -> usize {
+    message::write_lambert(message::read_lambert(s).value, buffer).length
+}
+
+fn rewrite_oblique_mercator(s: &[u8], buffer: &mut [u8]) -> usize {
+    message::write_oblique_mercator(message::read_oblique_mercator(s).value, buffer).length
+}

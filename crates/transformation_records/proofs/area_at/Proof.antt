@@ -1,0 +1,31 @@
+-- `transformation_records::area_at` meets its contract: each number read out of the row is the one that the definition names.
+-- Assumes nothing.
+use borrow.Author.Needs.{needs}
+use mathlib.Core.Path.{_∙_}
+use Rattle.arith.proofs.Back.{held}
+use Rattle.transformation_records.specs.Transformations.{areaAt}
+use Rattle.transformation_records.proofs.area_at.Statement.{statement}
+use Rattle.transformation_records.proofs.area_at.Tie as tie
+
+returns : tie.Need-returns
+unfolding areaAt
+returns c =
+    λ i. record {
+      latitude = (held _ (c .before .before .before .number-at .ok) ∙ c .before .before .before .number-at .ensures) i;
+      longitude = (held _ (c .before .before .number-at2 .ok) ∙ c .before .before .number-at2 .ensures) i;
+      north = (held _ (c .before .number-at3 .ok) ∙ c .before .number-at3 .ensures) i;
+      east = (held _ (c .number-at4 .ok) ∙ c .number-at4 .ensures) i;
+    }
+
+pub area-at-spec : {M : Type 1} → statement M
+area-at-spec =
+    tie.close
+    (tie.spec
+    (λ c κs. search needs)
+    (λ c. search needs)
+    (λ c κs. search needs)
+    (λ c. search needs)
+    (λ c κs. search needs)
+    (λ c. search needs)
+    (λ c κs. search needs)
+    returns)

@@ -1,0 +1,120 @@
+-- What the head of a message says: its number and name counters, the layout that it calls for, and the first refusals.
+-- Assumes nothing.
+use Prim.Native.Nat.{ℕ, _+_, _*_, _≤_, _<_}
+use native.Mathlib.Omega.{arith}
+use mathlib.Core.Path.{_≡_, refl, sym, _∙_}
+use mathlib.Core.Bool.{Bool, true, false, not, cond, _&&_, _||_}
+use mathlib.Core.List.{List, []}
+use lib.Dec.{eqb, leb, ltb}
+use lib.ListN.{length}
+use borrow.Author.Tests.{ltb-false, leb-true, le-ltb, lt-leb, le-leb, eqb-true, ne-eqb}
+use native.Mathlib.Decide.{decLe}
+use Rattle.arith.specs.First.{first}
+use Rattle.arith.proofs.First.{passed, not-false, or-false, first-append}
+use Rattle.arith.proofs.Tests.{both-first, both-second}
+use Rattle.field.specs.Field.{fieldAt}
+use Rattle.layout.specs.Layout.{decodeAll, refusalOf, readTests}
+use Rattle.field.proofs.Bit.{field-lt}
+use Rattle.field.proofs.Place.{field-inside}
+use Rattle.wire.specs.Layouts.{known, named, layoutOf}
+use Rattle.wire.specs.Message.{numberOf, sourceCount, targetCount, counterCut, headTests, layout, refusal, row}
+
+-- ---- what the code reads
+
+pub number-read : (s : List ℕ) → 2 ≤ length s → fieldAt s 0 12 ≡ numberOf s
+number-read s h = field-inside s 0 12 (omega arith) (omega arith) (omega arith)
+
+pub source-read : (s : List ℕ) → 3 ≤ length s → fieldAt s 12 5 ≡ sourceCount s
+source-read s h = field-inside s 12 5 (omega arith) (omega arith) (omega arith)
+
+pub source-lt : (s : List ℕ) → sourceCount s < 32
+source-lt s = field-lt s 12 5
+
+pub target-lt : (s : List ℕ) → targetCount s < 32
+target-lt s = field-lt s (17 + 8 * sourceCount s) 5
+
+pub target-read : (s : List ℕ) → sourceCount s + 3 ≤ length s → fieldAt s (17 + 8 * sourceCount s) 5 ≡ targetCount s
+target-read s h = field-inside s (17 + 8 * sourceCount s) 5 (omega arith) (omega (arith, source-lt s)) (omega arith)
+
+-- ---- a head that is not refused
+
+pub record Head (s : List ℕ) : Type 0 where
+  pub long : 2 ≤ length s
+  pub low : 1021 ≤ numberOf s
+  pub high : numberOf s ≤ 1027
+  pub counted : numberOf s ≤ 1022 → (3 ≤ length s) × (sourceCount s + 3 ≤ length s)
+
+uncut : (b x : Bool) → b ≡ true → (b && x) ≡ false → x ≡ false
+uncut true x e h = h
+uncut false x e h = let z : x ≡ x = refl in absurd (let y : _≡_ {A = ℕ} 0 1 = cc in omega arith)
+
+pub head-of : (s : List ℕ) → first (headTests s) ≡ 0 → Head s
+head-of s h =
+    let a = passed 0 (ltb (length s) 2) _ h in
+    let b = passed 1 (not (known (numberOf s))) _ (a .1) in
+    let d = passed 2 (counterCut s) _ (b .1) in
+    let k = not-false (known (numberOf s)) (b .0) in
+    record {
+      long = ltb-false (length s) 2 (a .0);
+      low = leb-true 1021 (numberOf s) (both-first (leb 1021 (numberOf s)) (leb (numberOf s) 1027) k);
+      high = leb-true (numberOf s) 1027 (both-second (leb 1021 (numberOf s)) (leb (numberOf s) 1027) k);
+      counted =
+          λ m.
+          let e = or-false (ltb (length s) 3) (ltb (length s) (sourceCount s + 3))
+          (uncut (named (numberOf s)) (ltb (length s) 3 || ltb (length s) (sourceCount s + 3)) (le-leb (numberOf s) 1022 m) (d .0)) in
+          (ltb-false (length s) 3 (e .0), ltb-false (length s) (sourceCount s + 3) (e .1));
+    }
+
+pub head-passes : (s : List ℕ) → Head s → first (headTests s) ≡ 0
+head-passes s h = by (decLe (numberOf s) 1022)
+  where
+    by : Dec (numberOf s ≤ 1022) → first (headTests s) ≡ 0
+    by (yes m) =
+        let k = h .counted m in
+        rw (
+          le-ltb (length s) 2 (h .long),
+          le-leb 1021 (numberOf s) (h .low),
+          le-leb (numberOf s) 1027 (h .high),
+          le-leb (numberOf s) 1022 m,
+          le-ltb (length s) 3 (k .0),
+          le-ltb (length s) (sourceCount s + 3) (k .1),
+        )
+    by (no m) =
+        rw (
+          le-ltb (length s) 2 (h .long),
+          le-leb 1021 (numberOf s) (h .low),
+          le-leb (numberOf s) 1027 (h .high),
+          lt-leb (numberOf s) 1022 (omega arith),
+        )
+
+-- the counters matter to 1021 and 1022 alone
+pub unnamed-layout : (k n m n′ m′ : ℕ) → 1022 < k → layoutOf k n m ≡ layoutOf k n′ m′
+unfolding layoutOf
+unnamed-layout k n m n′ m′ h = rw (ne-eqb k 1021 (λ e. omega arith), ne-eqb k 1022 (λ e. omega arith))
+
+-- ---- refusals
+
+pub refusal-is : (s : List ℕ) → refusal s ≡ cond (eqb (first (headTests s)) 0) (refusalOf (layout s) s) (first (headTests s))
+unfolding refusal refusalOf
+refusal-is s = first-append (headTests s) (readTests (layout s) s) tt
+
+pub refused-head : (s : List ℕ) (h : ℕ) → h ≡ first (headTests s) → (h ≡ 0 → ⊥) → h ≡ refusal s
+refused-head s h e f = rw (refusal-is s, ← e, ne-eqb h 0 f)
+
+pub head-passed : (s : List ℕ) → first (headTests s) ≡ 0 → refusal s ≡ refusalOf (layout s) s
+head-passed s e = rw (refusal-is s, e)
+
+pub accepted-head : (s : List ℕ) → refusal s ≡ 0 → first (headTests s) ≡ 0
+accepted-head s e = by (first (headTests s)) (eqb (first (headTests s)) 0) refl (sym (refusal-is s) ∙ e)
+  where
+    by : (n : ℕ) (b : Bool) → eqb n 0 ≡ b → cond b (refusalOf (layout s) s) n ≡ 0 → n ≡ 0
+    by n true f h = eqb-true n 0 f
+    by n false f h = h
+
+pub no-row : (s : List ℕ) → (refusal s ≡ 0 → ⊥) → row s ≡ []
+unfolding row
+no-row s f = rw (ne-eqb (refusal s) 0 f)
+
+pub row-of : (s : List ℕ) → refusal s ≡ 0 → row s ≡ decodeAll (layout s) 0 s
+unfolding row
+row-of s e = rw e

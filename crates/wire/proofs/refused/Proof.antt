@@ -1,0 +1,13 @@
+-- `message::refused` meets its contract.
+-- Assumes nothing.
+use mathlib.Core.Path.{refl}
+use Rattle.arith.specs.Row.{padded}
+use Rattle.wire.proofs.refused.Statement.{statement}
+use Rattle.wire.proofs.refused.Tie as tie
+
+returns : tie.Need-returns
+unfolding padded
+returns c = (refl, (refl, refl))
+
+pub refused-spec : {M : Type 1} → statement M
+refused-spec = tie.close (tie.spec returns)
