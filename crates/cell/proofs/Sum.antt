@@ -1,19 +1,18 @@
--- Bounds of weights, of the weighted sum and of its parts, and the signed division that gives the nearest whole number.
+-- Bounds of weights, of the weighted sum and of its parts, and the nearest whole number by quotient and rest.
 -- Assumes nothing.
 use mathlib.Core.Path.{_≡_, refl, sym, ap, _∙_, subst}
-use Prim.Native.Nat.{ℕ, zero, suc, _+_, _*_, _-_, _/_, _≤_}
-use native.Mathlib.Nat.{mul-le-mul, mul-le-mul-left, le-trans, zero-div, mul-pos}
+use Prim.Native.Nat.{ℕ, _+_, _*_, _-_, _/_, _%_, _≤_, _<_}
+use native.Mathlib.Nat.{mul-le-mul, mul-le-mul-left, le-trans, mul-pos, mod-lt, div-add-mod', div-eq-of-lt-le}
 use native.Mathlib.Omega.{arith}
-use lib.Dec.{ltb→lt}
+use borrow.Author.Tests.{le-ltb}
 use lib.IntN.{ℤ, pos, negsuc, negℤ, natAbs, _+ℤ_, _-ℤ_, _*ℤ_}
-use lib.Signed.{_≤ℤ_, _<ℤ_, quotZ}
-use Rattle.arith.proofs.Int.{ring, at, nat, minus, _⊟_, _⊠_, abs-add, abs-mul}
+use Rattle.arith.proofs.Int.{abs-add, abs-mul}
 use mir.Syntax.{w64}
 use mir.Val.{Fits}
 use Rattle.bilinear.specs.Bilinear.{nearestWhole}
 use Rattle.bilinear.proofs.Bounds.{weighted-bound, nearest-bound}
 use Rattle.cell.specs.Cell.{sumOf}
-use Rattle.cell.specs.Private.{Within, Most}
+use Rattle.cell.specs.Private.{Within, Most, withSign}
 use Rattle.cell.specs.declared.Corners.{Corners}
 
 pub product : (a b : ℕ) → a ≤ 40950000 → b ≤ 40950000 → a * b ≤ 1676902500000000
@@ -88,19 +87,21 @@ module _ {h w y x : ℕ} (p : Within h w y x) where
     pub near-most : natAbs (nearestWhole (sumOf f h w y x n) (h * w)) ≤ 2560
     near-most = nearest-bound _ (h * w) 2560 (mul-pos (p .high .0) (p .wide .0)) sum-most
 
--- ---- the division of the code, toward zero, by twice the area
+-- ---- the nearest whole number, by its sign and its size
 
-quot-neg : (k m : ℕ) → quotZ (negℤ (pos k)) (pos m) ≡ negℤ (pos (k / m))
-quot-neg zero m = ap pos (zero-div m) ∙ sym (ap (λ (n : ℕ). negℤ (pos n)) (zero-div m))
-quot-neg (suc k) m = refl
-
-pub nearest-below : (s : ℤ) (d : ℕ) → s <ℤ pos 0 → quotZ (pos 2 *ℤ s -ℤ pos d) (pos 2 *ℤ pos d) ≡ nearestWhole s d
+pub nearest-size : (s : ℤ) (d : ℕ) → nearestWhole s d ≡ withSign s ((2 * natAbs s + d) / (2 * d))
 unfolding nearestWhole
-nearest-below (pos n) d h = absurd (omega (arith, ltb→lt n 0 (h .lt)))
-nearest-below (negsuc n) d h =
-    ap (λ (z : ℤ). quotZ z (pos (2 * d))) (ring (nat 2 ⊠ at (negsuc n) ⊟ nat d) (minus (nat (2 * suc n + d))) (omega arith)) ∙ quot-neg (2 * suc n + d) (2 * d)
+nearest-size (pos n) d = rw (le-ltb n 0 (omega arith))
+nearest-size (negsuc n) d = refl
 
-pub nearest-above : (s : ℤ) (d : ℕ) → pos 0 ≤ℤ s → quotZ (pos 2 *ℤ s +ℤ pos d) (pos 2 *ℤ pos d) ≡ nearestWhole s d
-unfolding nearestWhole
-nearest-above (pos n) d h = refl
-nearest-above (negsuc n) d h = absurd (h .le)
+module _ (s d : ℕ) (h : 0 < d) where
+  parts : s / d * d + s % d ≡ s
+  parts = div-add-mod' s d
+
+  -- a rest of half an area or more
+  pub half-up : d ≤ 2 * (s % d) → (2 * s + d) / (2 * d) ≡ s / d + 1
+  half-up l = div-eq-of-lt-le (2 * d) (omega (arith, parts)) (omega (arith, parts, mod-lt s h))
+
+  -- a smaller one
+  pub half-down : 2 * (s % d) < d → (2 * s + d) / (2 * d) ≡ s / d
+  half-down l = div-eq-of-lt-le (2 * d) (omega (arith, parts)) (omega (arith, parts))

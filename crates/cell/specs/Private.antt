@@ -1,7 +1,9 @@
 -- What the private functions ask for.
 -- Assumes nothing.
 use Prim.Native.Nat.{ℕ, _≤_, _<_}
-use lib.IntN.{natAbs}
+use mathlib.Core.Bool.{cond}
+use lib.IntN.{ℤ, pos, negℤ, natAbs}
+use lib.Signed.{ltZ}
 use Rattle.cell.specs.declared.Corners.{Corners}
 
 -- a place on or within the edges of a cell of height h and width w
@@ -17,3 +19,7 @@ pub record Most (b : ℕ) (n : Corners) : Type 0 where
   pub se : natAbs (n .se) ≤ b
   pub nw : natAbs (n .nw) ≤ b
   pub ne : natAbs (n .ne) ≤ b
+
+-- n, or its opposite where z is negative
+abbrev pub withSign : ℤ → ℕ → ℤ
+withSign z n = cond (ltZ z (pos 0)) (negℤ (pos n)) (pos n)

@@ -6,7 +6,7 @@ ghost use lib.Dec.{leb};
 ghost use lib.IntN.{pos, natAbs, _+ℤ_};
 ghost use Rattle.bilinear.specs.Bilinear.{cell, weighted, nearestWhole};
 ghost use Rattle.cell.specs.Cell.{alongOf, sumOf, placeHeld, nodesHeld, countIn};
-ghost use Rattle.cell.specs.Private.{Within, Most};
+ghost use Rattle.cell.specs.Private.{Within, Most, withSign};
 
 // Where a position stands along one direction: OUTSIDE, or 0 with the steps from the southern or western edge and the cell, 0 to 2 from there.
 pub struct Place {
@@ -21,6 +21,16 @@ pub struct Corners {
     pub se: i64,
     pub nw: i64,
     pub ne: i64,
+}
+
+// The number without its sign.
+pub fn magnitude(z: i64) -> u64
+    ensures { λ r. ⌜ r ≡ natAbs z ⌝ }
+{
+    if z < 0 {
+        return (-1 - z) as u64 + 1;
+    }
+    z as u64
 }
 
 // The number without its sign is at most the bound.
@@ -109,16 +119,29 @@ fn weighted_sum(h: u64, w: u64, y: u64, x: u64, sw: i64, se: i64, nw: i64, ne: i
     (u * v) as i64 * sw + (x * v) as i64 * se + (u * y) as i64 * nw + (x * y) as i64 * ne
 }
 
-// The whole number nearest to sum / area, halves away from zero.
+// n, or its opposite where z is negative.
+fn with_sign(z: i64, n: u64) -> i64
+    requires { ⌜ n ≤ 4611686018427387904 ⌝ }
+    ensures { λ r. ⌜ r ≡ withSign z n ⌝ }
+{
+    if z < 0 {
+        return 0 - n as i64;
+    }
+    n as i64
+}
+
+// The whole number nearest to sum / area. The sign is set apart, and half an area or more counts as a whole one: so halves go away from zero.
 fn nearest_to(sum: i64, area: u64) -> i64
     requires { ⌜ (natAbs sum ≤ 2560 * 1676902500000000) × (0 < area) × (area ≤ 1676902500000000) ⌝ }
     ensures { λ r. ⌜ r ≡ nearestWhole sum area ⌝ }
 {
-    let d = area as i64;
-    if sum < 0 {
-        return (2 * sum - d) / (2 * d);
+    let size = magnitude(sum);
+    let whole = size / area;
+    let rest = size % area;
+    if area <= 2 * rest {
+        return with_sign(sum, whole + 1);
     }
-    (2 * sum + d) / (2 * d)
+    with_sign(sum, whole)
 }
 
 // The count: the mean, and the whole number nearest to the exact weighted mean of the nodes.

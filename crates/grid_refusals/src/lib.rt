@@ -10,22 +10,12 @@ ghost use Rattle.arith.specs.First.{first};
 ghost use Rattle.arith.specs.Whole.{sameZ};
 ghost use Rattle.grid_refusals.specs.Refusals.{side, originAvailable, beyond, fieldTests};
 
-// The number without its sign.
-fn magnitude(z: i64) -> u64
-    ensures { λ r. ⌜ r ≡ natAbs z ⌝ }
-{
-    if z < 0 {
-        return (-1 - z) as u64 + 1;
-    }
-    z as u64
-}
-
 // COMPONENT, POSITION, or 0.
 fn position_refusal(component: u8, number: i64, north: i64, east: i64) -> u8
     ensures { λ r. ⌜ r ≡ first ((8, ltb 2 component) ∷ (9, beyond number north east) ∷ []) ⌝ }
 {
-    let n = magnitude(north);
-    let e = magnitude(east);
+    let n = cell::magnitude(north);
+    let e = cell::magnitude(east);
     if 2 < component {
         return 8;
     }

@@ -3,6 +3,7 @@ ghost use mathlib.Core.Path.{_≡_};
 ghost use mathlib.Core.Bool.{true, false, _&&_};
 ghost use mathlib.Core.List.{[]};
 ghost use lib.Dec.{leb};
+ghost use lib.IntN.{natAbs};
 ghost use lib.Signed.{mag};
 ghost use lib.ListN.{length};
 ghost use Rattle.arith.specs.First.{first};
@@ -348,6 +349,12 @@ pub fn remove(t: &mut [u8], sin: u8, group: u8) -> u8
     ensures output { λ r. ⌜ now (t .exit) ≡ removeTable (now (t .entry)) sin group ⌝ }
 {
     table::remove(t, sin, group)
+}
+
+pub fn cell_magnitude(z: i64) -> u64
+    ensures { λ r. ⌜ r ≡ natAbs z ⌝ }
+{
+    cell::magnitude(z)
 }
 
 pub fn along(difference: i64, spacing: u64) -> cell::Place

@@ -1,60 +1,75 @@
--- `cell::nearest_to` meets its contract: twice the sum and the area stay below 2 ^ 63.
+-- `cell::nearest_to` meets its contract: quotient and rest of the size, and one comparison that decides the half.
 -- Assumes nothing.
-use mathlib.Core.Path.{_∙_}
-use Prim.Native.Nat.{_*_, _<_}
+use mathlib.Core.Path.{_≡_, sym, ap, _∙_}
+use Prim.Native.Nat.{ℕ, _+_, _*_, _/_, _%_, _^_, _≤_, _<_}
+use lib.Signed.{mag}
 use native.Mathlib.Omega.{arith}
-use lib.Dec.{lt→ltb}
+use native.Mathlib.Nat.{mod-lt, div-le-self}
+use lib.IntN.{ℤ, natAbs}
 use borrow.Author.Needs.{needs}
-use Rattle.cell.proofs.Sum.{nearest-below, nearest-above}
-use Rattle.arith.proofs.Machine.{Num, arg, cast, lit, add, sub, mul, div, fits, above-zero, less, not-less}
+use mir.Syntax.{w64}
+use mir.Val.{SFits, toZ, ofZ}
+use Rattle.arith.proofs.Back.{held}
+use Rattle.arith.proofs.Machine.{is-back}
+use Rattle.bilinear.specs.Bilinear.{nearestWhole}
+use Rattle.cell.specs.Private.{withSign}
+use Rattle.cell.proofs.Sum.{nearest-size, half-up, half-down}
 use Rattle.cell.proofs.nearest_to.Statement.{statement}
 use Rattle.cell.proofs.nearest_to.Tie as tie
 
--- the steps of the code
-module _ (c : tie.Start) where
-  abbrev sum : Num
-  sum = arg (c .args .sum) (2560 * 1676902500000000) (c .pre .0) tt
+-- the size of the sum
+module _ (k : tie.After-magnitude) where
+  size : k .magnitude .result ≡ natAbs (k .before .args .sum)
+  size = k .magnitude .ensures ∙ ap natAbs (is-back (k .before .fits .sum))
 
-  abbrev area : Num
-  area = cast (c .args .area) 1676902500000000 (c .pre .2) tt
+  size-most : k .magnitude .result ≤ 2560 * 1676902500000000
+  size-most = omega (arith, size, k .before .pre .0)
 
-  abbrev twice : Num
-  twice = mul (lit 2 tt) sum tt
+  rest-less : k .magnitude .result % k .before .args .area < k .before .args .area
+  rest-less = mod-lt (k .magnitude .result) (k .before .pre .1)
 
-  abbrev divisor : Num
-  divisor = mul (lit 2 tt) area tt
+  whole-most : k .magnitude .result / k .before .args .area ≤ 2560 * 1676902500000000
+  whole-most = omega (arith, div-le-self (k .magnitude .result) (k .before .args .area), size-most)
 
-  abbrev below : Num
-  below = sub twice area tt
+-- the rounded size with the sign of the sum
+back : (sum : ℤ) (area : ℕ) → SFits w64 sum → {r : ℤ} {n k : ℕ} → n ≡ natAbs sum → mag r < 2 ^ 63 → r ≡ withSign (toZ w64 (ofZ w64 sum)) k → k ≡ (2 * n + area) / (2 * area) → toZ w64 (ofZ w64 r) ≡ nearestWhole sum area
+back sum area f {r} {n} {k} s o e q =
+    held r o ∙ e ∙ (λ i. withSign (is-back f i) (q i)) ∙ ap (λ (m : ℕ). withSign sum ((2 * m + area) / (2 * area))) s ∙ sym (nearest-size sum area)
 
-  abbrev above : Num
-  above = add twice area tt
+mul-if1 : tie.Need-mul-if1
+mul-if1 c = record { fits = omega (arith, rest-less c, c .before .pre .2) }
 
-  some : 0 < mir.Val.ofZ mir.Syntax.w64 (divisor .m)
-  some = above-zero divisor (record { lt = lt→ltb 0 (2 * c .args .area) (omega (arith, c .pre .1)) })
+add-with-sign : tie.Need-add-with-sign
+add-with-sign c = record { fits = omega (arith, whole-most (c .before)) }
+
+with-sign-requires : tie.Need-with-sign-requires
+with-sign-requires c κs = omega (arith, whole-most (c .before))
 
 returns : tie.Need-returns
 returns c =
-    let s = c .before in
-    div (below s) (divisor s) tt .held ∙ nearest-below (s .args .sum) (s .args .area) (less (sum s) (lit 0 tt) (c .if1 .taken))
+    let k = c .before .before in
+    let a = k .before .args in
+    back (a .sum) (a .area) (k .before .fits .sum) (size k) (c .with-sign .ok) (c .with-sign .ensures) (sym (half-up (k .magnitude .result) (a .area) (k .before .pre .1) (c .before .if1 .taken)))
+
+with-sign-requires-2 : tie.Need-with-sign-requires-2
+with-sign-requires-2 c κs = omega (arith, whole-most (c .before))
 
 returns-2 : tie.Need-returns-2
 returns-2 c =
-    let s = c .before in
-    div (above s) (divisor s) tt .held ∙ nearest-above (s .args .sum) (s .args .area) (not-less (sum s) (lit 0 tt) (c .if1 .left))
+    let k = c .before .before in
+    let a = k .before .args in
+    back (a .sum) (a .area) (k .before .fits .sum) (size k) (c .with-sign2 .ok) (c .with-sign2 .ensures) (sym (half-down (k .magnitude .result) (a .area) (k .before .pre .1) (c .before .if1 .left)))
 
 pub nearest-to-spec : {M : Type 1} → statement M
 nearest-to-spec =
     tie.close
     (tie.spec
+    (λ c κs. search needs)
     (λ c. search needs)
-    (λ c. fits (twice (c .before)))
-    (λ c. fits (below (c .before)))
-    (λ c. fits (divisor (c .before)))
-    (λ c. (some (c .before), fits (div (below (c .before)) (divisor (c .before)) tt)))
+    (λ c. search needs)
+    mul-if1
+    add-with-sign
+    with-sign-requires
     returns
-    (λ c. fits (twice (c .before)))
-    (λ c. fits (above (c .before)))
-    (λ c. fits (divisor (c .before)))
-    (λ c. (some (c .before), fits (div (above (c .before)) (divisor (c .before)) tt)))
+    with-sign-requires-2
     returns-2)

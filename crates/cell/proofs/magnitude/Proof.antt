@@ -1,4 +1,4 @@
--- `grid_refusals::magnitude` meets its contract.
+-- `cell::magnitude` meets its contract.
 -- Assumes nothing.
 use mathlib.Core.Path.{_≡_}
 use native.Mathlib.Nat.{not-suc-le-zero}
@@ -9,8 +9,8 @@ use mathlib.Core.Bool.{true}
 use lib.IntN.{ℤ, pos, negsuc, natAbs}
 use lib.Signed.{ltZ, mag}
 use Rattle.field.proofs.Sign.{bits-z, flipped, flipped-z, kept}
-use Rattle.grid_refusals.proofs.magnitude.Statement.{statement}
-use Rattle.grid_refusals.proofs.magnitude.Tie as tie
+use Rattle.cell.proofs.magnitude.Statement.{statement}
+use Rattle.cell.proofs.magnitude.Tie as tie
 
 below : (z : ℤ) → ltZ z (pos 0) ≡ true → mag z + 1 ≡ natAbs z
 below (pos n) t = absurd (not-suc-le-zero (ltb-true n 0 t))
