@@ -93,6 +93,8 @@ tarnoklej_written tarnoklej_write_fields(const int64_t *fields, size_t count, ui
 /* Gives the shift of a component at a position from a message 1023 or 1024, by bilinear interpolation: the mean
  * and the whole count nearest to the exact weighted mean of the cell's nodes, halves away from zero.
  * A position is in steps of 0.0001 arc second (1023) or 1 mm (1024), north and east positive.
+ * For 1023 the difference of longitudes to the grid's origin is taken the short way round, so a grid may lie across
+ * 180 degrees, and -180 and +180 degrees get the same answer.
  * The count over 100,000 is arc seconds, over 10,000 metres (see the components above).
  * Refusals in order: SHORT, NUMBER, LENGTH, FILL, RANGE, KIND, COMPONENT, POSITION, OFF, METHOD, ORIGIN, SPACING,
  * OUTSIDE, ABSENT.

@@ -1,4 +1,4 @@
-//! Two drawings: the grid with the weights of a cell, and the rounding on both sides of zero.
+//! Three drawings: the grid with the weights of a cell, the rounding on both sides of zero, and a grid across 180 degrees.
 
 use std::fmt::Write;
 use std::path::Path;
@@ -64,6 +64,17 @@ impl Drawing {
         writeln!(
             self.body,
             "<circle cx=\"{x}\" cy=\"{y}\" r=\"{radius}\" fill=\"{fill}\" stroke=\"{rim}\" stroke-width=\"1.5\"/>"
+        )
+        .expect("a string takes all");
+    }
+
+    /// Adds a part of a circle, drawn counterclockwise from one place to another.
+    fn arc(&mut self, from: (i32, i32), to: (i32, i32), radius: i32, more_than_half: bool, colour: &str, dashed: bool) {
+        let dash = if dashed { " stroke-dasharray=\"5 4\"" } else { "" };
+        let ((x1, y1), (x2, y2), large) = (from, to, i32::from(more_than_half));
+        writeln!(
+            self.body,
+            "<path d=\"M {x1} {y1} A {radius} {radius} 0 {large} 0 {x2} {y2}\" fill=\"none\" stroke=\"{colour}\" stroke-width=\"2.5\"{dash}/>"
         )
         .expect("a string takes all");
     }
@@ -298,9 +309,100 @@ fn rounding() -> String {
     drawing.file("Rounding of the exact mean of the nodes")
 }
 
-/// Writes both drawings into a folder.
+/// The middle of the drawn earth and its radius.
+const EARTH: (i32, i32, i32) = (190, 225, 100);
+
+/// A place some pixels right of and below the middle of the drawn earth.
+fn on_earth(right: i32, below: i32) -> (i32, i32) {
+    (EARTH.0 + right, EARTH.1 + below)
+}
+
+/// The earth from above the north pole, with both ways from the origin to the rover.
+fn draw_ways_round(drawing: &mut Drawing) {
+    drawing.words((190, 78), 14, INK, Stand::Middle, "The earth from above the north pole,");
+    drawing.words((190, 96), 14, GREY, Stand::Middle, "angles near 180° drawn larger");
+    drawing.disc(on_earth(0, 0), EARTH.2, "#f4f7fa", INK);
+    drawing.disc(on_earth(0, 0), 3, INK, INK);
+    drawing.line(on_earth(0, 0), on_earth(0, 128), GREY, 1.2, true);
+    drawing.words(on_earth(0, -108), 13, INK, Stand::Middle, "0°");
+    drawing.words(on_earth(-108, 5), 13, INK, Stand::End, "90°");
+    drawing.words(on_earth(108, 5), 13, INK, Stand::Start, "−90°");
+    drawing.words(on_earth(0, 146), 13, INK, Stand::Middle, "180° and −180°");
+    drawing.arc(on_earth(40, 69), on_earth(-40, 69), 80, true, GREY, true);
+    drawing.line(on_earth(40, 69), on_earth(46, 57), GREY, 2.5, false);
+    drawing.line(on_earth(40, 69), on_earth(53, 67), GREY, 2.5, false);
+    drawing.words(on_earth(0, -38), 14, GREY, Stand::Middle, "as plain numbers");
+    drawing.words(on_earth(0, -18), 14, GREY, Stand::Middle, "359.80° west");
+    drawing.arc(on_earth(-50, 87), on_earth(50, 87), 100, false, BLUE, false);
+    drawing.disc(on_earth(50, 87), 5, BLUE, BLUE);
+    draw_cross(drawing, on_earth(-50, 87));
+    drawing.words(on_earth(-60, 108), 13, BLUE, Stand::End, "origin 179.95°");
+    drawing.words(on_earth(60, 108), 13, BLUE, Stand::Start, "rover −179.85°");
+}
+
+/// The sign of an origin.
+fn draw_cross(drawing: &mut Drawing, (x, y): (i32, i32)) {
+    drawing.line((x - 9, y), (x + 9, y), BLUE, 2.5, false);
+    drawing.line((x, y - 9), (x, y + 9), BLUE, 2.5, false);
+}
+
+/// The left edge, the upper edge, and the spacings east and north of the grid drawn across 180 degrees.
+const ACROSS: (i32, i32, i32, i32) = (440, 135, 96, 60);
+
+/// The grid with its columns on both sides of 180 degrees, and the short way from the origin to the rover.
+fn draw_grid_across(drawing: &mut Drawing) {
+    let (left, top, wide, high) = ACROSS;
+    let (right, bottom) = (left + 3 * wide, top + 3 * high);
+    let meridian = left + wide + 3 * wide / 4;
+    drawing.words(((left + right) / 2, 82), 14, INK, Stand::Middle, "The grid on the map, east to the right");
+    drawing.area((meridian, top), (right - meridian, bottom - top), PARTS[2]);
+    for i in 0..4 {
+        drawing.line((left, top + i * high), (right, top + i * high), INK, 1.2, false);
+        drawing.line((left + i * wide, top), (left + i * wide, bottom), INK, 1.2, false);
+    }
+    (0..16).for_each(|node| drawing.disc((left + node % 4 * wide, top + node / 4 * high), 5, "white", INK));
+    for (i, longitude) in ["179.65°", "179.85°", "−179.95°", "−179.75°"].into_iter().enumerate() {
+        drawing.words((left + i as i32 * wide, bottom + 26), 13, INK, Stand::Middle, longitude);
+    }
+    drawing.line((meridian, top - 16), (meridian, bottom + 10), GREY, 1.5, true);
+    drawing.words((meridian, top - 22), 13, INK, Stand::Middle, "180° and −180°");
+    let (origin, rover, middle) = (left + 3 * wide / 2, left + 5 * wide / 2, top + 3 * high / 2);
+    drawing.line((origin, middle), (rover, middle), BLUE, 2.5, false);
+    drawing.line((rover - 6, middle), (rover - 16, middle - 6), BLUE, 2.5, false);
+    drawing.line((rover - 6, middle), (rover - 16, middle + 6), BLUE, 2.5, false);
+    drawing.disc((rover, middle), 5, BLUE, BLUE);
+    draw_cross(drawing, (origin, middle));
+    drawing.words((origin, middle + 24), 13, BLUE, Stand::Middle, "origin");
+    drawing.words((rover, middle + 24), 13, BLUE, Stand::Middle, "rover");
+    drawing.words((left + 2 * wide + 6, middle - 12), 13, BLUE, Stand::Start, "0.20° east");
+    drawing.area((left, bottom + 46), (16, 16), PARTS[2]);
+    drawing.words((left + 24, bottom + 59), 13, GREY, Stand::Start, "as plain numbers this part would be OUTSIDE");
+}
+
+/// The drawing of a grid across 180 degrees.
+fn antimeridian() -> String {
+    let mut drawing = Drawing::new(540);
+    let title = "Grid across 180 degrees: the difference of longitudes is taken the short way round";
+    drawing.words((30, 36), 18, INK, Stand::Start, title);
+    draw_ways_round(&mut drawing);
+    draw_grid_across(&mut drawing);
+    let lines = [
+        ("Rover minus origin as plain numbers:", "−179.85° − 179.95° = −359.80°"),
+        ("Brought by one whole turn:", "−359.80° + 360° = 0.20°"),
+        ("The same in steps of 0.0001″:", "−12,952,800,000 + 12,960,000,000 = 7,200,000"),
+        ("Every difference is brought to:", "at least −6,480,000,000 and less than 6,480,000,000"),
+    ];
+    for (i, (words, numbers)) in lines.into_iter().enumerate() {
+        drawing.words((60, 440 + 24 * i as i32), 14, INK, Stand::Start, words);
+        drawing.words((330, 440 + 24 * i as i32), 14, BLUE, Stand::Start, numbers);
+    }
+    drawing.file("Grid across 180 degrees")
+}
+
+/// Writes the drawings into a folder.
 pub fn write(dir: &Path) -> std::io::Result<()> {
     std::fs::create_dir_all(dir)?;
     std::fs::write(dir.join("grid.svg"), grid())?;
-    std::fs::write(dir.join("rounding.svg"), rounding())
+    std::fs::write(dir.join("rounding.svg"), rounding())?;
+    std::fs::write(dir.join("antimeridian.svg"), antimeridian())
 }

@@ -1,4 +1,4 @@
-//! The shift at a position from a grid message, by exact whole numbers (document 01, "The grid").
+//! The shift at a position from a grid message, by exact whole numbers (document 01, "The grid"; document 02, A2).
 
 use crate::fields::by_df;
 use crate::message::{read, Message};
@@ -18,6 +18,8 @@ pub struct Plan {
     pub steps: i128,
     /// The greatest position north and east without sign, in steps.
     pub farthest: [i128; 2],
+    /// Steps east in a whole turn, where positions east are longitudes.
+    pub turn: Option<i128>,
     /// Counts in one raw unit of each mean.
     pub mean_factor: [i128; 3],
     /// Counts in one raw unit of each node.
@@ -32,6 +34,7 @@ pub const ELLIPSOIDAL: Plan = Plan {
     node: [199, 200, 201],
     steps: 5_000,
     farthest: [3_240_000_000, 6_480_000_000],
+    turn: Some(12_960_000_000),
     mean_factor: [100, 100, 100],
     node_factor: [3, 3, 10],
 };
@@ -44,6 +47,7 @@ pub const PLANE: Plan = Plan {
     node: [209, 210, 211],
     steps: 10_000,
     farthest: [1_000_000_000_000, 1_000_000_000_000],
+    turn: None,
     mean_factor: [100, 100, 100],
     node_factor: [10, 10, 10],
 };
@@ -99,7 +103,7 @@ fn count(message: &Message, plan: &Plan, component: usize, position: [i128; 2]) 
         return Err(Refusal::Spacing);
     }
     let origin = plan.origin.map(|df| message.value(df) as i128 * plan.steps);
-    let cells = cells_at(origin, spacing, position).ok_or(Refusal::Outside)?;
+    let cells = cells_at(spacing, differences(plan, origin, position)).ok_or(Refusal::Outside)?;
     let mean = message.value(plan.mean[component]);
     if absent(plan.mean[component], mean) {
         return Err(Refusal::Absent);
@@ -122,10 +126,21 @@ struct Cell {
     inside: [i128; 2],
 }
 
-/// All cells that hold the position on or within their edges, or none where it is outside the grid.
-fn cells_at(origin: [i128; 2], spacing: [i128; 2], position: [i128; 2]) -> Option<Vec<Cell>> {
-    let rows = intervals_at(origin[0], spacing[0], position[0]);
-    let columns = intervals_at(origin[1], spacing[1], position[1]);
+/// The steps north and east from the origin to the position, a difference of longitudes being brought by whole turns.
+fn differences(plan: &Plan, origin: [i128; 2], position: [i128; 2]) -> [i128; 2] {
+    let [north, east] = [0, 1].map(|axis| position[axis] - origin[axis]);
+    [north, plan.turn.map_or(east, |turn| by_whole_turns(east, turn))]
+}
+
+/// A difference brought by whole turns to at least minus half a turn and less than half a turn (document 02, A2).
+pub fn by_whole_turns(difference: i128, turn: i128) -> i128 {
+    let half = turn / 2;
+    (difference + half).rem_euclid(turn) - half
+}
+
+/// All cells that hold a position on or within their edges, given by its differences, or none where it is outside.
+fn cells_at(spacing: [i128; 2], difference: [i128; 2]) -> Option<Vec<Cell>> {
+    let [rows, columns] = [0, 1].map(|axis| intervals_at(spacing[axis], difference[axis]));
     let mut cells = Vec::new();
     for &(row, y) in &rows {
         for &(column, x) in &columns {
@@ -135,11 +150,11 @@ fn cells_at(origin: [i128; 2], spacing: [i128; 2], position: [i128; 2]) -> Optio
     (!cells.is_empty()).then_some(cells)
 }
 
-/// The intervals between neighbouring lines that hold a position, each with the steps from its lower end.
-fn intervals_at(origin: i128, spacing: i128, position: i128) -> Vec<(usize, i128)> {
-    let lowest = origin - 3 * spacing / 2;
+/// The intervals between neighbouring lines that hold a difference, each with the steps from its lower end.
+fn intervals_at(spacing: i128, difference: i128) -> Vec<(usize, i128)> {
+    let lowest = -3 * spacing / 2;
     (0..3)
-        .map(|index| (index, position - (lowest + index as i128 * spacing)))
+        .map(|index| (index, difference - (lowest + index as i128 * spacing)))
         .filter(|&(_, above)| 0 <= above && above <= spacing)
         .collect()
 }

@@ -2,6 +2,9 @@
 
 use crate::samples::Sample;
 
+/// 180 degrees in steps of 1023.
+pub const HALF_TURN: i64 = 6_480_000_000;
+
 /// A grid message with its parts at hand.
 #[derive(Clone)]
 pub struct Grid {
@@ -120,11 +123,21 @@ impl Grid {
         self.spacing_fields().map(|df| self.sample.row[self.sample.place(df)] * self.unit())
     }
 
+    /// The position some steps north and east of another, a longitude past 180 degrees being named from the other side.
+    pub fn moved(&self, [north, east]: [i64; 2], [north_steps, east_steps]: [i64; 2]) -> [i64; 2] {
+        let east = match east + east_steps {
+            sum if self.ellipsoidal() && sum > HALF_TURN => sum - 2 * HALF_TURN,
+            sum if self.ellipsoidal() && sum < -HALF_TURN => sum + 2 * HALF_TURN,
+            sum => sum,
+        };
+        [north + north_steps, east]
+    }
+
     /// The position of a node in steps, nodes being numbered from 1 in rows from the north.
     pub fn at_node(&self, node: usize) -> [i64; 2] {
         let halves_north = 3 - 2 * ((node as i64 - 1) / 4);
         let halves_east = 2 * ((node as i64 - 1) % 4) - 3;
         let [high, wide] = self.spacing();
-        [self.origin()[0] + halves_north * high / 2, self.origin()[1] + halves_east * wide / 2]
+        self.moved(self.origin(), [halves_north * high / 2, halves_east * wide / 2])
     }
 }

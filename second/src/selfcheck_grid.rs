@@ -1,16 +1,28 @@
 //! The second program's own checks of the shift.
 
 use crate::fields::by_df;
-use crate::grid::{answer, nearest, shift, Answer, Plan, ELLIPSOIDAL, PLANE};
-use crate::gridsamples::Grid;
+use crate::grid::{answer, by_whole_turns, nearest, shift, Answer, Plan, ELLIPSOIDAL, PLANE};
+use crate::gridsamples::{Grid, HALF_TURN};
 use crate::random::Random;
 use crate::refusal::Refusal;
 use crate::selfcheck::{billionths, Group};
+use crate::vectors::antimeridian::random_grid_across;
 use crate::vectors::shifts::random_grid;
 
 /// All groups of checks of the shift.
 pub fn groups() -> Vec<Group> {
-    vec![factors(), worked(), second_answer(), rounding(), at_nodes(), bounded_change()]
+    vec![
+        factors(),
+        worked(),
+        second_answer(),
+        rounding(),
+        whole_turns(),
+        both_names_of_the_meridian(),
+        same_elsewhere(),
+        plane_is_not_turned(),
+        at_nodes(),
+        bounded_change(),
+    ]
 }
 
 /// The unit of a number as printed.
@@ -123,6 +135,110 @@ fn rounding() -> Group {
     group
 }
 
+/// A difference of longitudes is brought to at least -6,480,000,000 and less than 6,480,000,000.
+fn whole_turns() -> Group {
+    let mut group = Group::new("differences brought by whole turns");
+    group.equal("turn of 1023", ELLIPSOIDAL.turn, Some(12_960_000_000));
+    group.equal("turn of 1024", PLANE.turn, None);
+    let turned = |difference: i128| by_whole_turns(difference, 12_960_000_000);
+    let cases = [
+        (0, 0),
+        (1, 1),
+        (-1, -1),
+        (6_479_999_999, 6_479_999_999),
+        (6_480_000_000, -6_480_000_000),
+        (6_480_000_001, -6_479_999_999),
+        (-6_480_000_000, -6_480_000_000),
+        (-6_480_000_001, 6_479_999_999),
+        (12_959_999_999, -1),
+        (12_960_000_000, 0),
+        (-12_960_000_000, 0),
+        (-12_959_999_999, 1),
+    ];
+    for (difference, expected) in cases {
+        group.equal("difference", turned(difference), expected);
+    }
+    let mut random = Random::new(23);
+    for _ in 0..1_000 {
+        let difference = random.within(-12_960_000_000, 12_960_000_000) as i128;
+        let brought = turned(difference);
+        let in_reach = (-6_480_000_000..6_480_000_000).contains(&brought);
+        group.check(in_reach && (brought - difference) % 12_960_000_000 == 0, || format!("{difference} to {brought}"));
+    }
+    group
+}
+
+/// Longitudes -180 and +180 degrees get the same answer or refusal on every grid, whatever else is asked for.
+fn both_names_of_the_meridian() -> Group {
+    let mut group = Group::new("-180 and +180 degrees");
+    let mut random = Random::new(24);
+    for turn in 0..600 {
+        let grid = match turn % 6 {
+            0 => random_grid(&mut random, 1023),
+            1 => random_grid_across(&mut random).set(193, 1_296_000),
+            2 => random_grid_across(&mut random).set(193, -1_296_000),
+            _ => random_grid_across(&mut random),
+        };
+        let high = grid.spacing()[0];
+        let north = grid.origin()[0] + random.within(-2 * high, 2 * high);
+        for component in 0..4 {
+            let at = |east: i64| shift(&grid.bytes(), component, north, east);
+            group.equal("answer", at(-HALF_TURN), at(HALF_TURN));
+            group.equal("past it", (at(-HALF_TURN - 1), at(HALF_TURN + 1)), (at(i64::MIN), at(i64::MAX)));
+        }
+    }
+    group
+}
+
+/// A grid answers the same at the same steps from its origin, whether it lies across 180 degrees or not.
+fn same_elsewhere() -> Group {
+    let mut group = Group::new("grids across 180 degrees as elsewhere");
+    let mut random = Random::new(25);
+    let negated = Grid::k().set_nodes(|component, node| -Grid::k().node(component, node));
+    for grid in [Grid::k(), negated, Grid::k().set_node(2, 7, -256)] {
+        for longitude in [1_296_000, -1_296_000, 1_295_640, -1_294_921] {
+            let across = grid.set(193, longitude);
+            for node in 1..=16 {
+                for step in [0, 1, 179_999, 180_000, 180_001] {
+                    let [north, east] = grid.moved(grid.at_node(node), [0, step]);
+                    let [same_north, turned_east] = across.moved(across.at_node(node), [0, step]);
+                    let expected = shift(&grid.bytes(), 2, north, east);
+                    group.equal("grid K", shift(&across.bytes(), 2, same_north, turned_east), expected);
+                }
+            }
+        }
+    }
+    for _ in 0..600 {
+        let across = random_grid_across(&mut random);
+        let [high, wide] = across.spacing();
+        let steps = [random.within(-2 * high, 2 * high), random.within(-2 * wide, 2 * wide)];
+        let elsewhere = across.set(193, random.within(-1_200_000, 1_200_000));
+        for component in 0..3 {
+            let at = |grid: &Grid| {
+                let [north, east] = grid.moved(grid.origin(), steps);
+                shift(&grid.bytes(), component, north, east)
+            };
+            group.equal("random grid", at(&across), at(&elsewhere));
+        }
+    }
+    group
+}
+
+/// Eastings of 1024 are compared as they are, a turn of 1023 apart being outside.
+fn plane_is_not_turned() -> Group {
+    let mut group = Group::new("1024 is not turned");
+    for raw in [0, 648_000, 1_296_000, 67_108_863] {
+        let grid = Grid::of(1024, [0, raw], [4_095, 4_095], [1, 2, 3], |_, _| 0);
+        let east = grid.origin()[1];
+        group.equal("middle", shift(&grid.bytes(), 2, 0, east), Ok(300));
+        for turns in [-2, -1, 1, 2] {
+            let at = shift(&grid.bytes(), 2, 0, east + turns * 2 * HALF_TURN);
+            group.equal("turned", at, Err(Refusal::Outside));
+        }
+    }
+    group
+}
+
 /// At a node the shift is mean and node alone.
 fn at_nodes() -> Group {
     let mut group = Group::new("shifts at nodes");
@@ -157,21 +273,23 @@ fn greatest_differences(grid: &Grid, component: usize, factor: i64) -> [i128; 2]
     most.map(|difference| (difference * factor) as i128)
 }
 
-/// Demand 3's bound on the difference of two answers, over random pairs of positions.
+/// Demand 3's bound on the difference of two answers, over random pairs of positions, steps being read between differences.
 fn bounded_change() -> Group {
     let mut group = Group::new("the bound on the difference of two answers");
     let mut random = Random::new(22);
-    for number in [1023, 1024].repeat(150) {
-        let grid = random_grid(&mut random, number).set_nodes(|_, _| random.within(-255, 255));
+    for (turn, number) in [1023, 1024, 1023].repeat(150).into_iter().enumerate() {
+        let across = turn % 3 == 2;
+        let grid = if across { random_grid_across(&mut random) } else { random_grid(&mut random, number) };
+        let grid = grid.set_nodes(|_, _| random.within(-255, 255));
         let [high, wide] = grid.spacing();
-        let [north, east] = grid.origin();
         for component in 0..3 {
             let factor = if number == 1023 && component < 2 { 3 } else { 10 };
             let [column, row] = greatest_differences(&grid, component, factor);
             let mut at = || {
                 let y = random.within(-3 * high / 2, 3 * high / 2);
                 let x = random.within(-3 * wide / 2, 3 * wide / 2);
-                (y, x, shift(&grid.bytes(), component as u8, north + y, east + x).expect("inside, all present"))
+                let [north, east] = grid.moved(grid.origin(), [y, x]);
+                (y, x, shift(&grid.bytes(), component as u8, north, east).expect("inside, all present"))
             };
             let (a, b) = (at(), at());
             let (h, w) = (high as i128, wide as i128);

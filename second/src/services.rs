@@ -1,4 +1,4 @@
-//! Four made-up services, sound and as a bad modem leaves them.
+//! Five made-up services, sound and as a bad modem leaves them.
 
 use crate::fields::{by_df, Field};
 use crate::samples::Sample;
@@ -114,6 +114,8 @@ const GRS80: [i64; 2] = [8_137_000, 6_752_314];
 const BESSEL: [i64; 2] = [7_397_155, 6_078_963];
 /// International 1924 as add a and add b in millimetres.
 const INTERNATIONAL: [i64; 2] = [8_388_000, 6_911_946];
+/// Krassowsky 1940 as add a and add b in millimetres.
+const KRASSOWSKY: [i64; 2] = [8_245_000, 6_863_019];
 /// 21 May 2007 as a Modified Julian Day.
 const DAY: i64 = 54_241;
 
@@ -259,9 +261,45 @@ fn oblique_mercator() -> Service {
     }
 }
 
-/// The four services.
+/// A service whose grid lies across 180 degrees.
+#[rustfmt::skip]
+fn across_the_antimeridian() -> Service {
+    let m1021 = message(1021, ["4936", "4284"], &[
+        (147, 55), (148, 0b1010000000), (149, 9), (150, 0), (151, 1),
+        (152, 128_250), (153, 323_910), (154, 1_800), (155, 3_600),
+        (156, -25_110), (157, 141_260), (158, 78_600),
+        (159, 2_150), (160, -17_300), (161, -40_950), (162, -25_000),
+        (166, GRS80[0]), (167, GRS80[1]), (168, KRASSOWSKY[0]), (169, KRASSOWSKY[1]),
+        (214, 4), (215, 4),
+    ], &[]);
+    let m1023 = message(1023, ["", ""], &[
+        (147, 55), (190, 1), (191, 1),
+        (192, 513_000), (193, 1_295_640), (194, 720), (195, 1_440),
+        (196, -9), (197, 23), (198, 318),
+        (216, 3), (217, 3), (51, DAY),
+    ], &[
+        (199, [-31, -22, -14, -3, -24, -17, -6, 4, -15, -8, 2, 13, -9, 1, 10, 19]),
+        (200, [44, 37, 25, 16, 39, 30, 21, 9, 33, 22, 13, 3, 24, 15, 6, -5]),
+        (201, [120, 88, 51, 23, 97, 60, 28, -9, 66, 35, -2, -40, 41, 7, -31, -64]),
+    ]);
+    let m1025 = message(1025, ["", ""], &[
+        (147, 55), (170, 1), (171, 0), (172, angle(1_770_000_000)),
+        (173, 700_000_000), (174, 30_500_000_000), (175, 0),
+    ], &[]);
+    let damages = vec![
+        (1021, Damage::Cut(31)), (1021, Damage::Burst(18, 3)), (1023, Damage::Bit(55)), (1023, Damage::Lost(8)),
+        (1023, Damage::Fill), (1025, Damage::Bit(31)), (1025, Damage::Ones(20)),
+    ];
+    Service {
+        folder: "e-across-the-antimeridian",
+        about: "A linear Helmert step (1021, DF150 0) to a Pulkovo-1942-like datum, a grid in arc seconds from 179.65 to -179.75 degrees of longitude (1023) and a Gauss-Krueger zone (1025, Transverse Mercator).",
+        files: files(vec![(1021, m1021), (1023, m1023), (1025, m1025)], damages),
+    }
+}
+
+/// The five services.
 pub fn services() -> Vec<Service> {
-    vec![helmert(), molodenski_badekas(), heights_only(), oblique_mercator()]
+    vec![helmert(), molodenski_badekas(), heights_only(), oblique_mercator(), across_the_antimeridian()]
 }
 
 /// Writes every service as a folder of files.

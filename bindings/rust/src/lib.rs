@@ -155,7 +155,9 @@ pub fn write_fields(fields: &[i64], out: &mut [u8]) -> Result<usize, Refusal> {
 
 /// Gives the shift of a component at a position from a message 1023 or 1024, in counts.
 ///
-/// A position is in steps of 0.0001 arc second (1023) or 1 mm (1024).
+/// A position is in steps of 0.0001 arc second (1023) or 1 mm (1024), north and east positive.
+/// For 1023 the difference of longitudes to the grid's origin is taken the short way round, so a grid may lie across
+/// 180 degrees, and -180 and +180 degrees get the same answer.
 /// The count over 100,000 is arc seconds, over 10,000 metres; see [`NORTH_SOUTH`], [`EAST_WEST`] and [`HEIGHT`].
 ///
 /// Refusals: SHORT, NUMBER, LENGTH, FILL, RANGE, KIND, COMPONENT, POSITION, OFF, METHOD, ORIGIN, SPACING, OUTSIDE,

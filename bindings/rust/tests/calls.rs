@@ -12,6 +12,9 @@ const NODE_6: (i64, i64) = (1_765_800_000, 394_200_000);
 /// Node 16 of grid K in steps.
 const NODE_16: (i64, i64) = (1_758_600_000, 401_400_000);
 
+/// 180 degrees in steps.
+const HALF_TURN: i64 = 6_480_000_000;
+
 /// The row of grid K with all height nodes times a factor.
 fn grid_k_row(factor: i64) -> Vec<i64> {
     let mut row = vec![1023, 7, 0, 1, 352_800, 79_200, 720, 720, 0, 0, 4_692];
@@ -83,6 +86,24 @@ fn worked_shifts_are_answered() {
     assert_eq!(height(&k, moved(NODE_6, 0, 180_000)), Ok(469_261));
     assert_eq!(height(&k, moved(NODE_6, 0, 179_999)), Ok(469_260));
     assert_eq!(height(&negated, moved(NODE_6, 0, 180_000)), Ok(469_139));
+}
+
+#[test]
+fn a_grid_across_180_degrees_is_answered_on_both_sides() {
+    let mut row = grid_k_row(1);
+    for (longitude, meridian) in [(1_296_000, 469_285), (-1_296_000, 469_285), (1_295_640, 469_290)] {
+        row[5] = longitude;
+        let across = written(&row);
+        assert_eq!(height(&across, (MIDDLE.0, HALF_TURN)), Ok(meridian));
+        assert_eq!(height(&across, (MIDDLE.0, -HALF_TURN)), Ok(meridian));
+        assert_eq!(height(&across, (MIDDLE.0, HALF_TURN + 1)), Err(Refusal::Position));
+    }
+    // The grid's middle is at 179.95 degrees and its eastern edge at -179.9.
+    let across = written(&row);
+    assert_eq!(height(&across, (NODE_16.0, 3_600_000 - HALF_TURN)), Ok(469_360));
+    assert_eq!(height(&across, (NODE_16.0, 3_600_001 - HALF_TURN)), Err(Refusal::Outside));
+    assert_eq!(height(&across, (NODE_1.0, HALF_TURN - 7_200_000)), Ok(469_210));
+    assert_eq!(height(&across, (NODE_1.0, HALF_TURN - 7_200_001)), Err(Refusal::Outside));
 }
 
 #[test]
@@ -174,7 +195,7 @@ fn sound_services() -> Vec<Vec<u8>> {
 #[test]
 fn services_are_read_written_and_stored() {
     let messages = sound_services();
-    assert_eq!(messages.len(), 12);
+    assert_eq!(messages.len(), 15);
     let mut table = [0; TABLE_SIZE];
     for message in &messages {
         let header = read(message).expect("a sound message");

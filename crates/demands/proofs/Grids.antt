@@ -2,27 +2,32 @@
 -- Assumes nothing.
 use Prim.Native.Nat.{ℕ, _+_, _-_, _*_}
 use native.Mathlib.Nat.{mul-pos}
-use mathlib.Core.Path.{_≡_, refl, sym, ap, _∙_}
-use mathlib.Core.Bool.{not, _||_}
+use mathlib.Core.Path.{_≡_, refl, sym, ap, subst, _∙_}
+use mathlib.Core.Bool.{Bool, true, not, cond, _||_}
 use mathlib.Core.List.{List, [], _∷_, _++_}
 use mathlib.Core.Logic.{_⊎_, inl, inr}
-use lib.IntN.{ℤ, pos, _+ℤ_, _*ℤ_}
+use lib.IntN.{ℤ, pos, negℤ, _+ℤ_, _*ℤ_}
+use lib.Signed.{_≤ℤ_, _<ℤ_}
+use Rattle.arith.specs.Whole.{sameZ}
 use Rattle.arith.specs.First.{first}
 use Rattle.grid_records.specs.declared.Grid.{Grid}
 use Rattle.grid_records.specs.declared.Shifts.{Shifts}
-use Rattle.grid_records.specs.Grids.{gridRow}
+use Rattle.grid_records.specs.Grids.{gridOf, gridRow}
 use Rattle.wire.specs.Message.{kindRefusal}
 use Rattle.message.specs.Kinds.{readGrid}
 use Rattle.bilinear.specs.Bilinear.{outside, cell, inCell, exact, absentIn, absent, interpolated, nearestWhole, LipschitzBound}
 use Rattle.bilinear.proofs.Nearest.{nearest-close, nearest-half, nearest-only}
 use Rattle.bilinear.proofs.Unweighted.{absent-same, sum-same}
 use Rattle.grid.specs.declared.Shift.{Shift}
-use Rattle.grid_refusals.specs.Refusals.{available, fieldTests}
-use Rattle.grid.specs.Shift.{nodeFactor, surface, northOf, eastOf, outcome, shiftWith, recordShiftRefusal, shiftRefusal, recordShift, messageShift}
+use Rattle.grid_refusals.specs.Refusals.{ellipsoidal, available, fieldTests}
+use Rattle.grid.specs.Shift.{nodeFactor, surface, northOf, byTurns, eastBy, eastOf, outcome, shiftWith, recordShiftRefusal, shiftRefusal, recordShift, messageShift}
 use Rattle.grid.proofs.Accepted.{message-grid, held-is-written}
 use Rattle.grid.proofs.Lipschitz.{lipschitz-message, spaced, counted, east-steps}
+use Rattle.wire.proofs.Trips.{row-number}
+use Rattle.grid.proofs.Antimeridian.{turnsOf, turned-same, turned-low, turned-high, turned-only}
+use Rattle.grid.proofs.BothSides.{plane, both-sides}
 use Rattle.grid.proofs.Calls.{shared-answer, calls-agree, count-lossless, sum-below-limit}
-use Rattle.demands.specs.Grids.{gridAt, surfaceAt, northSteps, eastSteps, withNodes, AnsweredAt, exactAt, GridAnswer, SharedEdges, BothCalls, HeldIsWritten, SameWeighted, OnlyWeighted, Lossless, SumBound, AllPresent, stepsNorth, stepsEast, Lipschitz, PlainSteps}
+use Rattle.demands.specs.Grids.{gridAt, surfaceAt, northSteps, eastSteps, withNodes, AnsweredAt, exactAt, GridAnswer, SharedEdges, BothCalls, HeldIsWritten, SameWeighted, OnlyWeighted, Lossless, SumBound, AllPresent, stepsNorth, stepsEast, Lipschitz, PlainSteps, plainEast, EastTurned, BothSides}
 
 -- the refusal answered is the one defined
 refusal-is : (s : List ℕ) (c : ℕ) (n e : ℤ) → AnsweredAt s c n e → shiftRefusal s c n e ≡ 0
@@ -121,4 +126,29 @@ lipschitz-answers s c n₁ e₁ n₂ e₂ a b p q t u v =
     rw (p, q) r
 
 pub plain-steps : PlainSteps
-plain-steps s a b = east-steps (gridAt s) a b
+unfolding gridOf
+plain-steps s a b e k = east-steps (gridAt s) a b (plane (gridAt s .number) (row-number s e ∙ k))
+
+-- ---- across the antimeridian
+
+one-turn : (g : Grid) (e : ℤ) (b : Bool) → b ≡ true → (x : ℤ) → byTurns x ≡ cond b (byTurns x) x
+one-turn g e b t x = rw t
+
+pub east-turned : EastTurned
+unfolding eastOf sameZ
+east-turned g e q =
+    let z = plainEast g e in
+    let is : byTurns z ≡ eastBy (g .number) z = one-turn g e (ellipsoidal (g .number)) (rw q) z in
+    record {
+      turned =
+          record {
+            turns = turnsOf z;
+            same = sym is ∙ turned-same z;
+            low = subst (λ (r : ℤ). negℤ (pos 6480000000) ≤ℤ r) is (turned-low z);
+            high = subst (λ (r : ℤ). r <ℤ pos 6480000000) is (turned-high z);
+          };
+      only = λ r t. turned-only z (t .turns) r (t .same) (t .low) (t .high) ∙ is;
+    }
+
+pub both-answers : BothSides
+both-answers s c n m = both-sides s c n m

@@ -12,7 +12,7 @@ use Rattle.row.specs.Numbers.{pairAt}
 use Rattle.wire.specs.Layouts.{layoutOf, layout1021, tail1021, layout1023}
 use Rattle.wire.specs.Message.{layout, refusal, row}
 use Rattle.bilinear.specs.Bilinear.{nearestWhole, fromEdge, outside, cell, weighted, inCell, exact, interpolated, lacks, absentIn, absent}
-use Rattle.grid.specs.Shift.{surface, northOf, eastOf, shiftRefusal, answerOf, outcome, shiftWith, messageShift}
+use Rattle.grid.specs.Shift.{surface, northOf, byTurns, eastOf, shiftRefusal, answerOf, outcome, shiftWith, messageShift}
 use Rattle.demands.specs.Worked.{gridK, gridKNegated, gridKNode7, gridKNorth0, gridKEast0, gridKBoth0, answerTo, table, given, wanted, WorkedNumbers, WorkedMetres, GridsRead, GridKPresent}
 use Rattle.demands.specs.Grids.{surfaceAt}
 
@@ -46,9 +46,9 @@ grid-k-present =
     row3 = four (λ (j : ℕ). surfaceAt gridK 2 .present 3 j ≡ true) refl refl refl refl
 
 pub worked-numbers : WorkedNumbers
-unfolding gridK gridKNegated gridKNode7 gridKNorth0 gridKEast0 gridKBoth0 table given wanted answerTo refusal row layout layoutOf layout1021 tail1021 layout1023 total zeroFrom decodeAll allTake takes field bitAt twos gridOf pairAt placeAt shiftsAt nodesAt surface northOf eastOf shiftRefusal answerOf outcome shiftWith messageShift nearestWhole fromEdge outside cell weighted inCell exact interpolated lacks absentIn absent sameZ
+unfolding gridK gridKNegated gridKNode7 gridKNorth0 gridKEast0 gridKBoth0 table given wanted answerTo refusal row layout layoutOf layout1021 tail1021 layout1023 total zeroFrom decodeAll allTake takes field bitAt twos gridOf pairAt placeAt shiftsAt nodesAt surface northOf byTurns eastOf shiftRefusal answerOf outcome shiftWith messageShift nearestWhole fromEdge outside cell weighted inCell exact interpolated lacks absentIn absent sameZ
 worked-numbers = refl
 
 pub worked-metres : WorkedMetres
-unfolding gridK refusal row layout layoutOf layout1023 total zeroFrom decodeAll allTake takes field bitAt twos gridOf pairAt placeAt shiftsAt nodesAt surface northOf eastOf shiftRefusal answerOf outcome shiftWith messageShift nearestWhole fromEdge outside cell weighted inCell exact interpolated lacks absentIn absent sameZ
+unfolding gridK refusal row layout layoutOf layout1023 total zeroFrom decodeAll allTake takes field bitAt twos gridOf pairAt placeAt shiftsAt nodesAt surface northOf byTurns eastOf shiftRefusal answerOf outcome shiftWith messageShift nearestWhole fromEdge outside cell weighted inCell exact interpolated lacks absentIn absent sameZ
 worked-metres = refl

@@ -6,18 +6,19 @@ use mathlib.Core.Bool.{true, false}
 use mathlib.Core.List.{List}
 use mathlib.Core.Logic.{_⊎_}
 use lib.Dec.{eqb}
-use lib.IntN.{ℤ, pos, natAbs, _+ℤ_, _-ℤ_, _*ℤ_}
+use lib.IntN.{ℤ, pos, negℤ, natAbs, _+ℤ_, _-ℤ_, _*ℤ_}
+use lib.Signed.{_≤ℤ_, _<ℤ_}
 use lib.Ieee.{binary64, ofInt, toSigned}
 use Rattle.arith.specs.First.{first}
 use Rattle.arith.specs.Row.{at}
 use Rattle.grid_records.specs.declared.Grid.{Grid}
 use Rattle.grid_records.specs.declared.Shifts.{Shifts}
 use Rattle.grid_records.specs.Grids.{gridOf, gridRow}
-use Rattle.wire.specs.Message.{row}
+use Rattle.wire.specs.Message.{numberOf, refusal, row}
 use Rattle.wire.specs.Message.{kindWriteRefusal}
 use Rattle.message.specs.Kinds.{readGrid, gridHeld}
 use Rattle.bilinear.specs.Bilinear.{Surface, gap, fromEdge, outside, cell, exact, LipschitzBound}
-use Rattle.grid.specs.Shift.{nodeRaw, surface, northOf, eastOf, inCellShift, recordShift, messageShift}
+use Rattle.grid.specs.Shift.{stepsOf, nodeRaw, surface, northOf, eastOf, inCellShift, recordShift, messageShift}
 use Rattle.grid_refusals.specs.Refusals.{fieldTests}
 
 -- the grid of a message, and one component of it
@@ -131,7 +132,7 @@ SumBound = (s : List ℕ) (c : ℕ) (n e : ℤ) → AnsweredAt s c n e → 2 * n
 abbrev pub AllPresent : List ℕ → ℕ → Type 0
 AllPresent s c = (i j : ℕ) → i < 4 → j < 4 → surfaceAt s c .present i j ≡ true
 
--- "steps between positions are taken without sign"; steps east are read between the differences from the origin
+-- "steps between positions are taken without sign"; "the steps east in demand 3 are read between these differences"
 abbrev pub stepsNorth : ℤ → ℤ → ℕ
 stepsNorth a b = gap a b
 
@@ -144,6 +145,31 @@ Lipschitz =
     (s : List ℕ) (c : ℕ) → AllPresent s c → (n₁ e₁ n₂ e₂ : ℤ) → AnsweredAt s c n₁ e₁ → AnsweredAt s c n₂ e₂
     → LipschitzBound (surfaceAt s c) (messageShift s c n₁ e₁ .count) (messageShift s c n₂ e₂ .count) (stepsNorth n₁ n₂) (stepsEast s e₁ e₂)
 
--- the steps east are those between the positions
+-- "1024 is as before": its steps east are those between the positions
 abbrev pub PlainSteps : Type 0
-PlainSteps = (s : List ℕ) (a b : ℤ) → stepsEast s a b ≡ gap a b
+PlainSteps = (s : List ℕ) (a b : ℤ) → refusal s ≡ 0 → numberOf s ≡ 1024 → stepsEast s a b ≡ gap a b
+
+-- ---- the difference east of 1023, across the antimeridian
+
+-- "rover minus origin", as plain numbers
+abbrev pub plainEast : Grid → ℤ → ℤ
+plainEast g e = e -ℤ pos (stepsOf (g .number)) *ℤ g .origin .east
+
+-- r is z "brought by whole turns of 12,960,000,000 steps to at least -6,480,000,000 and less than 6,480,000,000"
+pub record Turned (z r : ℤ) : Type 0 where
+  pub turns : ℤ
+  pub same : r ≡ z +ℤ turns *ℤ pos 12960000000
+  pub low : negℤ (pos 6480000000) ≤ℤ r
+  pub high : r <ℤ pos 6480000000
+
+-- the difference that is used is that number, and there is only one
+pub record OneTurn (g : Grid) (e : ℤ) : Type 0 where
+  pub turned : Turned (plainEast g e) (eastOf g e)
+  pub only : (r : ℤ) → Turned (plainEast g e) r → r ≡ eastOf g e
+
+abbrev pub EastTurned : Type 0
+EastTurned = (g : Grid) (e : ℤ) → g .number ≡ pos 1023 → OneTurn g e
+
+-- "Longitudes -180° and +180° then get the same answer": of every message that is not a 1024, refusals too
+abbrev pub BothSides : Type 0
+BothSides = (s : List ℕ) (c : ℕ) (n : ℤ) → (numberOf s ≡ 1024 → ⊥) → messageShift s c n (pos 6480000000) ≡ messageShift s c n (negℤ (pos 6480000000))

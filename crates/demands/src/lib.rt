@@ -4,7 +4,7 @@ ghost use mathlib.Core.Path.{_≡_};
 ghost use mathlib.Core.List.{List};
 ghost use Rattle.demands.specs.Messages.{Bytes, FirstThatApplies, CounterCut, AcceptedLengths, SinFound, ReportedLength, MessageAgain, RowAgain, RecordsAgain, RecordsBack};
 ghost use Rattle.demands.specs.Worked.{WorkedNumbers, WorkedMetres, GridsRead, GridKPresent};
-ghost use Rattle.demands.specs.Grids.{GridAnswer, SharedEdges, BothCalls, HeldIsWritten, OnlyWeighted, Lossless, SumBound, AllPresent, surfaceAt, stepsNorth, stepsEast, Lipschitz, PlainSteps};
+ghost use Rattle.demands.specs.Grids.{GridAnswer, SharedEdges, BothCalls, HeldIsWritten, OnlyWeighted, Lossless, SumBound, AllPresent, surfaceAt, stepsNorth, stepsEast, Lipschitz, PlainSteps, EastTurned, BothSides};
 ghost use Rattle.bilinear.specs.Bilinear.{LipschitzBound};
 ghost use Rattle.grid.specs.Shift.{messageShift};
 ghost use Rattle.demands.specs.Tables.{LikeADictionary, LastStored, NoGroup, ZeroBytes, StaysFormed, RefusedKeeps};
@@ -55,6 +55,12 @@ pub fn shifts()
 pub fn lipschitz()
     ensures bound { λ r. ⌜ Lipschitz ⌝ }
     ensures steps { λ r. ⌜ PlainSteps ⌝ }
+{}
+
+// Longitudes across the antimeridian: the difference from the origin that is used, and the same answer on both sides.
+pub fn antimeridian()
+    ensures turned { λ r. ⌜ EastTurned ⌝ }
+    ensures sides { λ r. ⌜ BothSides ⌝ }
 {}
 
 // The answers to two positions.

@@ -1,22 +1,23 @@
 -- An accepted grid message or record has its fields within their ranges, and the refusals of the two public functions are those of the parts.
 -- Assumes nothing.
-use mathlib.Core.Path.{_≡_, refl, sym, _∙_, subst}
-use mathlib.Core.Bool.{Bool, true, false, not, cond, _&&_}
+use mathlib.Core.Path.{_≡_, refl, sym, ap, _∙_, subst}
+use mathlib.Core.Bool.{Bool, true, false, not, cond, _&&_, _||_}
 use mathlib.Core.List.{List, [], _∷_, _++_, append-assoc}
 use mathlib.Core.Logic.{_⊎_, inl, inr}
 use Prim.Native.Nat.{ℕ, zero, suc, _+_, _*_, _/_, _≤_, _<_, _^_}
 use native.Mathlib.Nat.{le-trans, not-suc-le-zero, le-of-suc-le-suc, eq-or-lt-of-le}
 use native.Mathlib.Omega.{arith}
-use borrow.Author.Tests.{eq-eqb, ltb-true, leb-true, le-leb, le-ltb}
+use borrow.Author.Tests.{eq-eqb, eqb-true, ltb-true, leb-true, le-leb, le-ltb}
 use lib.Dec.{T, eqb, ltb, leb, leb→le}
 use lib.IntN.{ℤ, pos, negsuc, natAbs}
 use lib.ListN.{length, getD, take, length-append}
 use Rattle.arith.specs.First.{Test, first}
 use Rattle.arith.specs.Row.{at}
-use Rattle.arith.specs.Whole.{natural}
+use Rattle.arith.specs.Whole.{natural, sameZ}
+use Rattle.arith.proofs.Whole.{eqZ-true}
 use Rattle.arith.proofs.First.{passed, not-false}
 use Rattle.arith.proofs.Tests.{false-ne-true, both-first, both-second}
-use Rattle.layout.specs.Layout.{allTake, takes, fits, signed, width, int, size, total}
+use Rattle.layout.specs.Layout.{allTake, takes, fits, signed, width, int, intTo, size, total}
 use Rattle.layout.proofs.Loop.{take-length}
 use Rattle.layout.proofs.Round.{of-true, accepted}
 use Rattle.grid_records.specs.declared.Grid.{Grid}
@@ -32,6 +33,7 @@ use Rattle.wire.proofs.Head.{head-passed, accepted-head, row-of}
 use Rattle.wire.proofs.Rows.{length-row}
 use Rattle.wire.proofs.Trips.{row-layout-of, row-number}
 use Rattle.grid.specs.Shift.{part, nodeRaw, gridTests, recordShiftRefusal, shiftRefusal}
+use Rattle.grid_refusals.specs.Refusals.{ellipsoidal, available}
 use Rattle.grid.specs.Private.{Fields}
 use Rattle.arith.proofs.First.{stops, goes-on, passes}
 
@@ -118,8 +120,19 @@ by-number P k lo hi p q = by (eq-or-lt-of-le lo)
     by (inl e) = subst P e p
     by (inr l) = let e : 1024 ≡ k = omega arith in subst P e q
 
-abbrev Held : Grid → List ℕ → Type 0
-Held g es = allTake es (gridRow g) ≡ true → Fields g
+abbrev Held : Grid → ℕ → List ℕ → Type 0
+Held g k es = natural (g .number) ≡ k → allTake es (gridRow g) ≡ true → Fields g
+
+-- an available longitude of the origin is within its declared range
+in-turn : (z : ℤ) → takes (intTo 22 1296000) z ≡ true → available 22 z ≡ true → natAbs z ≤ 1296000
+unfolding takes sameZ
+in-turn (pos n) h a = leb-true n 1296000 (both-second (fits true 22 (pos n)) (leb n 1296000) h)
+in-turn (negsuc n) h a =
+    by (leb (suc n) 1296000) refl (both-second (fits true 22 (negsuc n)) (leb (suc n) 1296000 || eqb (suc n) (2 ^ 22 / 2)) h)
+  where
+    by : (b : Bool) → leb (suc n) 1296000 ≡ b → (b || eqb (suc n) (2 ^ 22 / 2)) ≡ true → suc n ≤ 1296000
+    by true e t = leb-true (suc n) 1296000 e
+    by false e t = let m : n ≡ 2097151 = omega (arith, eqb-true (suc n) (2 ^ 22 / 2) t) in absurd (false-ne-true (rw m at a))
 
 -- the eleven fields before the nodes, and the nodes
 module _ (g : Grid) (a : List ℕ) (l : length a ≡ 11) (h : allTake (a ++ points) (gridRow g) ≡ true) where
@@ -161,36 +174,44 @@ Upto es i b = T (leb (cond (signed (getD es i 0)) (2 ^ width (getD es i 0) / 2) 
 -- the bounds of a record by any layout of its kind: eleven entries, and the points
 fields-by : (g : Grid) (a : List ℕ) → length a ≡ 11 → 11 ≤ length (a ++ points)
     → Upto (a ++ points) 4 67108864 → Upto (a ++ points) 5 67108864 → getD (a ++ points) 6 0 ≡ 12 → getD (a ++ points) 7 0 ≡ 12
-    → Upto (a ++ points) 8 16384 → Upto (a ++ points) 9 16384 → Upto (a ++ points) 10 16384 → Held g (a ++ points)
+    → Upto (a ++ points) 8 16384 → Upto (a ++ points) 9 16384 → Upto (a ++ points) 10 16384
+    → (takes (getD (a ++ points) 5 0) (g .origin .east) ≡ true → ellipsoidal (g .number) ≡ true → available 22 (g .origin .east) ≡ true → natAbs (g .origin .east) ≤ 1296000)
+    → allTake (a ++ points) (gridRow g) ≡ true → Fields g
 unfolding gridRow pairRow placeRow shiftsRow
-fields-by g a l m north east rows columns p q r h =
+fields-by g a l m north east rows columns p q r turn h =
     let t : (i : ℕ) → i < length (a ++ points) → takes (getD (a ++ points) i 0) (at (gridRow g) i) ≡ true = takes-at (a ++ points) (gridRow g) h in
     record {
       north = bounded _ (g .origin .north) 67108864 (t 4 (omega arith)) north;
       east = bounded _ (g .origin .east) 67108864 (t 5 (omega arith)) east;
       rows = spaced (g .spacing .north) (subst (λ (e : ℕ). takes e (g .spacing .north) ≡ true) rows (t 6 (omega arith)));
       columns = spaced (g .spacing .east) (subst (λ (e : ℕ). takes e (g .spacing .east) ≡ true) columns (t 7 (omega arith)));
+      longitude = turn (t 5 (omega arith));
       mean =
           part-most (g .mean) 16384 (bounded _ (g .mean .north) 16384 (t 8 (omega arith)) p) (bounded _ (g .mean .east) 16384 (t 9 (omega arith)) q)
           (bounded _ (g .mean .height) 16384 (t 10 (omega arith)) r);
       nodes = nodes-most g a l h;
     }
 
-fields-1023 : (g : Grid) → Held g layout1023
+fields-1023 : (g : Grid) → Held g 1023 layout1023
 unfolding layout1023
-fields-1023 g = fields-by g (take 11 layout1023) refl (omega arith) tt tt refl refl tt tt tt
+fields-1023 g e = fields-by g (take 11 layout1023) refl (omega arith) tt tt refl refl tt tt tt (λ t _. in-turn (g .origin .east) t)
 
-fields-1024 : (g : Grid) → Held g layout1024
+-- 1024 is not ellipsoidal
+plane : (z : ℤ) → natural z ≡ 1024 → ellipsoidal z ≡ true → ⊥
+unfolding sameZ
+plane z e t = let y : natural z ≡ 1023 = ap natural (eqZ-true z (pos 1023) t) in let x : _≡_ {A = ℕ} 1023 1024 = sym y ∙ e in absurd (omega arith)
+
+fields-1024 : (g : Grid) → Held g 1024 layout1024
 unfolding layout1024
-fields-1024 g = fields-by g (take 11 layout1024) refl (omega arith) tt tt refl refl tt tt tt
+fields-1024 g e = fields-by g (take 11 layout1024) refl (omega arith) tt tt refl refl tt tt tt (λ _ t. absurd (plane (g .number) e t))
 
-fields-layout : (g : Grid) (k n m : ℕ) → 1023 ≤ k → k ≤ 1024 → Held g (layoutOf k n m)
+fields-layout : (g : Grid) (k n m : ℕ) → 1023 ≤ k → k ≤ 1024 → Held g k (layoutOf k n m)
 unfolding layoutOf
-fields-layout g k n m lo hi = by-number (λ (k : ℕ). Held g (layoutOf k n m)) k lo hi (fields-1023 g) (fields-1024 g)
+fields-layout g k n m lo hi = by-number (λ (k : ℕ). Held g k (layoutOf k n m)) k lo hi (fields-1023 g) (fields-1024 g)
 
 pub fields-of : (g : Grid) → 1023 ≤ natural (g .number) → natural (g .number) ≤ 1024 → allTake (rowLayout (gridRow g)) (gridRow g) ≡ true → Fields g
 unfolding rowLayout gridRow
-fields-of g lo hi h = fields-layout g (natural (g .number)) _ _ lo hi h
+fields-of g lo hi h = fields-layout g (natural (g .number)) _ _ lo hi refl h
 
 -- ---- the refusals of a record: what `grid_held` answers, then the tests of the grid
 

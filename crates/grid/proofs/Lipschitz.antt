@@ -1,7 +1,9 @@
 -- Demand 3 of the answers given: an answer with refusal 0 is the interpolated one, inside the grid, so the bound of `bilinear` holds of it.
 -- Assumes nothing.
-use mathlib.Core.Path.{_≡_}
+use mathlib.Core.Path.{_≡_, _∙_}
 use mathlib.Core.List.{List}
+use mathlib.Core.Bool.{Bool, false, cond}
+use Rattle.grid_refusals.specs.Refusals.{ellipsoidal}
 use Prim.Native.Nat.{ℕ, _<_}
 use lib.IntN.{ℤ, pos, negℤ, _*ℤ_}
 use Rattle.arith.specs.Row.{at}
@@ -11,7 +13,7 @@ use Rattle.wire.specs.Message.{row}
 use Rattle.bilinear.specs.Bilinear.{gap, interpolated, LipschitzBound}
 use Rattle.bilinear.proofs.Gap.{gap-add}
 use Rattle.bilinear.proofs.Lipschitz.{lipschitz}
-use Rattle.grid.specs.Shift.{stepsOf, surface, northOf, eastOf, shiftRefusal, outcome, shiftWith, messageShift}
+use Rattle.grid.specs.Shift.{stepsOf, surface, northOf, byTurns, eastOf, shiftRefusal, outcome, shiftWith, messageShift}
 use Rattle.grid.proofs.Parts.{Answered, answered, spacings}
 use Rattle.grid.proofs.Accepted.{message-none, message-fields}
 
@@ -33,14 +35,18 @@ module _ (s : List ℕ) (c : ℕ) (n e : ℤ) (h : shiftRefusal s c n e ≡ 0) w
 
 -- ---- the bound
 
--- a difference position minus origin changes as the position does
+-- the difference north changes as the position does
 pub north-steps : (g : Grid) (a b : ℤ) → gap (northOf g a) (northOf g b) ≡ gap a b
 unfolding northOf
 north-steps g a b = gap-add a b (negℤ (pos (stepsOf (g .number)) *ℤ g .origin .north))
 
-pub east-steps : (g : Grid) (a b : ℤ) → gap (eastOf g a) (eastOf g b) ≡ gap a b
+-- and so does that of plain eastings
+plain : (b : Bool) (x y : ℤ) → b ≡ false → gap (cond b (byTurns x) x) (cond b (byTurns y) y) ≡ gap x y
+plain b x y e = rw e
+
+pub east-steps : (g : Grid) (a b : ℤ) → ellipsoidal (g .number) ≡ false → gap (eastOf g a) (eastOf g b) ≡ gap a b
 unfolding eastOf
-east-steps g a b = gap-add a b (negℤ (pos (stepsOf (g .number)) *ℤ g .origin .east))
+east-steps g a b p = plain (ellipsoidal (g .number)) _ _ p ∙ gap-add a b (negℤ (pos (stepsOf (g .number)) *ℤ g .origin .east))
 
 -- of the answers to any two positions of one component of one message
 pub lipschitz-message : (s : List ℕ) (c : ℕ) (n₁ e₁ n₂ e₂ : ℤ) → shiftRefusal s c n₁ e₁ ≡ 0 → shiftRefusal s c n₂ e₂ ≡ 0

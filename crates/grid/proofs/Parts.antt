@@ -11,12 +11,12 @@ use lib.Dec.{T, eqb, ltb, lit≤}
 use lib.IntN.{ℤ, pos, negsuc, natAbs, _+ℤ_, _*ℤ_}
 use Rattle.arith.specs.First.{Test, first}
 use Rattle.arith.specs.Whole.{natural, sameZ}
-use Rattle.arith.proofs.First.{passed, or-false, stops, goes-on, passes}
-use Rattle.arith.proofs.Tests.{false-ne-true}
+use Rattle.arith.proofs.First.{passed, not-false, or-false, stops, goes-on, passes}
+use Rattle.arith.proofs.Tests.{false-ne-true, both-second}
 use Rattle.grid_records.specs.declared.Grid.{Grid}
 use Rattle.bilinear.specs.Bilinear.{nearestWhole, fromEdge, outside, cell, inCell, exact, interpolated, lacks, absent, absentIn}
 use Rattle.bilinear.proofs.Place.{steps-most, cell-le, cell-from, cell-upto}
-use Rattle.grid_refusals.specs.Refusals.{side, originAvailable, beyond, fieldTests, available}
+use Rattle.grid_refusals.specs.Refusals.{ellipsoidal, side, originAvailable, beyond, fieldTests, available}
 use Rattle.grid.specs.Shift.{stepsOf, nodeFactor, surface, northOf, eastOf, gridTests, answerOf, outcome, inCellShift, shiftWith, meanWidth, meanFactor, part}
 use Rattle.grid.specs.Private.{Fields, Placed, cornersOf, nodesLack}
 use Rattle.arith.proofs.Machine.{Num, lit, arg, mul, add}
@@ -43,6 +43,7 @@ refuses number c r count s h n = (λ i. record { refusal = h .0 i; count = h .1 
 pub record Early (g : Grid) (n e : ℤ) : Type 0 where
   pub north : natAbs n ≤ 1000000000000
   pub east : natAbs e ≤ 1000000000000
+  pub turn : ellipsoidal (g .number) ≡ true → (natAbs e ≤ 6480000000) × (available 22 (g .origin .east) ≡ true)
   pub rows : sameZ (g .spacing .north) (pos 0) ≡ false
   pub columns : sameZ (g .spacing .east) (pos 0) ≡ false
 
@@ -55,20 +56,33 @@ not-beyond false n e h =
     let t = or-false (ltb 1000000000000 n) (ltb 1000000000000 e) h in
     (ltb-false 1000000000000 n (t .0), ltb-false 1000000000000 e (t .1))
 
-two-of : (a b c d f h : Bool) → first ((8, a) ∷ (9, b) ∷ (10, c) ∷ (11, d) ∷ (12, f) ∷ (13, h) ∷ []) ≡ 0 → (b ≡ false) × (h ≡ false)
-two-of a b c d f h e =
+-- of 1023: within half a turn, with an origin
+turn-of : (b : Bool) (n e : ℕ) (x y z : Bool) → b ≡ true → cond b (ltb 3240000000 n || ltb 6480000000 e) (ltb 1000000000000 n || ltb 1000000000000 e) ≡ false → not (cond b (x && y) z) ≡ false
+    → (e ≤ 6480000000) × (y ≡ true)
+turn-of true n e x y z t h k = (ltb-false 6480000000 e (or-false (ltb 3240000000 n) (ltb 6480000000 e) h .1), both-second x y (not-false (x && y) k))
+turn-of false n e x y z t h k = absurd (false-ne-true t)
+
+three-of : (a b c d f h : Bool) → first ((8, a) ∷ (9, b) ∷ (10, c) ∷ (11, d) ∷ (12, f) ∷ (13, h) ∷ []) ≡ 0 → (b ≡ false) × ((f ≡ false) × (h ≡ false))
+three-of a b c d f h e =
     let p = passed 8 b _ (passed 7 a _ e .1) in
-    (p .0, passed 12 h _ (passed 11 f _ (passed 10 d _ (passed 9 c _ (p .1) .1) .1) .1) .0)
+    let q = passed 11 f _ (passed 10 d _ (passed 9 c _ (p .1) .1) .1) in
+    (p .0, (q .0, passed 12 h _ (q .1) .0))
 
 pub early : (g : Grid) (c : ℕ) (n e : ℤ) → first (fieldTests g c n e) ≡ 0 → Early g n e
 early g c n e h =
     let p =
-    two-of (ltb 2 c) (beyond (g .number) n e) (sameZ (side c (g .indicators)) (pos 0)) (not (sameZ (side c (g .methods)) (pos 0)))
+    three-of (ltb 2 c) (beyond (g .number) n e) (sameZ (side c (g .indicators)) (pos 0)) (not (sameZ (side c (g .methods)) (pos 0)))
     (not (originAvailable (g .number) (g .origin .north) (g .origin .east)))
     (sameZ (g .spacing .north) (pos 0) || sameZ (g .spacing .east) (pos 0)) h in
     let far = not-beyond (sameZ (g .number) (pos 1023)) (natAbs n) (natAbs e) (p .0) in
-    let some = or-false (sameZ (g .spacing .north) (pos 0)) (sameZ (g .spacing .east) (pos 0)) (p .1) in
-    record { north = far .0; east = far .1; rows = some .0; columns = some .1 }
+    let some = or-false (sameZ (g .spacing .north) (pos 0)) (sameZ (g .spacing .east) (pos 0)) (p .1 .1) in
+    record {
+      north = far .0;
+      east = far .1;
+      turn = λ t. turn-of (ellipsoidal (g .number)) (natAbs n) (natAbs e) (available 21 (g .origin .north)) (available 22 (g .origin .east)) (available 25 (g .origin .north)) t (p .0) (p .1 .0);
+      rows = some .0;
+      columns = some .1;
+    }
 
 pub above-zero : (z : ℤ) → z ≡ pos (natural z) → sameZ z (pos 0) ≡ false → 0 < natural z
 unfolding sameZ

@@ -2,7 +2,7 @@
 -- Assumes nothing.
 use mathlib.Core.Path.{_≡_}
 use mathlib.Core.List.{List}
-use mathlib.Core.Bool.{Bool, _||_}
+use mathlib.Core.Bool.{Bool, true, _||_}
 use Prim.Native.Nat.{ℕ, _+_, _-_, _*_, _≤_}
 use lib.IntN.{pos, natAbs}
 use Rattle.arith.specs.Whole.{natural}
@@ -12,7 +12,7 @@ use Rattle.bilinear.specs.Bilinear.{lacks}
 use Rattle.cell.specs.Private.{Within}
 use Rattle.cell.specs.declared.Corners.{Corners}
 use Rattle.grid.specs.Shift.{part, nodeRaw, surface}
-use Rattle.grid_refusals.specs.Refusals.{available}
+use Rattle.grid_refusals.specs.Refusals.{ellipsoidal, available}
 
 -- what the ranges of the fields say of a record that a grid message holds
 pub record Fields (g : Grid) : Type 0 where
@@ -20,6 +20,7 @@ pub record Fields (g : Grid) : Type 0 where
   pub east : natAbs (g .origin .east) ≤ 67108864
   pub rows : (g .spacing .north ≡ pos (natural (g .spacing .north))) × (natural (g .spacing .north) ≤ 4095)
   pub columns : (g .spacing .east ≡ pos (natural (g .spacing .east))) × (natural (g .spacing .east) ≤ 4095)
+  pub longitude : ellipsoidal (g .number) ≡ true → available 22 (g .origin .east) ≡ true → natAbs (g .origin .east) ≤ 1296000
   pub mean : (c : ℕ) → natAbs (part c (g .mean)) ≤ 16384
   pub nodes : (c i j : ℕ) → natAbs (nodeRaw (g .nodes) c i j) ≤ 256
 

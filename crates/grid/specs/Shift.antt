@@ -1,11 +1,11 @@
 -- The shift at a position from a grid message: document 01, "The grid" and "Refusal numbers".
 -- Assumes nothing.
-use Prim.Native.Nat.{ℕ, _+_, _*_}
+use Prim.Native.Nat.{ℕ, _+_, _-_, _*_, _%_}
 use mathlib.Core.Bool.{not, cond, _&&_, _||_}
 use mathlib.Core.List.{List, [], _∷_, _++_}
 use lib.Dec.{eqb, leb, ltb}
 use lib.Ieee.{Float, binary64, div, ofInt}
-use lib.IntN.{ℤ, pos, _+ℤ_, _-ℤ_, _*ℤ_}
+use lib.IntN.{ℤ, pos, negsuc, _+ℤ_, _-ℤ_, _*ℤ_}
 use lib.ListN.{getD}
 use Rattle.arith.specs.First.{Test, first}
 use Rattle.arith.specs.Row.{at}
@@ -63,12 +63,31 @@ surface g c =
       meanPresent = available (meanWidth (g .number) c) (part c (g .mean));
     }
 
--- the differences position minus origin, in steps
+-- the differences position minus origin, in steps: "rover minus origin"
 unfoldable pub northOf : Grid → ℤ → ℤ
 northOf g n = n -ℤ pos (stepsOf (g .number)) *ℤ g .origin .north
 
+-- a whole turn of longitudes, 360 degrees, and half of it; the remainder of z by whole turns, from 0 on
+abbrev pub turn : ℕ
+turn = 12960000000
+
+abbrev pub halfTurn : ℕ
+halfTurn = 6480000000
+
+abbrev pub withoutTurns : ℤ → ℕ
+withoutTurns (pos n) = n % turn
+withoutTurns (negsuc n) = turn - 1 - n % turn
+
+-- "brought by whole turns of 12,960,000,000 steps to at least -6,480,000,000 and less than 6,480,000,000"
+unfoldable pub byTurns : ℤ → ℤ
+byTurns z = pos (withoutTurns (z +ℤ pos halfTurn)) -ℤ pos halfTurn
+
+-- longitudes are compared across the antimeridian, eastings of 1024 as plain numbers
+abbrev pub eastBy : ℤ → ℤ → ℤ
+eastBy number d = cond (ellipsoidal number) (byTurns d) d
+
 unfoldable pub eastOf : Grid → ℤ → ℤ
-eastOf g e = e -ℤ pos (stepsOf (g .number)) *ℤ g .origin .east
+eastOf g e = eastBy (g .number) (e -ℤ pos (stepsOf (g .number)) *ℤ g .origin .east)
 
 -- ---- refusals: 8 to 13 (`fieldTests`, crate grid_refusals), then 14 OUTSIDE, 15 ABSENT
 abbrev pub gridTests : Grid → ℕ → ℤ → ℤ → List Test

@@ -4,7 +4,7 @@ use grid_records::Grid;
 use grid_records::Shifts;
 use row::Pair;
 ghost use mathlib.Core.Path.{_≡_};
-ghost use mathlib.Core.Bool.{not, cond, _||_};
+ghost use mathlib.Core.Bool.{_||_, cond, not, true};
 ghost use mathlib.Core.List.{[], _∷_};
 ghost use Prim.Native.Nat.{_*_, _≤_, _<_};
 ghost use lib.Dec.{ltb};
@@ -14,8 +14,8 @@ ghost use Rattle.arith.specs.Whole.{natural, sameZ};
 ghost use Rattle.bilinear.specs.Bilinear.{lacks};
 ghost use Rattle.cell.specs.Cell.{alongOf};
 ghost use Rattle.cell.specs.Private.{Within};
-ghost use Rattle.grid.specs.Shift.{stepsOf, part, nodeFactor, meanFactor, meanWidth, nodeRaw, gridTests, unitsOf, answerOf, outcome, inCellShift, shiftWith, recordShift, messageShift};
-ghost use Rattle.grid_refusals.specs.Refusals.{available};
+ghost use Rattle.grid.specs.Shift.{stepsOf, part, nodeFactor, meanFactor, meanWidth, nodeRaw, byTurns, eastBy, gridTests, unitsOf, answerOf, outcome, inCellShift, shiftWith, recordShift, messageShift};
+ghost use Rattle.grid_refusals.specs.Refusals.{ellipsoidal, available};
 ghost use Rattle.grid.specs.Private.{Fields, Placed, cornersOf, nodesLack};
 
 // What the add-on gets: arc seconds, metres, or the refusal number.
@@ -249,6 +249,32 @@ fn place(position: i64, origin: i64, spacing: u64, steps: u64) -> cell::Place
     cell::along(u, spacing)
 }
 
+// A difference of longitudes brought to at least minus half a turn and less than half a turn: both longitudes are within half a turn, so one turn is enough.
+fn by_turns(d: i64) -> i64
+    requires { ⌜ natAbs d ≤ 12960000000 ⌝ }
+    ensures { λ r. ⌜ r ≡ byTurns d ⌝ }
+{
+    if d < -6480000000 {
+        return d + 12960000000;
+    }
+    if d < 6480000000 {
+        return d;
+    }
+    d - 12960000000
+}
+
+// Along the east-west direction, of a message of number `kind`: by longitudes for 1023.
+fn east_place(kind: i64, position: i64, origin: i64, spacing: u64, steps: u64) -> cell::Place
+    requires { ⌜ (natAbs position ≤ 1000000000000) × (natAbs origin ≤ 67108864) × (steps ≤ 10000) × (ellipsoidal kind ≡ true → natAbs (position -ℤ pos steps *ℤ origin) ≤ 12960000000) ⌝ }
+    ensures { λ r. ⌜ r ≡ alongOf spacing (eastBy kind (position -ℤ pos steps *ℤ origin)) ⌝ }
+{
+    let u = difference(position, origin, steps);
+    if kind == 1023 {
+        return cell::along(by_turns(u), spacing);
+    }
+    cell::along(u, spacing)
+}
+
 // The shift from a record that a grid message holds.
 fn shift_in(g: Grid, component: u8, north: i64, east: i64) -> Shift
     requires { ⌜ Fields g ⌝ }
@@ -267,7 +293,7 @@ fn shift_in(g: Grid, component: u8, north: i64, east: i64) -> Shift
         return refused(14);
     }
     let w = spacing_of(spacing.east, steps);
-    let e = place(east, origin.east, w, steps);
+    let e = east_place(g.number, east, origin.east, w, steps);
     if e.refusal != 0 {
         return refused(14);
     }

@@ -23,12 +23,18 @@ pub type Compared = Result<u8, String>;
 type Single = fn(&mut Random, u64) -> Compared;
 
 /// The calls that keep nothing, with the refusal numbers each can give.
-const SINGLES: [(&str, &[u8], Single); 4] = [
+/// The last two are shift_at on grids across 180 degrees, at positions east and west of Greenwich.
+const SINGLES: [(&str, &[u8], Single); 6] = [
     ("read", &[0, 1, 2, 3, 4, 5], reading::compare_header),
     ("read_fields", &[0, 1, 2, 3, 4, 5, 6], reading::compare_row),
     ("write_fields", &[0, 5, 6], writing::compare_written),
     ("shift_at", &[0, 1, 2, 3, 4, 5, 7, 8, 9, 10, 11, 12, 13, 14, 15], shifting::compare_shift),
+    ("shift_at E180", ACROSS, shifting::compare_east_of_greenwich),
+    ("shift_at W180", ACROSS, shifting::compare_west_of_greenwich),
 ];
+
+/// The refusal numbers that a shift of a sound grid message can give.
+const ACROSS: &[u8] = &[0, 8, 9, 10, 11, 12, 13, 14, 15];
 
 /// The calls on a table, with the refusal numbers each can give.
 const ON_TABLES: [(&str, &[u8]); 3] =

@@ -3,27 +3,42 @@
 use crate::{messages, same, Compared};
 use second::fields::by_df;
 use second::grid::shift;
-use second::gridsamples::Grid;
+use second::gridsamples::{Grid, HALF_TURN};
 use second::hex::hex;
 use second::random::Random;
 use second::refusal::number_of;
 use second::samples::Sample;
+use second::vectors::antimeridian::random_grid_across;
 use second::vectors::shifts::random_grid;
 use tarnoklej::ffi;
 
 /// How many kinds of grids there are.
 const GRIDS: u64 = 12;
+/// The positions made before one on the wanted side of the meridian of 180 degrees is given up.
+const TRIES: usize = 8;
 
 /// The message number of a grid.
 fn any_number(random: &mut Random) -> u16 {
     1023 + random.below(2) as u16
 }
 
-/// A grid of one of the kinds, answered or with a reason to be refused.
+/// A grid of one of the kinds.
 fn any_grid(random: &mut Random, kind: u64) -> Grid {
     let number = any_number(random);
     let grid = random_grid(random, number);
-    match kind % GRIDS {
+    of_kind(random, grid, kind % GRIDS)
+}
+
+/// A grid of one of the kinds that lies across 180 degrees.
+fn any_grid_across(random: &mut Random, kind: u64) -> Grid {
+    let grid = random_grid_across(random);
+    of_kind(random, grid, kind % (GRIDS - 1))
+}
+
+/// A grid made one of a kind, answered or with a reason to be refused; the last kind has any fields.
+fn of_kind(random: &mut Random, grid: Grid, kind: u64) -> Grid {
+    let number = grid.sample.number;
+    match kind {
         0..=4 => grid,
         5 => grid.set(190 + random.below(2) as u16, 0),
         6 => grid.set(212 + random.below(2) as u16, random.within(1, 3)),
@@ -99,9 +114,8 @@ fn far(random: &mut Random, limit: i64) -> i64 {
 
 /// A position inside or beside the grid, one in ten at the limits.
 fn any_position(random: &mut Random, grid: &Grid) -> [i64; 2] {
-    let spacing = grid.spacing();
-    let mut position = grid.origin();
-    (0..2).for_each(|axis| position[axis] += any_offset(random, spacing[axis]));
+    let steps = grid.spacing().map(|spacing| any_offset(random, spacing));
+    let mut position = grid.moved(grid.origin(), steps);
     if random.below(10) == 0 {
         let axis = random.below(2) as usize;
         position[axis] = far(random, limits(grid)[axis]);
@@ -117,12 +131,45 @@ fn any_component(random: &mut Random) -> u8 {
     }
 }
 
+/// A position east (1) or west (-1) of Greenwich, one in twelve on the meridian of 180 degrees by that side's name.
+fn any_position_on_side(random: &mut Random, grid: &Grid, side: i64) -> [i64; 2] {
+    let [north, east] = (0..TRIES)
+        .map(|_| any_position(random, grid))
+        .find(|position| position[1].signum() == side)
+        .unwrap_or([grid.origin()[0], side * HALF_TURN]);
+    [north, if random.below(12) == 0 { side * HALF_TURN } else { east }]
+}
+
 /// Compares one shift, every fourth turn of any message and the others of a grid message.
 pub fn compare_shift(random: &mut Random, turn: u64) -> Compared {
     let grid = any_grid(random, turn / 4 * 3 + turn % 4);
-    let [north, east] = any_position(random, &grid);
+    let position = any_position(random, &grid);
     let component = any_component(random);
-    let bytes = if turn % 4 == 3 { messages::of_kind(random, turn / 4) } else { grid.bytes() }.into_boxed_slice();
+    let bytes = if turn % 4 == 3 { messages::of_kind(random, turn / 4) } else { grid.bytes() };
+    compare_at(bytes, component, position)
+}
+
+/// Compares one shift of a grid across 180 degrees, at a position east of Greenwich.
+pub fn compare_east_of_greenwich(random: &mut Random, turn: u64) -> Compared {
+    compare_across(random, turn, 1)
+}
+
+/// Compares one shift of a grid across 180 degrees, at a position west of Greenwich.
+pub fn compare_west_of_greenwich(random: &mut Random, turn: u64) -> Compared {
+    compare_across(random, turn, -1)
+}
+
+/// Compares one shift of a grid across 180 degrees, at a position on one side of Greenwich.
+fn compare_across(random: &mut Random, turn: u64, side: i64) -> Compared {
+    let grid = any_grid_across(random, turn);
+    let position = any_position_on_side(random, &grid, side);
+    let component = any_component(random);
+    compare_at(grid.bytes(), component, position)
+}
+
+/// Compares the shift of one message and component at one position.
+fn compare_at(bytes: Vec<u8>, component: u8, [north, east]: [i64; 2]) -> Compared {
+    let bytes = bytes.into_boxed_slice();
     let answer = shift(&bytes, component, north, east);
     let second = ffi::Shift { refusal: number_of(&answer), count: answer.unwrap_or(0) };
     // SAFETY: the pointer and the length are those of a slice.

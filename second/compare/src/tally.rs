@@ -40,11 +40,11 @@ fn cell(tally: &Tally, number: u8) -> String {
 
 /// The inputs of every call by refusal number, as a Markdown table.
 pub fn table(tallies: &[Tally]) -> String {
-    let heads: String = tallies.iter().map(|tally| format!(" {:>12} |", tally.name)).collect();
+    let heads: String = tallies.iter().map(|tally| format!(" {:>13} |", tally.name)).collect();
     let rules = " ---: |".repeat(tallies.len());
     let mut text = format!("| No. | Name      |{heads}\n| ---: | --- |{rules}\n");
     for number in 0..NUMBERS as u8 {
-        let cells: String = tallies.iter().map(|tally| format!(" {:>12} |", cell(tally, number))).collect();
+        let cells: String = tallies.iter().map(|tally| format!(" {:>13} |", cell(tally, number))).collect();
         text += &format!("| {number:>3} | {:<9} |{cells}\n", name_of(number));
     }
     text

@@ -1,5 +1,6 @@
 //! Cases for the proved program: lines for its standard input, and the lines it must print.
 
+pub mod antimeridian;
 mod reads;
 pub mod shifts;
 mod tables;

@@ -1,6 +1,6 @@
 //! Cases of the shift at a position.
 
-use super::Case;
+use super::{antimeridian, Case};
 use crate::grid::{answer, shift, Answer};
 use crate::gridsamples::Grid;
 use crate::hex::hex;
@@ -34,11 +34,12 @@ pub fn cases() -> Vec<Case> {
     }
     cases.extend(other_messages());
     cases.extend(service_grids());
+    cases.extend(antimeridian::cases());
     cases
 }
 
 /// A case of the shift on any bytes.
-fn case(name: String, bytes: &[u8], component: u8, [north, east]: [i64; 2]) -> Case {
+pub(super) fn case(name: String, bytes: &[u8], component: u8, [north, east]: [i64; 2]) -> Case {
     let given = shift(bytes, component, north, east);
     let (kind, value) = match answer(bytes, component, north, east) {
         Answer::Seconds(value) => ("seconds", value.to_bits()),
@@ -54,7 +55,7 @@ fn case(name: String, bytes: &[u8], component: u8, [north, east]: [i64; 2]) -> C
 }
 
 /// A signed number as a word for a name.
-fn word(number: i64) -> String {
+pub(super) fn word(number: i64) -> String {
     number.to_string().replace('-', "m")
 }
 
@@ -110,7 +111,7 @@ fn named_grids() -> Vec<(String, Grid)> {
 }
 
 /// The sixteen nodes, whose shift is mean and node alone.
-fn nodes(name: &str, grid: &Grid, components: &[u8]) -> Vec<Case> {
+pub(super) fn nodes(name: &str, grid: &Grid, components: &[u8]) -> Vec<Case> {
     let mut cases = Vec::new();
     for &component in components {
         for node in 1..=16 {
@@ -122,34 +123,33 @@ fn nodes(name: &str, grid: &Grid, components: &[u8]) -> Vec<Case> {
 }
 
 /// The middles of the nine cells, row by row from the north.
-fn middles(name: &str, grid: &Grid, components: &[u8]) -> Vec<Case> {
+pub(super) fn middles(name: &str, grid: &Grid, components: &[u8]) -> Vec<Case> {
     let [high, wide] = grid.spacing();
     let mut cases = Vec::new();
     for &component in components {
         for cell in 0..9usize {
-            let [north, east] = grid.at_node(cell / 3 * 4 + cell % 3 + 1);
+            let northwest = grid.at_node(cell / 3 * 4 + cell % 3 + 1);
             let name = format!("{name}-c{component}-cell-{}", cell + 1);
-            cases.push(case(name, &grid.bytes(), component, [north - high / 2, east + wide / 2]));
+            cases.push(case(name, &grid.bytes(), component, grid.moved(northwest, [-high / 2, wide / 2])));
         }
     }
     cases
 }
 
 /// Every crossing of a row and a column by one step on either side, and the middles of the edges.
-fn lines_and_corners(name: &str, grid: &Grid, component: u8) -> Vec<Case> {
+pub(super) fn lines_and_corners(name: &str, grid: &Grid, component: u8) -> Vec<Case> {
     let [high, wide] = grid.spacing();
     let mut cases = Vec::new();
     for node in 1..=16 {
-        let [north, east] = grid.at_node(node);
+        let mut near = |name: String, steps: [i64; 2]| {
+            cases.push(case(name, &grid.bytes(), component, grid.moved(grid.at_node(node), steps)));
+        };
         for (y, x) in (-1..=1).flat_map(|y| (-1..=1).map(move |x| (y, x))) {
-            let name = format!("{name}-near-{node}-n{}-e{}", word(y), word(x));
-            cases.push(case(name, &grid.bytes(), component, [north + y, east + x]));
+            near(format!("{name}-near-{node}-n{}-e{}", word(y), word(x)), [y, x]);
         }
         for step in -1..=1 {
-            let row = format!("{name}-row-{node}-n{}", word(step));
-            cases.push(case(row, &grid.bytes(), component, [north + step, east + wide / 3]));
-            let column = format!("{name}-column-{node}-e{}", word(step));
-            cases.push(case(column, &grid.bytes(), component, [north - high / 3, east + step]));
+            near(format!("{name}-row-{node}-n{}", word(step)), [step, wide / 3]);
+            near(format!("{name}-column-{node}-e{}", word(step)), [-high / 3, step]);
         }
     }
     cases
@@ -261,10 +261,13 @@ fn mean_factors(number: u16) -> Vec<Case> {
 }
 
 /// A call with some reasons to be refused.
-struct Call {
-    grid: Grid,
-    component: u8,
-    position: [i64; 2],
+pub(super) struct Call {
+    /// The grid of the message.
+    pub grid: Grid,
+    /// The component asked for.
+    pub component: u8,
+    /// The position asked for.
+    pub position: [i64; 2],
 }
 
 /// Gives a call one more reason to be refused, by the refusal's number.
@@ -296,21 +299,29 @@ fn good_call(number: u16, component: u8) -> Call {
     Call { component, position: grid.origin(), grid }
 }
 
-/// Each of refusals 8 to 15 alone and every pair of them, the later one being put in first.
+/// The refusals of a component, and single fields of the message.
 fn pairs(number: u16) -> Vec<Case> {
     let mut cases = Vec::new();
     for component in 0..3 {
-        for first in 8..=15 {
-            let call = with_reason(good_call(number, component), first);
-            let name = format!("{number}-refusal-{first}-c{component}");
-            cases.push(case(name, &call.grid.bytes(), call.component, call.position));
-            for second in first + 1..=15 {
-                let call = with_reason(with_reason(good_call(number, component), second), first);
-                let name = format!("{number}-refusals-{first}-{second}-c{component}");
-                cases.push(case(name, &call.grid.bytes(), call.component, call.position));
-            }
-        }
+        cases.extend(refusals(&number.to_string(), || good_call(number, component)));
         cases.extend(single_fields(number, component));
+    }
+    cases
+}
+
+/// Each of refusals 8 to 15 alone and every pair of them, the later one being put in first, on a call that is answered.
+pub(super) fn refusals(name: &str, good: impl Fn() -> Call) -> Vec<Case> {
+    let mut cases = Vec::new();
+    let component = good().component;
+    for first in 8..=15 {
+        let call = with_reason(good(), first);
+        let alone = format!("{name}-refusal-{first}-c{component}");
+        cases.push(case(alone, &call.grid.bytes(), call.component, call.position));
+        for second in first + 1..=15 {
+            let call = with_reason(with_reason(good(), second), first);
+            let pair = format!("{name}-refusals-{first}-{second}-c{component}");
+            cases.push(case(pair, &call.grid.bytes(), call.component, call.position));
+        }
     }
     cases
 }
@@ -426,15 +437,15 @@ fn widest(number: u16) -> Vec<Case> {
 }
 
 /// A position inside a grid or a little outside.
-fn random_position(random: &mut Random, grid: &Grid) -> [i64; 2] {
+pub(super) fn random_position(random: &mut Random, grid: &Grid) -> [i64; 2] {
     let [high, wide] = grid.spacing();
-    let [north, east] = grid.origin();
     let off = |random: &mut Random, spacing: i64| match random.below(6) {
         0 => spacing / 2 * random.within(-3, 3),
         1 => spacing / 2 * random.within(-3, 3) + random.within(-2, 2),
         _ => random.within(-spacing * 3 / 2, spacing * 3 / 2),
     };
-    [north + off(random, high), east + off(random, wide)]
+    let steps = [off(random, high), off(random, wide)];
+    grid.moved(grid.origin(), steps)
 }
 
 /// Random grids, some with nodes not available, at random positions.

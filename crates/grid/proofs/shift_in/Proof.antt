@@ -1,9 +1,11 @@
 -- `grid::shift_in` meets its contract.
 -- Assumes nothing.
 use mathlib.Core.Path.{_≡_, sym, ap, _∙_}
-use mathlib.Core.Bool.{false, cond}
+use mathlib.Core.Bool.{true, false, cond}
 use Prim.Native.Nat.{ℕ, _*_, _≤_, _<_}
-use lib.IntN.{ℤ, pos, natAbs, _-ℤ_, _*ℤ_}
+use lib.IntN.{ℤ, pos, negℤ, natAbs, _-ℤ_, _*ℤ_}
+use native.Mathlib.Omega.{arith}
+use Rattle.arith.proofs.Int.{abs-add, abs-neg, abs-mul}
 use mir.Syntax.{w64}
 use mir.Val.{toZ, ofZ}
 use Rattle.arith.specs.First.{first}
@@ -15,8 +17,8 @@ use Rattle.cell.specs.Cell.{alongOf}
 use Rattle.cell.specs.declared.Place.{Place}
 use Rattle.cell.proofs.Held.{along-refusal, along-steps, along-cell}
 use Rattle.grid_records.specs.declared.Grid.{Grid}
-use Rattle.grid.specs.Shift.{stepsOf, surface, northOf, eastOf, inCellShift}
-use Rattle.grid_refusals.specs.Refusals.{fieldTests}
+use Rattle.grid.specs.Shift.{stepsOf, surface, northOf, eastBy, eastOf, inCellShift}
+use Rattle.grid_refusals.specs.Refusals.{ellipsoidal, fieldTests}
 use Rattle.grid.proofs.Parts.{Early, early, placed-by, outside-yes, outside-no, early-out, north-out, east-out, in-out, steps-some, spacings}
 use Rattle.grid.proofs.shift_in.Statement.{statement}
 use Rattle.grid.proofs.shift_in.Tie as tie
@@ -33,6 +35,18 @@ Asks z o q = (natAbs z ≤ 1000000000000) × (natAbs o ≤ 67108864) × (q ≤ 1
 
 asks : {z z′ o o′ : ℤ} {q q′ : ℕ} → z′ ≡ z → o′ ≡ o → q′ ≡ q → Asks z o q → Asks z′ o′ q′
 asks a b c h = rw (a, b, c) h
+
+-- what `east_place` asks
+abbrev EastAsks : ℤ → ℤ → ℤ → ℕ → Type 0
+EastAsks n z o q = (natAbs z ≤ 1000000000000) × (natAbs o ≤ 67108864) × (q ≤ 10000) × (ellipsoidal n ≡ true → natAbs (z -ℤ pos q *ℤ o) ≤ 12960000000)
+
+east-asks : {n n′ z z′ o o′ : ℤ} {q q′ : ℕ} → n′ ≡ n → z′ ≡ z → o′ ≡ o → q′ ≡ q → EastAsks n z o q → EastAsks n′ z′ o′ q′
+east-asks a b c d h = rw (a, b, c, d) h
+
+-- two longitudes are at most a turn apart
+turn-most : (number e o : ℤ) → ellipsoidal number ≡ true → natAbs e ≤ 6480000000 → natAbs o ≤ 1296000 → natAbs (e -ℤ pos (stepsOf number) *ℤ o) ≤ 12960000000
+turn-most number e o t h k =
+    rw t (omega (arith, abs-add e (negℤ (pos 5000 *ℤ o)), abs-neg (pos 5000 *ℤ o), abs-mul (pos 5000) o))
 
 -- ---- the fields
 
@@ -144,36 +158,42 @@ module _ (c : tie.After-struct-told4) where
 spacing-of-requires-2 : tie.Need-spacing-of-requires-2
 spacing-of-requires-2 c κs = let p = s (k (e c)) .pre .columns in raw (columns c) (steps (e c)) (p .0, p .1, few (e c))
 
-module _ (m : tie.After-struct-told5) where
+module _ (m : tie.After-struct-told6) where
   abbrev f : tie.After-struct-told4
-  f = m .before .before
+  f = m .before .before .before
 
-  width : m .before .spacing-of2 .result ≡ w (e f)
+  width : m .before .before .spacing-of2 .result ≡ w (e f)
   unfolding surface
-  width = m .before .spacing-of2 .ensures ∙ (λ i. natural (columns f i) * steps (e f) i)
+  width = m .before .before .spacing-of2 .ensures ∙ (λ i. natural (columns f i) * steps (e f) i)
+
+  number : toZ w64 (ofZ w64 (g (k (e f)) .number)) ≡ g (k (e f)) .number
+  number = held (g (k (e f)) .number) (m .before .struct-told5 .given .0 .1)
 
   origin-east : toZ w64 (ofZ w64 (g (k (e f)) .origin .east)) ≡ g (k (e f)) .origin .east
-  origin-east = held (g (k (e f)) .origin .east) (m .struct-told5 .given .1 .0 .1)
+  origin-east = held (g (k (e f)) .origin .east) (m .struct-told6 .given .1 .0 .1)
 
-place-requires-2 : tie.Need-place-requires-2
-place-requires-2 m κs =
+east-place-requires : tie.Need-east-place-requires
+east-place-requires m κs =
     let a = s (k (e (f m))) in
-    asks (is-back (a .fits .east)) (origin-east m) (steps (e (f m))) (known (e (f m)) .east, a .pre .east, few (e (f m)))
+    let r = g (k (e (f m))) in
+    let p = known (e (f m)) in
+    east-asks (number m) (is-back (a .fits .east)) (origin-east m) (steps (e (f m)))
+    (p .east, a .pre .east, few (e (f m)), λ t. turn-most (r .number) (a .args .east) (r .origin .east) t (p .turn t .0) (a .pre .longitude t (p .turn t .1)))
 
-module _ (q : tie.After-place2) where
+module _ (q : tie.After-east-place) where
   abbrev j : tie.After-struct-told4
   j = f (q .before)
 
   abbrev o : tie.After-struct-told2
   o = e j
 
-  placed-east : q .place2 .result ≡ alongOf (w o) (v o)
+  placed-east : q .east-place .result ≡ alongOf (w o) (v o)
   unfolding eastOf
   placed-east =
-      q .place2 .ensures
-      ∙ (λ i. alongOf (width (q .before) i) (is-back (s (k o) .fits .east) i -ℤ pos (steps o i) *ℤ origin-east (q .before) i))
+      q .east-place .ensures
+      ∙ (λ i. alongOf (width (q .before) i) (eastBy (number (q .before) i) (is-back (s (k o) .fits .east) i -ℤ pos (steps o i) *ℤ origin-east (q .before) i)))
 
-  refusal-east : q .place2 .result .refusal ≡ cond (outside (w o) (v o)) 14 0
+  refusal-east : q .east-place .result .refusal ≡ cond (outside (w o) (v o)) 14 0
   refusal-east = ap (λ (a : Place). a .refusal) placed-east ∙ along-refusal (w o) (v o) (sizes o .1 .0) (sizes o .1 .1)
 
 returns-3 : tie.Need-returns-3
@@ -223,7 +243,7 @@ shift-in-spec =
     (λ c κs. tt)
     returns-2
     spacing-of-requires-2
-    place-requires-2
+    east-place-requires
     (λ c κs. tt)
     returns-3
     cell-shift-requires

@@ -1,0 +1,11 @@
+-- `demands::antimeridian` carries its theorems: longitudes across 180 degrees.
+-- Assumes nothing.
+use Rattle.demands.proofs.Grids.{east-turned, both-answers}
+use Rattle.demands.proofs.antimeridian.Statement.{statement}
+use Rattle.demands.proofs.antimeridian.Tie as tie
+
+returns : tie.Need-returns
+returns c = (east-turned, both-answers)
+
+pub antimeridian-spec : {M : Type 1} → statement M
+antimeridian-spec = tie.close (tie.spec returns)
