@@ -191,13 +191,13 @@ module _ (v : List ℤ) (n : ℕ) (e : writeRefusal v n ≡ 0) where
         high = leb-true (natural (at v 0)) 1027 (both-second (leb 1021 (natural (at v 0))) (leb (natural (at v 0)) 1027) k);
       }
 
-  bits-written : Layout.encodeRefusal (rowLayout v) v n ≡ 0
+  encode-written : Layout.encodeRefusal (rowLayout v) v n ≡ 0
   unfolding writeRefusal Layout.encodeRefusal
-  bits-written = passed 4 (not (known (natural (at v 0)))) _ e .1
+  encode-written = passed 4 (not (known (natural (at v 0)))) _ e .1
 
   pub fields-back : decodeAll (rowLayout v) 0 (message v) ≡ v
   unfolding message
-  fields-back = read-written (rowLayout v) v (of-true (writable (rowLayout v) v n bits-written .taken))
+  fields-back = read-written (rowLayout v) v (of-true (writable (rowLayout v) v n encode-written .taken))
 
   pub number-back : natural (at v 0) ≡ numberOf (message v)
   unfolding rowLayout
@@ -245,7 +245,7 @@ module _ (v : List ℤ) (n : ℕ) (e : writeRefusal v n ≡ 0) where
   message-accepted =
       head-passed (message v) (head-passes (message v) head-back)
       ∙ ap (λ (l : List ℕ). refusalOf l (message v)) layout-back
-      ∙ unfold message in written-accepted (rowLayout v) v (writable (rowLayout v) v n bits-written .few) (writable (rowLayout v) v n bits-written .taken)
+      ∙ unfold message in written-accepted (rowLayout v) v (writable (rowLayout v) v n encode-written .few) (writable (rowLayout v) v n encode-written .taken)
 
   pub row-of-message : row (message v) ≡ v
   row-of-message = row-of (message v) message-accepted ∙ ap (λ (l : List ℕ). decodeAll l 0 (message v)) layout-back ∙ fields-back

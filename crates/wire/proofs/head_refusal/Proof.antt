@@ -1,4 +1,4 @@
--- `message::head_refusal` meets its contract: each return is a case of the tests in their order.
+-- `wire::head_refusal` meets its contract: each return is a case of the tests in their order.
 -- Assumes nothing.
 use mathlib.Core.Path.{_∙_}
 use borrow.Author.Tests.{lt-ltb, le-ltb, lt-leb, le-leb}

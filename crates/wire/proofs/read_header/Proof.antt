@@ -1,4 +1,4 @@
--- `message::read_header` meets its contract.
+-- `wire::read_header` meets its contract.
 -- Assumes nothing.
 use mathlib.Core.Path.{sym, ap, _∙_}
 use native.Mathlib.Omega.{arith}

@@ -1,4 +1,4 @@
--- `message::read_kind` meets its contract: each return is a case of the definition.
+-- `wire::read_kind` meets its contract: each return is a case of the definition.
 -- Assumes nothing.
 use mathlib.Core.Path.{sym, _∙_}
 use Rattle.wire.proofs.Head.{number-read, head-of, accepted-head}

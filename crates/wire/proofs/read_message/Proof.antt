@@ -1,4 +1,4 @@
--- `message::read_message` meets its contract: each return is a case of the definition.
+-- `wire::read_message` meets its contract: each return is a case of the definition.
 -- Assumes nothing.
 use Prim.Native.Nat.{_≤_}
 use mathlib.Core.Path.{_≡_, sym, ap, _∙_}

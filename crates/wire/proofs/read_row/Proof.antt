@@ -1,4 +1,4 @@
--- `message::read_row` meets its contract: each return is a case of the definition.
+-- `wire::read_row` meets its contract: each return is a case of the definition.
 -- Assumes nothing.
 use mathlib.Core.Path.{sym, ap, _∙_}
 use native.Mathlib.Omega.{arith}

@@ -1,4 +1,4 @@
--- `message::refused` meets its contract.
+-- `wire::refused` meets its contract.
 -- Assumes nothing.
 use mathlib.Core.Path.{refl}
 use Rattle.arith.specs.Row.{padded}

@@ -1,4 +1,4 @@
--- `message::row_held` meets its contract: each return is a case of the definition.
+-- `wire::row_held` meets its contract: each return is a case of the definition.
 -- Assumes nothing.
 use Prim.Native.Nat.{_≤_}
 use mathlib.Core.Path.{sym, _∙_}

@@ -1,4 +1,4 @@
--- `message::row_plan` meets its contract.
+-- `wire::row_plan` meets its contract.
 -- Assumes nothing.
 use mathlib.Core.Path.{ap, _∙_}
 use native.Mathlib.Omega.{arith}

@@ -1,4 +1,4 @@
--- `message::sin_bit` meets its contract.
+-- `wire::sin_bit` meets its contract.
 -- Assumes nothing.
 use mathlib.Core.Path.{ap, _∙_}
 use native.Mathlib.Omega.{arith}

@@ -1,4 +1,4 @@
--- `message::write_kind` meets its contract: each return is a case of the definition.
+-- `wire::write_kind` meets its contract: each return is a case of the definition.
 -- Assumes nothing.
 use borrow.Author.Needs.{needs}
 use Rattle.wire.proofs.OneKind.{record-bad, record-low, record-high, record-row}

@@ -1,4 +1,4 @@
--- `message::write_row` meets its contract: each return is a case of the definition.
+-- `wire::write_row` meets its contract: each return is a case of the definition.
 -- Assumes nothing.
 use mathlib.Core.Path.{sym, _∙_}
 use native.Mathlib.Omega.{arith}

@@ -1,4 +1,4 @@
--- `message::layouts::append` meets its contract.
+-- `wire::layouts::append` meets its contract.
 -- Assumes nothing.
 use mathlib.Core.Path.{_≡_, refl}
 use Prim.Native.Nat.{_-_, _≤_}

@@ -1,4 +1,4 @@
--- `message::layouts::append_times` meets its contract.
+-- `wire::layouts::append_times` meets its contract.
 -- Assumes nothing.
 use mathlib.Core.Path.{_≡_, refl, sym}
 use Prim.Native.Nat.{_-_, _≤_}

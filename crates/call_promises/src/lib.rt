@@ -1,0 +1,126 @@
+// Every public function of the table, of the shift and of the exported interface, called once with its promise restated: a promise that is weakened there is missed here.
+ghost use mathlib.Core.Path.{_≡_};
+ghost use lib.IntN.{natAbs};
+ghost use lib.ListN.{length};
+ghost use Rattle.arith.specs.First.{first};
+ghost use Rattle.wire.specs.Message.{header, rowRefusal, rowRead, writeRow};
+ghost use Rattle.cell.specs.Cell.{alongOf, countIn};
+ghost use Rattle.grid_refusals.specs.Refusals.{fieldTests};
+ghost use Rattle.grid.specs.Shift.{messageShift, recordShift};
+ghost use Rattle.table.specs.Table.{wellFormed, storeRefusal, storeTable, findRefusal, foundOf, removeTable};
+ghost use Rattle.table.specs.Shown.{Shows};
+ghost use Rattle.capi.specs.Counted.{countedShift};
+
+pub fn well_formed(t: &[u8]) -> bool
+    ensures { λ r. ⌜ r ≡ wellFormed (now (t .entry)) ⌝ }
+{
+    table::well_formed(t)
+}
+
+pub fn store(t: &mut [u8], s: &[u8]) -> u8
+    ensures answer { λ r. ⌜ r ≡ storeRefusal (now (t .entry)) (now (s .entry)) ⌝ }
+    ensures output { λ r. ⌜ now (t .exit) ≡ storeTable (now (t .entry)) (now (s .entry)) ⌝ }
+{
+    table::store(t, s)
+}
+
+pub fn find(t: &[u8], sin: u8, group: u8) -> table::Found
+    ensures { λ r. ⌜ r ≡ foundOf (now (t .entry)) sin group ⌝ }
+{
+    table::find(t, sin, group)
+}
+
+pub fn shown(t: &[u8], sin: u8, group: u8) -> &[u8]
+    ensures { λ r. ⌜ Shows (t .entry) sin group r ⌝ }
+{
+    table::shown(t, sin, group)
+}
+
+pub fn remove(t: &mut [u8], sin: u8, group: u8) -> u8
+    ensures answer { λ r. ⌜ r ≡ findRefusal (now (t .entry)) sin group ⌝ }
+    ensures output { λ r. ⌜ now (t .exit) ≡ removeTable (now (t .entry)) sin group ⌝ }
+{
+    table::remove(t, sin, group)
+}
+
+pub fn cell_magnitude(z: i64) -> u64
+    ensures { λ r. ⌜ r ≡ natAbs z ⌝ }
+{
+    cell::magnitude(z)
+}
+
+pub fn along(difference: i64, spacing: u64) -> cell::Place
+    ensures { λ r. ⌜ r ≡ alongOf spacing difference ⌝ }
+{
+    cell::along(difference, spacing)
+}
+
+pub fn count_in(mean: i64, factor: u64, n: cell::Corners, h: u64, w: u64, y: u64, x: u64) -> i64
+    ensures { λ r. ⌜ r ≡ countIn mean factor n h w y x ⌝ }
+{
+    cell::count_in(mean, factor, n, h, w, y, x)
+}
+
+pub fn early_refusal(g: grid_records::Grid, component: u8, north: i64, east: i64) -> u8
+    ensures { λ r. ⌜ r ≡ first (fieldTests g component north east) ⌝ }
+{
+    grid_refusals::early_refusal(g, component, north, east)
+}
+
+pub fn shift_at(s: &[u8], component: u8, north: i64, east: i64) -> grid::Shift
+    ensures { λ r. ⌜ r ≡ messageShift (now (s .entry)) component north east ⌝ }
+{
+    grid::shift_at(s, component, north, east)
+}
+
+pub fn shift_of(g: grid_records::Grid, component: u8, north: i64, east: i64) -> grid::Shift
+    ensures { λ r. ⌜ r ≡ recordShift g component north east ⌝ }
+{
+    grid::shift_of(g, component, north, east)
+}
+
+pub fn tarnoklej_read(s: &[u8]) -> wire::Header
+    ensures { λ r. ⌜ r ≡ header (now (s .entry)) ⌝ }
+{
+    capi::tarnoklej_read(s)
+}
+
+pub fn tarnoklej_read_fields(s: &[u8], fields: &mut [i64]) -> u8
+    ensures answer { λ r. ⌜ r ≡ rowRefusal (now (s .entry)) (length (now (fields .entry))) ⌝ }
+    ensures output { λ r. ⌜ now (fields .exit) ≡ rowRead (now (s .entry)) (now (fields .entry)) ⌝ }
+{
+    capi::tarnoklej_read_fields(s, fields)
+}
+
+pub fn tarnoklej_write_fields(fields: &[i64], out: &mut [u8]) -> layout::Written
+    ensures answer { λ r. ⌜ r ≡ writeRow (now (fields .entry)) (now (out .entry)) .answer ⌝ }
+    ensures output { λ r. ⌜ now (out .exit) ≡ writeRow (now (fields .entry)) (now (out .entry)) .output ⌝ }
+{
+    capi::tarnoklej_write_fields(fields, out)
+}
+
+pub fn tarnoklej_shift_at(s: &[u8], component: u8, north: i64, east: i64) -> capi::Counted
+    ensures { λ r. ⌜ r ≡ countedShift (now (s .entry)) component north east ⌝ }
+{
+    capi::tarnoklej_shift_at(s, component, north, east)
+}
+
+pub fn tarnoklej_store(t: &mut [u8], s: &[u8]) -> u8
+    ensures answer { λ r. ⌜ r ≡ storeRefusal (now (t .entry)) (now (s .entry)) ⌝ }
+    ensures output { λ r. ⌜ now (t .exit) ≡ storeTable (now (t .entry)) (now (s .entry)) ⌝ }
+{
+    capi::tarnoklej_store(t, s)
+}
+
+pub fn tarnoklej_find(t: &[u8], sin: u8, group: u8) -> table::Found
+    ensures { λ r. ⌜ r ≡ foundOf (now (t .entry)) sin group ⌝ }
+{
+    capi::tarnoklej_find(t, sin, group)
+}
+
+pub fn tarnoklej_remove(t: &mut [u8], sin: u8, group: u8) -> u8
+    ensures answer { λ r. ⌜ r ≡ findRefusal (now (t .entry)) sin group ⌝ }
+    ensures output { λ r. ⌜ now (t .exit) ≡ removeTable (now (t .entry)) sin group ⌝ }
+{
+    capi::tarnoklej_remove(t, sin, group)
+}
