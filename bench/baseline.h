@@ -1,22 +1,24 @@
 /* Plain C baselines for message 1023 and for a table of such messages, with the answers of include/tarnoklej.h but for
  * these:
  * a message, a row or a table's slot of any other number is refused (NUMBER, RANGE, TABLE);
- * a node of the cell that is not available is refused (ABSENT) also where it has no weight;
+ * a node of the cell that has no value is refused (ABSENT) also where it has no weight;
  * the weighted mean is a double before it is rounded, so that a count at or near a half can be another.
  */
 #ifndef BASELINE_H
 #define BASELINE_H
 #include "tarnoklej.h"
 
-/* The numbers of a row of 1023 and the bytes of its message. */
+/* The fields of a row of 1023 and the bytes of its message. */
 enum { ROW = 64, BYTES = 73 };
 
 /* One way to do the work; a call that it does not have is null. */
 typedef struct {
     const char *name;
     tarnoklej_header (*read)(const uint8_t *message, size_t length);
-    uint8_t (*read_fields)(const uint8_t *message, size_t length, int64_t *fields, size_t room);
-    tarnoklej_written (*write_fields)(const int64_t *fields, size_t count, uint8_t *out, size_t room);
+    uint8_t (*read_fields)(const uint8_t *message, size_t length, int64_t *values, size_t values_room, uint8_t *present,
+                           size_t present_room);
+    tarnoklej_written (*write_fields)(const int64_t *values, size_t values_count, const uint8_t *present,
+                                      size_t present_count, uint8_t *out, size_t room);
     tarnoklej_shift (*shift_at)(const uint8_t *message, size_t length, uint8_t component, int64_t north, int64_t east);
     void (*shifts_at)(const uint8_t *message, size_t length, uint8_t component, const int64_t (*positions)[2],
                       size_t count, tarnoklej_shift *shifts);

@@ -16,8 +16,15 @@ enum { TURNS_CHECKED = MESSAGES * POSITIONS * 3 };
 enum { PASSES = 5, ROUNDS = 3 };
 static const double SHORTEST_ROUND = 0.006;
 
-static int64_t rows[MESSAGES][ROW];
-static uint8_t messages[MESSAGES][BYTES];
+/* A row and its message. */
+typedef struct {
+    int64_t values[ROW];
+    uint8_t present[ROW];
+    uint8_t message[BYTES];
+} input;
+
+/* The inputs that are timed, all of whose fields have values, and the same with fields that have none. */
+static input inputs[MESSAGES], with_nones[MESSAGES];
 /* The same messages with another day (DF051). */
 static uint8_t of_other_day[MESSAGES][BYTES];
 static int64_t positions[MESSAGES][POSITIONS][2];
@@ -51,15 +58,15 @@ typedef struct {
 static uint64_t run_read(const baseline *by, size_t turn, size_t size)
 {
     (void)size;
-    tarnoklej_header header = by->read(messages[turn % MESSAGES], BYTES);
+    tarnoklej_header header = by->read(inputs[turn % MESSAGES].message, BYTES);
     return header.refusal + header.sin + header.length;
 }
 
 static int same_read(const baseline *by, size_t turn, size_t size)
 {
     (void)size;
-    tarnoklej_header one = LIBRARY.read(messages[turn % MESSAGES], BYTES);
-    tarnoklej_header other = by->read(messages[turn % MESSAGES], BYTES);
+    tarnoklej_header one = LIBRARY.read(inputs[turn % MESSAGES].message, BYTES);
+    tarnoklej_header other = by->read(inputs[turn % MESSAGES].message, BYTES);
     return one.refusal == other.refusal && one.number == other.number && one.sin == other.sin &&
            one.length == other.length;
 }
@@ -67,35 +74,52 @@ static int same_read(const baseline *by, size_t turn, size_t size)
 static uint64_t run_row(const baseline *by, size_t turn, size_t size)
 {
     (void)size;
-    int64_t row[ROW];
-    uint8_t refusal = by->read_fields(messages[turn % MESSAGES], BYTES, row, ROW);
-    return refusal + (uint64_t)row[turn % ROW];
+    int64_t values[ROW];
+    uint8_t present[ROW];
+    uint8_t refusal = by->read_fields(inputs[turn % MESSAGES].message, BYTES, values, ROW, present, ROW);
+    return refusal + (uint64_t)values[turn % ROW] + present[turn % ROW];
+}
+
+/* Whether the row of a message is the library's. */
+static int same_row_of(const baseline *by, const uint8_t *message)
+{
+    int64_t values[2][ROW] = {{0}};
+    uint8_t present[2][ROW] = {{0}};
+    uint8_t refusal = LIBRARY.read_fields(message, BYTES, values[0], ROW, present[0], ROW);
+    return refusal == by->read_fields(message, BYTES, values[1], ROW, present[1], ROW) &&
+           memcmp(values[0], values[1], sizeof values[0]) == 0 && memcmp(present[0], present[1], sizeof present[0]) == 0;
 }
 
 static int same_row(const baseline *by, size_t turn, size_t size)
 {
     (void)size;
-    int64_t one[ROW] = {0}, other[ROW] = {0};
-    uint8_t refusal = LIBRARY.read_fields(messages[turn % MESSAGES], BYTES, one, ROW);
-    return refusal == by->read_fields(messages[turn % MESSAGES], BYTES, other, ROW) &&
-           memcmp(one, other, sizeof one) == 0;
+    size_t i = turn % MESSAGES;
+    return same_row_of(by, inputs[i].message) && same_row_of(by, with_nones[i].message);
 }
 
 static uint64_t run_write(const baseline *by, size_t turn, size_t size)
 {
     (void)size;
+    const input *in = &inputs[turn % MESSAGES];
     uint8_t out[BYTES];
-    tarnoklej_written written = by->write_fields(rows[turn % MESSAGES], ROW, out, BYTES);
+    tarnoklej_written written = by->write_fields(in->values, ROW, in->present, ROW, out, BYTES);
     return written.refusal + written.length + out[turn % BYTES];
+}
+
+/* Whether the message written from a row is the library's. */
+static int same_message_of(const baseline *by, const input *in)
+{
+    uint8_t one[BYTES] = {0}, other[BYTES] = {0};
+    tarnoklej_written written = LIBRARY.write_fields(in->values, ROW, in->present, ROW, one, BYTES);
+    tarnoklej_written again = by->write_fields(in->values, ROW, in->present, ROW, other, BYTES);
+    return written.refusal == again.refusal && written.length == again.length && memcmp(one, other, sizeof one) == 0;
 }
 
 static int same_write(const baseline *by, size_t turn, size_t size)
 {
     (void)size;
-    uint8_t one[BYTES] = {0}, other[BYTES] = {0};
-    tarnoklej_written written = LIBRARY.write_fields(rows[turn % MESSAGES], ROW, one, BYTES);
-    tarnoklej_written again = by->write_fields(rows[turn % MESSAGES], ROW, other, BYTES);
-    return written.refusal == again.refusal && written.length == again.length && memcmp(one, other, sizeof one) == 0;
+    size_t i = turn % MESSAGES;
+    return same_message_of(by, &inputs[i]) && same_message_of(by, &with_nones[i]);
 }
 
 static uint64_t run_shift(const baseline *by, size_t turn, size_t size)
@@ -103,11 +127,11 @@ static uint64_t run_shift(const baseline *by, size_t turn, size_t size)
     size_t i = turn % MESSAGES;
     if (size == 1) {
         const int64_t *at = positions[i][turn % POSITIONS];
-        tarnoklej_shift shift = by->shift_at(messages[i], BYTES, (uint8_t)(turn % 3), at[0], at[1]);
+        tarnoklej_shift shift = by->shift_at(inputs[i].message, BYTES, (uint8_t)(turn % 3), at[0], at[1]);
         return shift.refusal + (uint64_t)shift.count;
     }
     tarnoklej_shift shifts[POSITIONS];
-    by->shifts_at(messages[i], BYTES, (uint8_t)(turn % 3), (const int64_t(*)[2])positions[i], size, shifts);
+    by->shifts_at(inputs[i].message, BYTES, (uint8_t)(turn % 3), (const int64_t(*)[2])positions[i], size, shifts);
     return shifts[0].refusal + (uint64_t)shifts[turn % size].count;
 }
 
@@ -123,12 +147,12 @@ static int same_shift(const baseline *by, size_t turn, size_t size)
     uint8_t component = (uint8_t)(turn % 3);
     if (size == 1) {
         const int64_t *at = positions[i][turn % POSITIONS];
-        return same_count(LIBRARY.shift_at(messages[i], BYTES, component, at[0], at[1]),
-                          by->shift_at(messages[i], BYTES, component, at[0], at[1]));
+        return same_count(LIBRARY.shift_at(inputs[i].message, BYTES, component, at[0], at[1]),
+                          by->shift_at(inputs[i].message, BYTES, component, at[0], at[1]));
     }
     tarnoklej_shift one[POSITIONS], other[POSITIONS];
-    LIBRARY.shifts_at(messages[i], BYTES, component, (const int64_t(*)[2])positions[i], size, one);
-    by->shifts_at(messages[i], BYTES, component, (const int64_t(*)[2])positions[i], size, other);
+    LIBRARY.shifts_at(inputs[i].message, BYTES, component, (const int64_t(*)[2])positions[i], size, one);
+    by->shifts_at(inputs[i].message, BYTES, component, (const int64_t(*)[2])positions[i], size, other);
     int same = 1;
     for (size_t j = 0; j < size; j++)
         same = same && same_count(one[j], other[j]);
@@ -152,7 +176,7 @@ static int same_find(const baseline *by, size_t turn, size_t size)
 /* The message that is stored in a turn: of each key in turn, and of another day than the one in the slot. */
 static const uint8_t *stored_in(size_t turn, size_t size)
 {
-    return (turn / size % 2 == 0 ? of_other_day : messages)[turn % size];
+    return turn / size % 2 == 0 ? of_other_day[turn % size] : inputs[turn % size].message;
 }
 
 static uint64_t run_store(const baseline *by, size_t turn, size_t size)
@@ -205,24 +229,35 @@ static void stop(const char *what, const char *name)
     exit(1);
 }
 
-/* Makes the row of one grid with all shifts on and all nodes present. */
-static void make_row(int64_t *row, int sin)
+/* Makes the row of one grid with all shifts on and all fields present. */
+static void make_row(input *in, int sin)
 {
     const int64_t first[] = {1023, sin, 1, 1, within(-640000, 640000), within(-1290000, 1290000), within(100, 4095),
                              within(100, 4095), within(-127, 127), within(-127, 127), within(-16383, 16383)};
-    memset(row, 0, ROW * sizeof *row);
-    memcpy(row, first, sizeof first);
+    memset(in->values, 0, sizeof in->values);
+    memset(in->present, 1, sizeof in->present);
+    memcpy(in->values, first, sizeof first);
     for (int node = 0; node < 48; node++)
-        row[11 + node] = within(-255, 255);
-    row[61] = within(0, 7);
-    row[62] = within(0, 7);
-    row[63] = within(0, 65535);
+        in->values[11 + node] = within(-255, 255);
+    in->values[61] = within(0, 7);
+    in->values[62] = within(0, 7);
+    in->values[63] = within(0, 65535);
+}
+
+/* Takes the value from about one in four of the signed fields, the two of the origin, the means and the nodes. */
+static void take_values(input *in)
+{
+    for (int field = 4; field < 59; field++)
+        if (field != 6 && field != 7 && within(0, 3) == 0) {
+            in->values[field] = 0;
+            in->present[field] = 0;
+        }
 }
 
 /* Makes the message of a row. */
-static void make_message(const int64_t *row, uint8_t *message)
+static void make_message(const input *in, uint8_t *message)
 {
-    if (tarnoklej_write_fields(row, ROW, message, BYTES).refusal != TARNOKLEJ_DONE)
+    if (tarnoklej_write_fields(in->values, ROW, in->present, ROW, message, BYTES).refusal != TARNOKLEJ_DONE)
         stop("a row was refused", "inputs");
 }
 
@@ -230,17 +265,21 @@ static void make_message(const int64_t *row, uint8_t *message)
 static void make_inputs(void)
 {
     for (int i = 0; i < MESSAGES; i++) {
-        make_row(rows[i], i);
-        make_message(rows[i], messages[i]);
-        int64_t other[ROW];
-        memcpy(other, rows[i], sizeof other);
-        other[63] ^= 1;
-        make_message(other, of_other_day[i]);
+        make_row(&inputs[i], i);
+        make_message(&inputs[i], inputs[i].message);
+        input other = inputs[i];
+        other.values[63] ^= 1;
+        make_message(&other, of_other_day[i]);
         for (int j = 0; j < POSITIONS; j++)
             for (int axis = 0; axis < 2; axis++) {
-                int64_t reach = rows[i][6 + axis] * 5000 / 2 * 3;
-                positions[i][j][axis] = rows[i][4 + axis] * 5000 + within(-reach, reach);
+                int64_t reach = inputs[i].values[6 + axis] * 5000 / 2 * 3;
+                positions[i][j][axis] = inputs[i].values[4 + axis] * 5000 + within(-reach, reach);
             }
+    }
+    for (int i = 0; i < MESSAGES; i++) {
+        with_nones[i] = inputs[i];
+        take_values(&with_nones[i]);
+        make_message(&with_nones[i], with_nones[i].message);
     }
 }
 
@@ -249,7 +288,7 @@ static void fill_table(size_t slots)
 {
     memset(table, 0, sizeof table);
     for (size_t i = 0; i < slots; i++)
-        if (tarnoklej_store(table, sizeof table, messages[i], BYTES) != TARNOKLEJ_DONE)
+        if (tarnoklej_store(table, sizeof table, inputs[i].message, BYTES) != TARNOKLEJ_DONE)
             stop("a message was refused", "table");
 }
 

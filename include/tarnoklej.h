@@ -4,7 +4,12 @@
  * Every call ends with an answer for every input, keeps nothing between calls and allocates nothing.
  * A refusal number says why a call was refused; refusals are tested in the order given at each call.
  * No pointer may be null, not even where its length is 0, and no buffer that a call writes may overlap another.
- * Every buffer must be memory of at least the length given with it, and fields must be aligned as an int64_t is.
+ * Every buffer must be memory of at least the length given with it, and values must be aligned as an int64_t is.
+ *
+ * A row holds the fields of a message in wire order, DF002 first, in two buffers side by side: values and present.
+ * Where a field has a value, present is 1; where it has none, that is where it is not available, present is 0 and its
+ * value is 0. Only fields of type intN can have none. The pattern by which a message says so on the wire is never given
+ * or taken as a value. A name is its counter and then its characters, one field each.
  */
 #ifndef TARNOKLEJ_H
 #define TARNOKLEJ_H
@@ -21,17 +26,17 @@ enum {
     TARNOKLEJ_NUMBER = 2,     /* not 1021 to 1027 */
     TARNOKLEJ_LENGTH = 3,     /* not exactly the length called for, or a name counter cannot be read */
     TARNOKLEJ_FILL = 4,       /* a fill bit is set */
-    TARNOKLEJ_RANGE = 5,      /* a field outside its range or width, or a wrong count of fields */
-    TARNOKLEJ_ROOM = 6,       /* output shorter than the message or its row */
+    TARNOKLEJ_RANGE = 5,      /* a field outside its range or width, or buffers that are no row of a message */
+    TARNOKLEJ_ROOM = 6,       /* an output shorter than the message or its row */
     TARNOKLEJ_KIND = 7,       /* a grid call on a message other than 1023 or 1024 */
     TARNOKLEJ_COMPONENT = 8,  /* not 0 to 2 */
     TARNOKLEJ_POSITION = 9,   /* 1023: beyond +-3,240,000,000 or +-6,480,000,000; 1024: either beyond +-10^12 */
     TARNOKLEJ_OFF = 10,       /* DF190 is 0 (components 0, 1) or DF191 is 0 (component 2) */
     TARNOKLEJ_METHOD = 11,    /* DF212 (components 0, 1) or DF213 (component 2) is not 0 */
-    TARNOKLEJ_ORIGIN = 12,    /* an origin field is not available */
+    TARNOKLEJ_ORIGIN = 12,    /* an origin field has no value */
     TARNOKLEJ_SPACING = 13,   /* a spacing is 0 */
     TARNOKLEJ_OUTSIDE = 14,   /* the position is not on or within the grid's outer rectangle */
-    TARNOKLEJ_ABSENT = 15,    /* the mean, or a node of non-zero weight, is not available */
+    TARNOKLEJ_ABSENT = 15,    /* the mean, or a node of non-zero weight, has no value */
     TARNOKLEJ_FULL = 16,      /* no slot of that key and no free slot */
     TARNOKLEJ_NONE = 17,      /* no such key, or group not 0 to 2 */
     TARNOKLEJ_TABLE = 18      /* the table has a wrong size or is not well formed */
@@ -43,7 +48,7 @@ enum {
     TARNOKLEJ_SLOTS = 32,        /* messages that a table holds */
     TARNOKLEJ_SLOT_SIZE = 128,   /* bytes of a slot: a length byte, a message, zeros */
     TARNOKLEJ_MOST_BYTES = 127,  /* bytes of the longest message, a 1022 of two names of 31 characters */
-    TARNOKLEJ_MOST_FIELDS = 90   /* numbers of the longest row, of the same message */
+    TARNOKLEJ_MOST_FIELDS = 90   /* fields of the longest row, of the same message */
 };
 
 /* The components of a shift. */
@@ -73,22 +78,26 @@ typedef struct { uint8_t refusal; size_t at; size_t length; } tarnoklej_found;
  */
 tarnoklej_header tarnoklej_read(const uint8_t *message, size_t message_length);
 
-/* Gives the raw numbers of a message in wire order, DF002 first, at the positions listed at the end of this file.
- * A name is its counter and then its characters, one number each.
- * Refusals in order: SHORT, NUMBER, LENGTH, FILL, RANGE, ROOM where room is less than the message's numbers.
- * Buffers: message is only read; the first places of fields hold the numbers and the rest keep theirs;
- * with a refusal all of fields keep theirs.
+/* Gives the row of a message: each field at the position that is listed for it at the end of this file.
+ * Refusals in order: SHORT, NUMBER, LENGTH, FILL, RANGE, ROOM where values_room or present_room is less than the
+ * message's fields.
+ * Buffers: message is only read; the first places of values and of present hold the row and the rest keep theirs;
+ * with a refusal all of both keep theirs.
  */
-uint8_t tarnoklej_read_fields(const uint8_t *message, size_t message_length, int64_t *fields, size_t room);
+uint8_t tarnoklej_read_fields(const uint8_t *message, size_t message_length, int64_t *values, size_t values_room,
+                              uint8_t *present, size_t present_room);
 
-/* Writes the message of a row of raw numbers, as tarnoklej_read_fields gives it, and gives its length in bytes.
+/* Writes the message of a row, as tarnoklej_read_fields gives it, and gives its length in bytes.
  * The fill bits are zero.
- * Refusals in order: RANGE (an unknown number or a wrong count of fields included), ROOM where room is less than
- * the message's bytes.
- * Buffers: fields is only read; the first bytes of out hold the message and the rest keep theirs;
+ * Refusals in order: RANGE, ROOM where room is less than the message's bytes.
+ * RANGE is given for an unknown number, for counts that differ or are not the message's count of fields, for a present
+ * other than 0 or 1, for a none whose value is not 0, for a none in a field that is not of type intN, and for a value
+ * outside its field's range or width, the pattern that says none on the wire included.
+ * Buffers: values and present are only read; the first bytes of out hold the message and the rest keep theirs;
  * with a refusal all of out keeps its bytes.
  */
-tarnoklej_written tarnoklej_write_fields(const int64_t *fields, size_t count, uint8_t *out, size_t room);
+tarnoklej_written tarnoklej_write_fields(const int64_t *values, size_t values_count, const uint8_t *present,
+                                         size_t present_count, uint8_t *out, size_t room);
 
 /* Gives the shift of a component at a position from a message 1023 or 1024, by bilinear interpolation: the mean
  * and the whole count nearest to the exact weighted mean of the cell's nodes, halves away from zero.
@@ -125,10 +134,10 @@ tarnoklej_found tarnoklej_find(const uint8_t *table, size_t size, uint8_t sin, u
 uint8_t tarnoklej_remove(uint8_t *table, size_t size, uint8_t sin, uint8_t group);
 
 /* Positions in a row by DF number: position, field, type, resolution, name.
- * N is the number at position 1, M the number at position 2+N; i is 0 to 15 for nodes 1 to 16.
- * A signed field's most negative number means "not available"; docs/FIELDS.md has the ranges.
+ * N is the value at position 1, M the value at position 2+N; i is 0 to 15 for nodes 1 to 16.
+ * A field of type intN can have no value (present 0), all others always have one; docs/FIELDS.md has the ranges.
  *
- * 1021, 25+N+M numbers:
+ * 1021, 25+N+M fields:
  *   0            DF002  uint12   1                   Message Number
  *   1            DF143  uint5    1                   Source-Name Counter
  *   2..1+N       DF144  char8    1                   Source-Name
@@ -157,7 +166,7 @@ uint8_t tarnoklej_remove(uint8_t *table, size_t size, uint8_t sin, uint8_t group
  *   23+N+M       DF214  uint3    1                   Horizontal Helmert/Molodenski Quality Indicator
  *   24+N+M       DF215  uint3    1                   Vertical Helmert/Molodenski Quality Indicator
  *
- * 1022, 28+N+M numbers:
+ * 1022, 28+N+M fields:
  *   0            DF002  uint12   1                   Message Number
  *   1            DF143  uint5    1                   Source-Name Counter
  *   2..1+N       DF144  char8    1                   Source-Name
@@ -189,7 +198,7 @@ uint8_t tarnoklej_remove(uint8_t *table, size_t size, uint8_t sin, uint8_t group
  *   26+N+M       DF214  uint3    1                   Horizontal Helmert/Molodenski Quality Indicator
  *   27+N+M       DF215  uint3    1                   Vertical Helmert/Molodenski Quality Indicator
  *
- * 1023, 64 numbers:
+ * 1023, 64 fields:
  *   0            DF002  uint12   1                   Message Number
  *   1            DF147  uint8    1                   System Identification Number
  *   2            DF190  bit(1)   1                   Horizontal Shift Indicator
@@ -210,7 +219,7 @@ uint8_t tarnoklej_remove(uint8_t *table, size_t size, uint8_t sin, uint8_t group
  *   62           DF217  uint3    1                   Vertical Grid Quality Indicator
  *   63           DF051  uint16   1                   Modified Julian Day (MJD) Number
  *
- * 1024, 64 numbers:
+ * 1024, 64 fields:
  *   0            DF002  uint12   1                   Message Number
  *   1            DF147  uint8    1                   System Identification Number
  *   2            DF190  bit(1)   1                   Horizontal Shift Indicator
@@ -231,7 +240,7 @@ uint8_t tarnoklej_remove(uint8_t *table, size_t size, uint8_t sin, uint8_t group
  *   62           DF217  uint3    1                   Vertical Grid Quality Indicator
  *   63           DF051  uint16   1                   Modified Julian Day (MJD) Number
  *
- * 1025, 8 numbers:
+ * 1025, 8 fields:
  *   0            DF002  uint12   1                   Message Number
  *   1            DF147  uint8    1                   System Identification Number
  *   2            DF170  uint6    1                   Projection Type
@@ -241,7 +250,7 @@ uint8_t tarnoklej_remove(uint8_t *table, size_t size, uint8_t sin, uint8_t group
  *   6            DF174  uint36   0.001 m             False Easting
  *   7            DF175  int35    0.001 m             False Northing
  *
- * 1026, 9 numbers:
+ * 1026, 9 fields:
  *   0            DF002  uint12   1                   Message Number
  *   1            DF147  uint8    1                   System Identification Number
  *   2            DF170  uint6    1                   Projection Type
@@ -252,7 +261,7 @@ uint8_t tarnoklej_remove(uint8_t *table, size_t size, uint8_t sin, uint8_t group
  *   7            DF180  uint36   0.001 m             Easting of False Origin
  *   8            DF181  int35    0.001 m             Northing of False Origin
  *
- * 1027, 11 numbers:
+ * 1027, 11 fields:
  *   0            DF002  uint12   1                   Message Number
  *   1            DF147  uint8    1                   System Identification Number
  *   2            DF170  uint6    1                   Projection Type

@@ -2,6 +2,9 @@
 //!
 //! DF002 and DF051 stand only in the message tables of 000 (tables 3.5-24 to 3.5-30).
 
+/// What a field says: a value, or that there is none (document 02, A5).
+pub type Reading = Option<i64>;
+
 /// How the bits of a field are read (000, table 3.3-1).
 #[derive(Clone, Copy, PartialEq, Eq, Debug)]
 pub enum Kind {
@@ -11,14 +14,14 @@ pub enum Kind {
     Character,
     /// uintN: an unsigned whole number.
     Unsigned,
-    /// intN: a two's complement whole number, its most negative pattern meaning "not available".
+    /// intN: a two's complement whole number, or none where it is sent as the most negative pattern of its width.
     Signed,
 }
 
-/// Which raw numbers a field takes besides the "not available" pattern.
+/// Which values a field takes.
 #[derive(Clone, Copy, PartialEq, Eq, Debug)]
 pub enum Limits {
-    /// All that the width holds.
+    /// All that the width holds, but for the "not available" pattern of a signed field.
     Width,
     /// From minus this number to this number.
     Within(i64),
@@ -39,7 +42,7 @@ pub struct Field {
     pub kind: Kind,
     /// The width in bits.
     pub width: u32,
-    /// Which raw numbers are taken.
+    /// Which values are taken.
     pub limits: Limits,
     /// The range column of table 3.4-1 as printed.
     pub printed_range: &'static str,
@@ -165,9 +168,19 @@ impl Field {
         self.kind == Signed
     }
 
-    /// The "not available" pattern of a signed field, its most negative number.
+    /// The number by which a signed field says that it has no value, the most negative one of its width.
     pub fn not_available(&self) -> Option<i64> {
         self.signed().then(|| -(1i64 << (self.width - 1)))
+    }
+
+    /// What a number of the field's width says: a value, or none where it is the "not available" pattern.
+    pub fn reading(&self, number: i64) -> Reading {
+        (self.not_available() != Some(number)).then_some(number)
+    }
+
+    /// The number that is sent for a reading, or none where an unsigned field is to have no value.
+    pub fn sent(&self, reading: Reading) -> Option<i64> {
+        reading.or(self.not_available())
     }
 
     /// The least number the width holds.
@@ -188,7 +201,7 @@ impl Field {
         }
     }
 
-    /// The least number of the range, the "not available" pattern left out.
+    /// The least value of the range.
     pub fn least(&self) -> i64 {
         match self.limits {
             Within(most) => -most,
@@ -198,7 +211,7 @@ impl Field {
         }
     }
 
-    /// The greatest number of the range.
+    /// The greatest value of the range.
     pub fn greatest(&self) -> i64 {
         match self.limits {
             Within(most) | AtMost(most) => most,
@@ -206,9 +219,14 @@ impl Field {
         }
     }
 
-    /// Whether the field takes a raw number.
+    /// Whether the field takes a value, which the "not available" pattern never is.
     pub fn takes(&self, value: i64) -> bool {
-        (self.least() <= value && value <= self.greatest()) || Some(value) == self.not_available()
+        self.least() <= value && value <= self.greatest()
+    }
+
+    /// Whether the field can have a reading: a value that it takes, or none where it is signed.
+    pub fn can_be(&self, reading: Reading) -> bool {
+        reading.map_or(self.signed(), |value| self.takes(value))
     }
 
     /// The data type as table 3.3-1 names it.

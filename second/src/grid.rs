@@ -1,7 +1,7 @@
-//! The shift at a position from a grid message, by exact whole numbers (document 01, "The grid"; document 02, A2).
+//! The shift at a position from a grid message, by exact whole numbers (document 01, "The grid"; document 02, A2 and A5).
 
-use crate::fields::by_df;
 use crate::message::{read, Message};
+use crate::record::{write_record, Record};
 use crate::refusal::Refusal;
 
 /// What differs between the ellipsoidal grid of 1023 and the plane grid of 1024.
@@ -89,32 +89,24 @@ fn plan_of(message: &Message) -> Option<&'static Plan> {
 /// The count at a position within the limits, with refusals 10 to 15 in order.
 fn count(message: &Message, plan: &Plan, component: usize, position: [i128; 2]) -> Result<i128, Refusal> {
     let (indicator, method) = if component == 2 { (191, 213) } else { (190, 212) };
-    if message.value(indicator) == 0 {
+    if message.number_in(indicator) == 0 {
         return Err(Refusal::Off);
     }
-    if message.value(method) != 0 {
+    if message.number_in(method) != 0 {
         return Err(Refusal::Method);
     }
-    if plan.origin.iter().any(|&df| absent(df, message.value(df))) {
+    let [Some(north), Some(east)] = plan.origin.map(|df| message.reading(df)) else {
         return Err(Refusal::Origin);
-    }
-    let spacing = plan.spacing.map(|df| message.value(df) as i128 * plan.steps);
+    };
+    let spacing = plan.spacing.map(|df| message.number_in(df) as i128 * plan.steps);
     if spacing.contains(&0) {
         return Err(Refusal::Spacing);
     }
-    let origin = plan.origin.map(|df| message.value(df) as i128 * plan.steps);
+    let origin = [north, east].map(|value| value as i128 * plan.steps);
     let cells = cells_at(spacing, differences(plan, origin, position)).ok_or(Refusal::Outside)?;
-    let mean = message.value(plan.mean[component]);
-    if absent(plan.mean[component], mean) {
-        return Err(Refusal::Absent);
-    }
+    let mean = message.reading(plan.mean[component]).ok_or(Refusal::Absent)?;
     let residual = same_in_all(&cells, |cell| residual_in(message, plan, component, spacing, cell))?;
     Ok(mean as i128 * plan.mean_factor[component] + residual)
-}
-
-/// Whether a raw number is the "not available" pattern of its field.
-fn absent(df: u16, value: i64) -> bool {
-    by_df(df).not_available() == Some(value)
 }
 
 /// A cell that holds the position, and the place of the position in it.
@@ -166,7 +158,7 @@ fn same_in_all<T: PartialEq + Copy + std::fmt::Debug>(cells: &[Cell], of: impl F
     first
 }
 
-/// The nearest whole count to the exact weighted mean of a cell's four nodes.
+/// The nearest whole count to the exact weighted mean of a cell's four nodes, of which those with weight must have a value.
 fn residual_in(
     message: &Message,
     plan: &Plan,
@@ -174,15 +166,13 @@ fn residual_in(
     spacing: [i128; 2],
     cell: &Cell,
 ) -> Result<i128, Refusal> {
-    let df = plan.node[component];
-    let nodes = message.values(df);
+    let nodes = message.readings(plan.node[component]);
     let mut sum = 0;
     for (place, weight) in weights(spacing, cell) {
-        let node = nodes[place];
-        if weight != 0 && absent(df, node) {
-            return Err(Refusal::Absent);
+        if weight != 0 {
+            let node = nodes[place].ok_or(Refusal::Absent)?;
+            sum += weight * node as i128 * plan.node_factor[component];
         }
-        sum += weight * node as i128 * plan.node_factor[component];
     }
     Ok(nearest(sum, spacing[0] * spacing[1]))
 }
@@ -221,6 +211,19 @@ pub fn answer(bytes: &[u8], component: u8, north: i64, east: i64) -> Answer {
         Err(refusal) => Answer::Refused(refusal.number()),
         Ok(count) if in_seconds(bytes, component) => Answer::Seconds(count as f64 / 100_000.0),
         Ok(count) => Answer::Metres(count as f64 / 10_000.0),
+    }
+}
+
+/// The count at a position from a grid record: RANGE where no grid message holds it, then as for the message.
+pub fn shift_of(record: &Record, component: u8, north: i64, east: i64) -> Result<i64, Refusal> {
+    shift(&write_record(record, usize::MAX)?, component, north, east)
+}
+
+/// The answer from a grid record a second time.
+pub fn answer_of(record: &Record, component: u8, north: i64, east: i64) -> Answer {
+    match write_record(record, usize::MAX) {
+        Err(refusal) => Answer::Refused(refusal.number()),
+        Ok(bytes) => answer(&bytes, component, north, east),
     }
 }
 

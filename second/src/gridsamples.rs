@@ -1,5 +1,6 @@
 //! Grid messages to try the shift on.
 
+use crate::fields::Reading;
 use crate::samples::Sample;
 
 /// 180 degrees in steps of 1023.
@@ -22,12 +23,12 @@ impl Grid {
     }
 
     /// A grid of a number, an origin, spacings, means and nodes, with both shifts on.
-    pub fn of(
+    pub fn of<R: Into<Reading>>(
         number: u16,
         origin: [i64; 2],
         spacing: [i64; 2],
         mean: [i64; 3],
-        node: impl FnMut(usize, usize) -> i64,
+        node: impl FnMut(usize, usize) -> R,
     ) -> Grid {
         let grid = Grid { sample: Sample::zeros(number) }.set(147, 9).set(190, 1).set(191, 1);
         let [lat, lon] = grid.origin_fields();
@@ -72,19 +73,23 @@ impl Grid {
         first + component as u16
     }
 
-    /// The same grid with another number for one data field.
-    pub fn set(&self, df: u16, value: i64) -> Grid {
-        Grid { sample: self.sample.with(df, value) }
+    /// The same grid with another reading for one data field.
+    pub fn set(&self, df: u16, reading: impl Into<Reading>) -> Grid {
+        Grid { sample: self.sample.with(df, reading) }
     }
 
-    /// The same grid with another number at one node, nodes being numbered from 1.
-    pub fn set_node(&self, component: usize, node: usize, value: i64) -> Grid {
-        let place = self.sample.place(self.node_field(component)) + 3 * (node - 1);
-        Grid { sample: self.sample.with_at(place, value) }
+    /// The place in the row of a node, nodes being numbered from 1.
+    fn node_place(&self, component: usize, node: usize) -> usize {
+        self.sample.place(self.node_field(component)) + 3 * (node - 1)
+    }
+
+    /// The same grid with another reading at one node.
+    pub fn set_node(&self, component: usize, node: usize, reading: impl Into<Reading>) -> Grid {
+        Grid { sample: self.sample.with_at(self.node_place(component, node), reading) }
     }
 
     /// The same grid with all nodes given by component and node number.
-    pub fn set_nodes(&self, mut node: impl FnMut(usize, usize) -> i64) -> Grid {
+    pub fn set_nodes<R: Into<Reading>>(&self, mut node: impl FnMut(usize, usize) -> R) -> Grid {
         let mut grid = self.clone();
         for component in 0..3 {
             for number in 1..=16 {
@@ -94,9 +99,14 @@ impl Grid {
         grid
     }
 
-    /// The raw number at a node.
-    pub fn node(&self, component: usize, node: usize) -> i64 {
-        self.sample.row[self.sample.place(self.node_field(component)) + 3 * (node - 1)]
+    /// What a node says.
+    pub fn node(&self, component: usize, node: usize) -> Reading {
+        self.sample.readings[self.node_place(component, node)]
+    }
+
+    /// The same grid with all values of nodes negated.
+    pub fn negated(&self) -> Grid {
+        self.set_nodes(|component, node| self.node(component, node).map(|value| -value))
     }
 
     /// The bytes of the message.
@@ -113,14 +123,14 @@ impl Grid {
         }
     }
 
-    /// The origin in steps.
+    /// The origin in steps, a field without a value counting as 0.
     pub fn origin(&self) -> [i64; 2] {
-        self.origin_fields().map(|df| self.sample.row[self.sample.place(df)] * self.unit())
+        self.origin_fields().map(|df| self.sample.readings[self.sample.place(df)].unwrap_or(0) * self.unit())
     }
 
     /// The spacings in steps.
     pub fn spacing(&self) -> [i64; 2] {
-        self.spacing_fields().map(|df| self.sample.row[self.sample.place(df)] * self.unit())
+        self.spacing_fields().map(|df| self.sample.value(df) * self.unit())
     }
 
     /// The position some steps north and east of another, a longitude past 180 degrees being named from the other side.

@@ -1,7 +1,7 @@
 //! An independent second program for RTCM messages 1021 to 1027.
 //!
-//! It is written from document 01, from source documents 000, 003 and 004, and from docs/DECISIONS.md where these leave a
-//! choice. It shares no code with the proved library.
+//! It is written from document 01, from requests A2 and A5 of document 02, from source documents 000, 003 and 004, and from
+//! docs/DECISIONS.md where these leave a choice. It shares no code with the proved library.
 
 pub mod bits;
 pub mod example;
@@ -21,6 +21,7 @@ pub mod refusal;
 pub mod samples;
 pub mod selfcheck;
 pub mod selfcheck_grid;
+pub mod selfcheck_nones;
 pub mod selfcheck_table;
 pub mod services;
 pub mod table;

@@ -1,12 +1,47 @@
-//! Reading and writing one message by document 01, refusals 1 to 7.
+//! Reading and writing one message by document 01, refusals 1 to 7, a field being a value or none (document 02, A5).
 
 use crate::bits::{BitReader, BitWriter};
-use crate::fields::{by_df, Field};
+use crate::fields::{by_df, Field, Reading};
 use crate::layouts::{layout, Part};
 use crate::refusal::Refusal;
 
 /// The width of DF002, with which every message begins.
 const NUMBER_WIDTH: u32 = 12;
+
+/// A row: two buffers side by side, the values of the fields and whether each is present.
+#[derive(Clone, PartialEq, Eq, Debug)]
+pub struct Row {
+    /// The values, 0 where a field has none.
+    pub values: Vec<i64>,
+    /// 1 where the field has a value, 0 where it has none.
+    pub present: Vec<u8>,
+}
+
+impl Row {
+    /// The row of fields in wire order.
+    pub fn of(readings: &[Reading]) -> Row {
+        Row {
+            values: readings.iter().map(|reading| reading.unwrap_or(0)).collect(),
+            present: readings.iter().map(|reading| reading.is_some() as u8).collect(),
+        }
+    }
+
+    /// What each place says, or nothing where the buffers are no row.
+    fn readings(&self) -> Option<Vec<Reading>> {
+        let as_many = self.values.len() == self.present.len();
+        let places = self.values.iter().zip(&self.present);
+        as_many.then(|| places.map(|(&value, &present)| place_of(value, present)).collect())?
+    }
+}
+
+/// What one place of a row says, or nothing where its two numbers are no place.
+fn place_of(value: i64, present: u8) -> Option<Reading> {
+    match (present, value) {
+        (1, _) => Some(Some(value)),
+        (0, 0) => Some(None),
+        _ => None,
+    }
+}
 
 /// An accepted message.
 #[derive(Clone, PartialEq, Eq, Debug)]
@@ -15,29 +50,39 @@ pub struct Message {
     pub number: u16,
     /// The length in bytes.
     pub length: usize,
-    /// Every field in wire order: DF number and raw number.
-    pub fields: Vec<(u16, i64)>,
+    /// Every field in wire order: DF number and what the field says.
+    pub fields: Vec<(u16, Reading)>,
 }
 
 impl Message {
-    /// The raw numbers in wire order, DF002 first.
-    pub fn row(&self) -> Vec<i64> {
-        self.fields.iter().map(|&(_, value)| value).collect()
+    /// What the fields say in wire order, DF002 first.
+    pub fn all_readings(&self) -> Vec<Reading> {
+        self.fields.iter().map(|&(_, reading)| reading).collect()
     }
 
-    /// The raw number of a field that stands once.
-    pub fn value(&self, df: u16) -> i64 {
-        self.values(df)[0]
+    /// The row of the message.
+    pub fn row(&self) -> Row {
+        Row::of(&self.all_readings())
     }
 
-    /// The raw numbers of a field that stands many times, in wire order.
-    pub fn values(&self, df: u16) -> Vec<i64> {
+    /// What a field says that stands once.
+    pub fn reading(&self, df: u16) -> Reading {
+        self.readings(df)[0]
+    }
+
+    /// What a field says that stands many times, in wire order.
+    pub fn readings(&self, df: u16) -> Vec<Reading> {
         self.fields.iter().filter(|f| f.0 == df).map(|f| f.1).collect()
+    }
+
+    /// The number of a field that stands once and always has a value.
+    pub fn number_in(&self, df: u16) -> i64 {
+        self.reading(df).expect("an unsigned field has a value")
     }
 
     /// The system identification number, DF147.
     pub fn sin(&self) -> u8 {
-        self.value(147) as u8
+        self.number_in(147) as u8
     }
 }
 
@@ -56,7 +101,7 @@ pub fn read(bytes: &[u8]) -> Result<Message, Refusal> {
         return Err(Refusal::Fill);
     }
     let fields = read_fields(bytes, parts);
-    if fields.iter().any(|&(df, value)| !by_df(df).takes(value)) {
+    if fields.iter().any(|&(df, reading)| !by_df(df).can_be(reading)) {
         return Err(Refusal::Range);
     }
     Ok(Message { number: number as u16, length: bytes.len(), fields })
@@ -89,7 +134,7 @@ fn fill_is_set(bytes: &[u8], bits: usize) -> bool {
 }
 
 /// Reads every field of a message that has the length called for.
-fn read_fields(bytes: &[u8], parts: &[Part]) -> Vec<(u16, i64)> {
+fn read_fields(bytes: &[u8], parts: &[Part]) -> Vec<(u16, Reading)> {
     let mut reader = BitReader::new(bytes);
     let mut fields = Vec::new();
     for part in parts {
@@ -98,7 +143,8 @@ fn read_fields(bytes: &[u8], parts: &[Part]) -> Vec<(u16, i64)> {
             Part::Name { counter, character } => {
                 let characters = read_one(&mut reader, counter);
                 fields.push((counter, characters));
-                (0..characters).for_each(|_| fields.push((character, read_one(&mut reader, character))));
+                let count = characters.expect("a counter has a value");
+                (0..count).for_each(|_| fields.push((character, read_one(&mut reader, character))));
             }
             Part::SixteenPoints(three) => {
                 (0..16).for_each(|_| three.iter().for_each(|&df| fields.push((df, read_one(&mut reader, df)))));
@@ -109,16 +155,21 @@ fn read_fields(bytes: &[u8], parts: &[Part]) -> Vec<(u16, i64)> {
 }
 
 /// Reads one field.
-fn read_one(reader: &mut BitReader, df: u16) -> i64 {
+fn read_one(reader: &mut BitReader, df: u16) -> Reading {
     let field = by_df(df);
-    let value = if field.signed() { reader.signed(field.width) } else { reader.unsigned(field.width) };
-    value.expect("the length was checked")
+    let number = if field.signed() { reader.signed(field.width) } else { reader.unsigned(field.width) };
+    field.reading(number.expect("the length was checked"))
 }
 
-/// Writes a row of raw numbers, with RANGE and then ROOM.
-pub fn write_row(row: &[i64], room: usize) -> Result<Vec<u8>, Refusal> {
-    let fields = fields_of_row(row).ok_or(Refusal::Range)?;
-    if fields.iter().any(|(field, value)| !field.takes(*value)) {
+/// Writes a row, with RANGE and then ROOM.
+pub fn write_row(row: &Row, room: usize) -> Result<Vec<u8>, Refusal> {
+    write_readings(&row.readings().ok_or(Refusal::Range)?, room)
+}
+
+/// Writes fields in wire order, with RANGE and then ROOM.
+pub fn write_readings(readings: &[Reading], room: usize) -> Result<Vec<u8>, Refusal> {
+    let fields = fields_of(readings).ok_or(Refusal::Range)?;
+    if fields.iter().any(|(field, reading)| !field.can_be(*reading)) {
         return Err(Refusal::Range);
     }
     let bytes = bytes_of(&fields);
@@ -129,21 +180,21 @@ pub fn write_row(row: &[i64], room: usize) -> Result<Vec<u8>, Refusal> {
     }
 }
 
-/// Each number of a row with its field, or none where the row does not have the layout's count of fields.
-fn fields_of_row(row: &[i64]) -> Option<Vec<(&'static Field, i64)>> {
-    let parts = layout(*row.first()?)?;
-    let mut rest = row.iter().copied();
+/// Each reading with its field, or none where there are not as many as the layout has fields.
+fn fields_of(readings: &[Reading]) -> Option<Vec<(&'static Field, Reading)>> {
+    let parts = layout((*readings.first()?)?)?;
+    let mut rest = readings.iter().copied();
     let mut fields = Vec::new();
     for part in parts {
         match *part {
             Part::One(df) => fields.push((by_df(df), rest.next()?)),
             Part::Name { counter, character } => {
                 let characters = rest.next()?;
-                if !by_df(counter).takes(characters) {
+                if !by_df(counter).can_be(characters) {
                     return None;
                 }
                 fields.push((by_df(counter), characters));
-                for _ in 0..characters {
+                for _ in 0..characters? {
                     fields.push((by_df(character), rest.next()?));
                 }
             }
@@ -159,10 +210,12 @@ fn fields_of_row(row: &[i64]) -> Option<Vec<(&'static Field, i64)>> {
     rest.next().is_none().then_some(fields)
 }
 
-/// The bytes of fields that all take their numbers.
-fn bytes_of(fields: &[(&Field, i64)]) -> Vec<u8> {
+/// The bytes of fields that can all have their readings.
+fn bytes_of(fields: &[(&Field, Reading)]) -> Vec<u8> {
     let mut writer = BitWriter::default();
-    fields.iter().for_each(|(field, value)| writer.number(*value, field.width));
+    for (field, reading) in fields {
+        writer.number(field.sent(*reading).expect("a reading that the field can have"), field.width);
+    }
     writer.into_bytes()
 }
 

@@ -8,11 +8,12 @@ const HEAD: &str = "# The data fields
 
 Every data field of messages 1021 to 1027, as the reader and the writer take it.
 \"Printed\" is what table 3.4-1 of source document 000 prints for range and resolution.
-The raw range is in whole numbers; a signed field also takes its most negative number, which means \"not available\".
+The range is that of a field's values, in whole numbers of its resolution. A signed field can also have no value: it is then sent as the number
+in the column \"Sent for none\", the most negative one of its width, which is no value. All other fields always have a value.
 The last column says whether document 01, table 3.3-1 and table 3.4-1 agree, or names the decision in docs/DECISIONS.md.
 The page is printed by `second fields`, and `second papers` compares the same table with the text of source document 000.
 
-| DF | Name | Messages | Bits | Type | Raw range | Not available | Resolution | Printed range | Printed resolution | Agreement |
+| DF | Name | Messages | Bits | Type | Range | Sent for none | Resolution | Printed range | Printed resolution | Agreement |
 |---|---|---|---|---|---|---|---|---|---|---|
 ";
 
@@ -87,14 +88,14 @@ fn agreement(df: u16) -> &'static str {
         163..=165 => "D4: the printed range is one step more than int35 holds",
         166..=169 => "agree; D12: range printed without its unit; D17: 0 is carried",
         171 | 172 | 176..=179 | 183 | 184 => "D7: the printed range is not a whole number of steps",
-        185 => "D7: the printed range is not a whole number of steps; no pattern means \"not available\"",
+        185 => "D7: the printed range is not a whole number of steps; it always has a value",
         186 => "D2: table 3.3-1 prints ±33,554,407 for int26",
         192 | 193 => "ranges agree; D11: the note says degrees; D13: the origin is the middle of the grid",
         194 | 195 => "agree; D11: the note says degrees; D13: \"extension\" is the spacing of nodes; D17: 0 is carried",
         204 | 205 => "agree; D13: \"extension\" is the spacing of nodes; D17: 0 is carried",
         198 | 208 => "D5: the printed range is one step more than int15 holds",
         202 => "D1: table 3.3-1 prints ±16,777,203 for int25; D13: the origin is the middle of the grid",
-        203 => "agree; D13: the origin is the middle of the grid; D30: no pattern means \"not available\"",
+        203 => "agree; D13: the origin is the middle of the grid; D30: it always has a value",
         206 | 207 => "D6: 0.01 m, so the mean's factor is 100 and not document 01's 10",
         _ => "agree",
     }
@@ -102,7 +103,7 @@ fn agreement(df: u16) -> &'static str {
 
 /// One line of the page.
 fn line(field: &Field) -> String {
-    let not_available = field.not_available().map_or("-".to_string(), grouped);
+    let sent_for_none = field.not_available().map_or("-".to_string(), grouped);
     format!(
         "| DF{:03} | {} | {} | {} | {} | {} to {} | {} | {} | {} | {} | {} |\n",
         field.df,
@@ -112,7 +113,7 @@ fn line(field: &Field) -> String {
         data_type(field),
         grouped(field.least()),
         grouped(field.greatest()),
-        not_available,
+        sent_for_none,
         resolution(field),
         printed(field.printed_range),
         printed(field.printed_resolution),

@@ -6,8 +6,8 @@ use crate::page::resolution;
 
 /// The first lines of the comment.
 const HEAD: &str = "/* Positions in a row by DF number: position, field, type, resolution, name.
- * N is the number at position 1, M the number at position 2+N; i is 0 to 15 for nodes 1 to 16.
- * A signed field's most negative number means \"not available\"; docs/FIELDS.md has the ranges.
+ * N is the value at position 1, M the value at position 2+N; i is 0 to 15 for nodes 1 to 16.
+ * A field of type intN can have no value (present 0), all others always have one; docs/FIELDS.md has the ranges.
 ";
 
 /// A position that may lie behind names.
@@ -72,7 +72,7 @@ pub fn comment() -> String {
     let mut text = HEAD.to_string();
     for number in NUMBERS {
         let (lines, end) = lines(number);
-        text += &format!(" *\n * {number}, {} numbers:\n{lines}", end.text());
+        text += &format!(" *\n * {number}, {} fields:\n{lines}", end.text());
     }
     text + " */\n"
 }

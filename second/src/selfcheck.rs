@@ -42,6 +42,7 @@ impl Group {
 pub fn groups() -> Vec<Group> {
     let mut groups = vec![totals(), ranges(), fields_once(), worked(), program(), kinds()];
     groups.extend([round_trip_rows(), round_trip_bytes(), bad_names()]);
+    groups.extend(crate::selfcheck_nones::groups());
     groups.extend(crate::selfcheck_grid::groups());
     groups.extend(crate::selfcheck_table::groups());
     groups
@@ -57,8 +58,9 @@ fn totals() -> Group {
         group.equal("bytes", Sample::zeros(number).bytes().len(), lengths[i]);
     }
     let longest = [b'x'; 31];
-    group.equal("longest 1021", Sample::new(1021, [&longest, &longest], |_| 0).bytes().len(), 114);
-    group.equal("longest 1022", Sample::new(1022, [&longest, &longest], |_| 0).bytes().len(), 127);
+    for (number, length) in [(1021, 114), (1022, 127)] {
+        group.equal("longest", Sample::new(number, [&longest, &longest], |_| 0).bytes().len(), length);
+    }
     group
 }
 
@@ -74,19 +76,19 @@ fn upper_end(printed: &str) -> &str {
     printed.rsplit(['–', '-', '±']).next().unwrap_or(printed)
 }
 
-/// The data fields whose printed range is one raw step more than the width holds (decisions D4 and D5).
+/// The data fields whose printed range is one step more than the width holds (decisions D4 and D5).
 const ONE_STEP_TOO_FAR: [u16; 5] = [163, 164, 165, 198, 208];
 
-/// The greatest raw number that a printed range and resolution give.
+/// The greatest value that a printed range and resolution give.
 fn greatest_printed(field: &Field) -> i64 {
     let resolution = if field.printed_resolution.is_empty() { "1" } else { field.printed_resolution };
     let steps = billionths(upper_end(field.printed_range)) / billionths(resolution);
     steps as i64
 }
 
-/// Raw ranges against printed ranges over printed resolutions.
+/// Ranges of values against printed ranges over printed resolutions.
 fn ranges() -> Group {
-    let mut group = Group::new("raw ranges against printed ranges");
+    let mut group = Group::new("ranges of values against printed ranges");
     for field in FIELDS.iter().filter(|f| !f.printed_range.is_empty()) {
         let beyond = ONE_STEP_TOO_FAR.contains(&field.df) as i64;
         group.equal(&format!("DF{} greatest", field.df), field.greatest(), greatest_printed(field) - beyond);
@@ -121,8 +123,11 @@ fn worked() -> Group {
     let mut filled = bytes.clone();
     filled[51] |= 1;
     group.equal("last bit set", read(&filled), Err(Refusal::Fill));
-    for (value, refusal) in [(162_000, 0), (-162_000, 0), (-262_144, 0), (162_001, 5), (-162_001, 5)] {
-        group.equal("DF152", number_of(&read(&p12.with(152, value).bytes())), refusal);
+    for (reading, refusal) in
+        [(Some(162_000), 0), (Some(-162_000), 0), (None, 0), (Some(162_001), 5), (Some(-162_001), 5)]
+    {
+        group.equal("DF152", number_of(&read(&p12.with(152, reading).bytes())), refusal);
+        group.equal("DF152 written", number_of(&write_row(&p12.with(152, reading).row(), 52)), refusal);
     }
     group.equal("no byte", read(&[]), Err(Refusal::Short));
     group.equal("one byte", read(&[0x3f]), Err(Refusal::Short));
@@ -174,7 +179,7 @@ fn round_trip_rows() -> Group {
     let mut random = Random::new(1);
     for number in NUMBERS {
         for _ in 0..ROUNDS {
-            let row = Sample::any(&mut random, number).row;
+            let row = Sample::any(&mut random, number).row();
             let back = write_row(&row, 127).and_then(|bytes| read(&bytes)).map(|message| message.row());
             group.check(back.as_ref() == Ok(&row), || format!("{row:?} came back as {back:?}"));
         }
@@ -217,7 +222,7 @@ fn bad_names() -> Group {
     unclean.names.as_mut().expect("two names")[0].characters[30] = 1;
     group.equal("unclean", write_record(&unclean, 127), Err(Refusal::Range));
     let mut other = record;
-    other.fields[0].1 = 1025;
+    other.fields[0].1 = Some(1025);
     group.equal("other number", write_record(&other, 127), Err(Refusal::Range));
     group
 }

@@ -72,8 +72,8 @@ fn worked() -> Group {
     group.equal("middle", k.origin(), [1_764_000_000, 396_000_000]);
     group.equal("node 1", k.at_node(1), [1_769_400_000, 390_600_000]);
     let [north, east] = k.at_node(6);
-    let negated = k.set_nodes(|component, node| -k.node(component, node));
-    let gap = k.set_node(2, 7, -256);
+    let negated = k.negated();
+    let gap = k.set_node(2, 7, None);
     let mut at = |name: &str, grid: &Grid, component: u8, position: [i64; 2], expected: Result<i64, Refusal>| {
         group.equal(name, shift(&grid.bytes(), component, position[0], position[1]), expected);
     };
@@ -194,8 +194,8 @@ fn both_names_of_the_meridian() -> Group {
 fn same_elsewhere() -> Group {
     let mut group = Group::new("grids across 180 degrees as elsewhere");
     let mut random = Random::new(25);
-    let negated = Grid::k().set_nodes(|component, node| -Grid::k().node(component, node));
-    for grid in [Grid::k(), negated, Grid::k().set_node(2, 7, -256)] {
+    let negated = Grid::k().negated();
+    for grid in [Grid::k(), negated, Grid::k().set_node(2, 7, None)] {
         for longitude in [1_296_000, -1_296_000, 1_295_640, -1_294_921] {
             let across = grid.set(193, longitude);
             for node in 1..=16 {
@@ -250,9 +250,9 @@ fn at_nodes() -> Group {
                 let [north, east] = grid.at_node(node);
                 let given = shift(&grid.bytes(), component as u8, north, east);
                 let factor = if number == 1023 && component < 2 { 3 } else { 10 };
-                let mean = grid.sample.row[grid.sample.place(grid.mean_field(component))];
-                let raw = grid.node(component, node);
-                let expected = if raw == -256 { Err(Refusal::Absent) } else { Ok(mean * 100 + raw * factor) };
+                let mean = grid.sample.value(grid.mean_field(component));
+                let value = grid.node(component, node).ok_or(Refusal::Absent);
+                let expected = value.map(|value| mean * 100 + value * factor);
                 group.equal("node", given, expected);
             }
         }
@@ -262,7 +262,7 @@ fn at_nodes() -> Group {
 
 /// The greatest difference of neighbouring nodes, in counts: in a column and in a row.
 fn greatest_differences(grid: &Grid, component: usize, factor: i64) -> [i128; 2] {
-    let node = |row: usize, column: usize| grid.node(component, row * 4 + column + 1);
+    let node = |row: usize, column: usize| grid.node(component, row * 4 + column + 1).expect("a node with a value");
     let mut most = [0, 0];
     for line in 0..4 {
         for step in 0..3 {

@@ -82,7 +82,7 @@ fn angle(ten_millionths: i64) -> i64 {
     }
 }
 
-/// A message of given names and fields, fields that stand sixteen times being given node by node.
+/// A message of given names and of fields by the numbers that are sent, those that stand sixteen times node by node.
 fn message(number: u16, names: [&str; 2], fields: &[(u16, i64)], nodes: &[(u16, [i64; 16])]) -> Vec<u8> {
     let mut seen = [0usize; 256];
     let mut value = |field: &Field| {
@@ -90,10 +90,10 @@ fn message(number: u16, names: [&str; 2], fields: &[(u16, i64)], nodes: &[(u16, 
         seen[df as usize] += 1;
         let node = nodes.iter().find(|n| n.0 == df).map(|n| n.1[seen[df as usize] - 1]);
         let single = fields.iter().find(|f| f.0 == df).map(|f| f.1);
-        node.or(single).unwrap_or(0)
+        field.reading(node.or(single).unwrap_or(0))
     };
     let sample = Sample::new(number, [names[0].as_bytes(), names[1].as_bytes()], &mut value);
-    assert!(sample.dfs.iter().zip(&sample.row).all(|(&df, &v)| by_df(df).takes(v)));
+    assert!(sample.dfs.iter().zip(&sample.readings).all(|(&df, &reading)| by_df(df).can_be(reading)));
     sample.bytes()
 }
 

@@ -49,10 +49,24 @@ pub struct Found {
 extern "C" {
     /// Gives number, length and system identification number of a message.
     pub fn tarnoklej_read(message: *const u8, message_length: usize) -> Header;
-    /// Gives the raw numbers of a message in wire order.
-    pub fn tarnoklej_read_fields(message: *const u8, message_length: usize, fields: *mut i64, room: usize) -> u8;
-    /// Writes the message of a row of raw numbers.
-    pub fn tarnoklej_write_fields(fields: *const i64, count: usize, out: *mut u8, room: usize) -> Written;
+    /// Gives the row of a message, values and whether each is present.
+    pub fn tarnoklej_read_fields(
+        message: *const u8,
+        message_length: usize,
+        values: *mut i64,
+        values_room: usize,
+        present: *mut u8,
+        present_room: usize,
+    ) -> u8;
+    /// Writes the message of a row.
+    pub fn tarnoklej_write_fields(
+        values: *const i64,
+        values_count: usize,
+        present: *const u8,
+        present_count: usize,
+        out: *mut u8,
+        room: usize,
+    ) -> Written;
     /// Gives the shift of a component at a position.
     pub fn tarnoklej_shift_at(message: *const u8, message_length: usize, component: u8, north: i64, east: i64)
         -> Shift;

@@ -2,6 +2,8 @@
 //!
 //! Every call ends with an answer for every input, keeps nothing between calls, and gives a [`Refusal`]
 //! where it does not do what it was asked for. The refusals of each function are listed in the order of their tests.
+//! A row holds the fields of a message in wire order, DF002 first; a field is a value, or `None` where it is not available.
+//! Only fields of type intN can be `None`. A name is its counter and then its characters, one field each.
 //! include/tarnoklej.h lists the positions of the data fields in a row.
 
 pub mod ffi;
@@ -15,7 +17,7 @@ pub const TABLE_SIZE: usize = 4_096;
 pub const SLOTS: usize = 32;
 /// The bytes of the longest message, a 1022 of two names of 31 characters.
 pub const MOST_BYTES: usize = 127;
-/// The numbers of the longest row, of the same message.
+/// The fields of the longest row, of the same message.
 pub const MOST_FIELDS: usize = 90;
 
 /// The component north-south, in counts of 0.00001 arc second (1023) or 0.1 mm (1024).
@@ -79,23 +81,27 @@ pub fn read(message: &[u8]) -> Result<Header, Refusal> {
     Ok(Header { number: header.number, length: header.length, sin: header.sin })
 }
 
-/// Gives the raw numbers of a message in wire order, DF002 first.
+/// Gives the row of a message.
 ///
 /// Refusals: SHORT, NUMBER, LENGTH, FILL, RANGE.
 ///
 /// ```
+/// // A 1025 whose false northing (DF175), the last field, is not available.
 /// let mut message = vec![0x40, 0x10, 0x50];
 /// message.resize(25, 0);
-/// assert_eq!(tarnoklej::read_fields(&message), Ok(vec![1025, 5, 0, 0, 0, 0, 0, 0]));
+/// message[20] = 0x40;
+/// let mut row = [1025, 5, 0, 0, 0, 0, 0, 0].map(Some);
+/// row[7] = None;
+/// assert_eq!(tarnoklej::read_fields(&message), Ok(row.to_vec()));
 /// ```
-pub fn read_fields(message: &[u8]) -> Result<Vec<i64>, Refusal> {
-    let mut fields = vec![0; MOST_FIELDS];
+pub fn read_fields(message: &[u8]) -> Result<Vec<Option<i64>>, Refusal> {
+    let mut fields = vec![None; MOST_FIELDS];
     let count = read_fields_into(message, &mut fields)?;
     fields.truncate(count);
     Ok(fields)
 }
 
-/// Puts the raw numbers of a message into the first places of a row, keeps the rest, and gives their count.
+/// Puts the fields of a message into the first places of a row, keeps the rest, and gives their count.
 ///
 /// Refusals: SHORT, NUMBER, LENGTH, FILL, RANGE, ROOM; with a refusal the row stays as it was.
 ///
@@ -104,26 +110,40 @@ pub fn read_fields(message: &[u8]) -> Result<Vec<i64>, Refusal> {
 ///
 /// let mut message = vec![0x40, 0x10, 0x50];
 /// message.resize(25, 0);
-/// let mut row = [-1; 10];
+/// let mut row = [Some(-1); 10];
 /// assert_eq!(read_fields_into(&message, &mut row), Ok(8));
-/// assert_eq!(row, [1025, 5, 0, 0, 0, 0, 0, 0, -1, -1]);
+/// assert_eq!(row, [1025, 5, 0, 0, 0, 0, 0, 0, -1, -1].map(Some));
 /// assert_eq!(read_fields_into(&message, &mut row[..7]), Err(Refusal::Room));
 /// ```
-pub fn read_fields_into(message: &[u8], fields: &mut [i64]) -> Result<usize, Refusal> {
-    // SAFETY: both pointers and lengths are those of slices, and a slice lent for writing overlaps no other.
-    let refusal =
-        unsafe { ffi::tarnoklej_read_fields(message.as_ptr(), message.len(), fields.as_mut_ptr(), fields.len()) };
+pub fn read_fields_into(message: &[u8], fields: &mut [Option<i64>]) -> Result<usize, Refusal> {
+    let (mut values, mut present) = ([0; MOST_FIELDS], [0; MOST_FIELDS]);
+    let room = fields.len().min(MOST_FIELDS);
+    // SAFETY: the pointers are those of slices that do not overlap, and the lengths are at most theirs.
+    let refusal = unsafe {
+        ffi::tarnoklej_read_fields(
+            message.as_ptr(),
+            message.len(),
+            values.as_mut_ptr(),
+            room,
+            present.as_mut_ptr(),
+            room,
+        )
+    };
     done(refusal)?;
-    Ok(field_count(fields))
+    let count = field_count(&values);
+    for (field, place) in fields.iter_mut().zip(0..count) {
+        *field = (present[place] == 1).then_some(values[place]);
+    }
+    Ok(count)
 }
 
-/// The count of numbers of an accepted message, whose row begins with them.
-fn field_count(fields: &[i64]) -> usize {
+/// The count of fields of an accepted message, whose values are given.
+fn field_count(values: &[i64]) -> usize {
     let names = || {
-        let source = fields[1] as usize;
-        source + fields[2 + source] as usize
+        let source = values[1] as usize;
+        source + values[2 + source] as usize
     };
-    match fields[0] {
+    match values[0] {
         1021 => 25 + names(),
         1022 => 28 + names(),
         1023 | 1024 => 64,
@@ -133,22 +153,39 @@ fn field_count(fields: &[i64]) -> usize {
     }
 }
 
-/// Writes the message of a row of raw numbers into the first bytes of a buffer, keeps the rest, and gives its length.
+/// One field more than a row has at most, so that every longer row can be passed as one of so many fields.
+const TOO_MANY_FIELDS: usize = MOST_FIELDS + 1;
+
+/// Writes the message of a row into the first bytes of a buffer, keeps the rest, and gives its length.
 ///
-/// Refusals: RANGE (a wrong count of fields included), ROOM; with a refusal the buffer stays as it was.
+/// Refusals: RANGE (a wrong count of fields, a `None` in a field that is not of type intN, and a value equal to the
+/// pattern that is sent for `None` included), ROOM; with a refusal the buffer stays as it was.
 ///
 /// ```
 /// use tarnoklej::{write_fields, Refusal, MOST_BYTES};
 ///
 /// let mut out = [0xff; MOST_BYTES];
-/// assert_eq!(write_fields(&[1025, 5, 0, 0, 0, 0, 0, 0], &mut out), Ok(25));
+/// let mut row = [1025, 5, 0, 0, 0, 0, 0, 0].map(Some);
+/// assert_eq!(write_fields(&row, &mut out), Ok(25));
 /// assert_eq!(out[..4], [0x40, 0x10, 0x50, 0]);
 /// assert_eq!(out[25], 0xff);
-/// assert_eq!(write_fields(&[1025, 256, 0, 0, 0, 0, 0, 0], &mut out), Err(Refusal::Range));
+///
+/// row[7] = None;
+/// assert_eq!(write_fields(&row, &mut out), Ok(25));
+/// row[7] = Some(-17_179_869_184);
+/// assert_eq!(write_fields(&row, &mut out), Err(Refusal::Range));
 /// ```
-pub fn write_fields(fields: &[i64], out: &mut [u8]) -> Result<usize, Refusal> {
-    // SAFETY: both pointers and lengths are those of slices, and a slice lent for writing overlaps no other.
-    let written = unsafe { ffi::tarnoklej_write_fields(fields.as_ptr(), fields.len(), out.as_mut_ptr(), out.len()) };
+pub fn write_fields(fields: &[Option<i64>], out: &mut [u8]) -> Result<usize, Refusal> {
+    let (mut values, mut present) = ([0; TOO_MANY_FIELDS], [0; TOO_MANY_FIELDS]);
+    for (place, field) in fields.iter().enumerate().take(TOO_MANY_FIELDS) {
+        values[place] = field.unwrap_or(0);
+        present[place] = u8::from(field.is_some());
+    }
+    let count = fields.len().min(TOO_MANY_FIELDS);
+    // SAFETY: the pointers are those of slices that do not overlap, and the lengths are at most theirs.
+    let written = unsafe {
+        ffi::tarnoklej_write_fields(values.as_ptr(), count, present.as_ptr(), count, out.as_mut_ptr(), out.len())
+    };
     done(written.refusal)?;
     Ok(written.length)
 }
@@ -167,11 +204,11 @@ pub fn write_fields(fields: &[i64], out: &mut [u8]) -> Result<usize, Refusal> {
 /// use tarnoklej::{shift_at, write_fields, Refusal, HEIGHT, NORTH_SOUTH};
 ///
 /// // A grid around 49 degrees north and 11 degrees east, heights only: the mean is 46.92 m, node i has i mm.
-/// let mut row = [0; 64];
-/// row[..8].copy_from_slice(&[1023, 7, 0, 1, 352_800, 79_200, 720, 720]);
-/// row[10] = 4_692;
+/// let mut row = [Some(0); 64];
+/// row[..8].copy_from_slice(&[1023, 7, 0, 1, 352_800, 79_200, 720, 720].map(Some));
+/// row[10] = Some(4_692);
 /// for i in 0..16 {
-///     row[13 + 3 * i] = i as i64 + 1;
+///     row[13 + 3 * i] = Some(i as i64 + 1);
 /// }
 /// let mut message = [0; 73];
 /// write_fields(&row, &mut message)?;
@@ -179,6 +216,11 @@ pub fn write_fields(fields: &[i64], out: &mut [u8]) -> Result<usize, Refusal> {
 /// let (north, east) = (49 * 36_000_000, 11 * 36_000_000);
 /// assert_eq!(shift_at(&message, HEIGHT, north, east), Ok(469_285)); // 46.9285 m
 /// assert_eq!(shift_at(&message, NORTH_SOUTH, north, east), Err(Refusal::Off));
+///
+/// // Without the height of node 6, which has weight there, no mean is formed.
+/// row[13 + 3 * 5] = None;
+/// write_fields(&row, &mut message)?;
+/// assert_eq!(shift_at(&message, HEIGHT, north, east), Err(Refusal::Absent));
 /// # Ok::<(), Refusal>(())
 /// ```
 pub fn shift_at(message: &[u8], component: u8, north: i64, east: i64) -> Result<i64, Refusal> {

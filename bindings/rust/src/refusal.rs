@@ -14,9 +14,9 @@ pub enum Refusal {
     Length = 3,
     /// A fill bit is set.
     Fill = 4,
-    /// A field outside its range or width, or a wrong count of fields.
+    /// A field outside its range or width, or fields that are no row of a message.
     Range = 5,
-    /// Output shorter than the message or its row.
+    /// An output shorter than the message or its row.
     Room = 6,
     /// A grid call on a message other than 1023 or 1024.
     Kind = 7,
@@ -28,13 +28,13 @@ pub enum Refusal {
     Off = 10,
     /// The interpolation method of the component is not bilinear.
     Method = 11,
-    /// An origin field is not available.
+    /// An origin field has no value.
     Origin = 12,
     /// A spacing is 0.
     Spacing = 13,
     /// The position is not on or within the grid's outer rectangle.
     Outside = 14,
-    /// The mean, or a node of non-zero weight, is not available.
+    /// The mean, or a node of non-zero weight, has no value.
     Absent = 15,
     /// No slot of that key and no free slot.
     Full = 16,

@@ -15,16 +15,21 @@ const NODE_16: (i64, i64) = (1_758_600_000, 401_400_000);
 /// 180 degrees in steps.
 const HALF_TURN: i64 = 6_480_000_000;
 
+/// A row whose fields all have values.
+fn row_of(values: &[i64]) -> Vec<Option<i64>> {
+    values.iter().copied().map(Some).collect()
+}
+
 /// The row of grid K with all height nodes times a factor.
-fn grid_k_row(factor: i64) -> Vec<i64> {
+fn grid_k_row(factor: i64) -> Vec<Option<i64>> {
     let mut row = vec![1023, 7, 0, 1, 352_800, 79_200, 720, 720, 0, 0, 4_692];
     (1..=16).for_each(|node| row.extend([0, 0, factor * node]));
     row.extend([0; 5]);
-    row
+    row_of(&row)
 }
 
 /// The message of a row.
-fn written(row: &[i64]) -> Vec<u8> {
+fn written(row: &[Option<i64>]) -> Vec<u8> {
     let mut out = vec![0; MOST_BYTES];
     let length = write_fields(row, &mut out).expect("a sound row");
     out.truncate(length);
@@ -48,7 +53,7 @@ fn in_repository(name: &str) -> PathBuf {
 
 /// A 1025 of zeros with a system identification number.
 fn projection(sin: u8) -> Vec<u8> {
-    written(&[1025, sin as i64, 0, 0, 0, 0, 0, 0])
+    written(&row_of(&[1025, sin as i64, 0, 0, 0, 0, 0, 0]))
 }
 
 #[test]
@@ -92,7 +97,7 @@ fn worked_shifts_are_answered() {
 fn a_grid_across_180_degrees_is_answered_on_both_sides() {
     let mut row = grid_k_row(1);
     for (longitude, meridian) in [(1_296_000, 469_285), (-1_296_000, 469_285), (1_295_640, 469_290)] {
-        row[5] = longitude;
+        row[5] = Some(longitude);
         let across = written(&row);
         assert_eq!(height(&across, (MIDDLE.0, HALF_TURN)), Ok(meridian));
         assert_eq!(height(&across, (MIDDLE.0, -HALF_TURN)), Ok(meridian));
@@ -112,17 +117,19 @@ fn worked_refusals_are_given() {
     assert_eq!(shift_at(&written(&row), NORTH_SOUTH, MIDDLE.0, MIDDLE.1), Err(Refusal::Off));
     assert_eq!(shift_at(&written(&row), 3, MIDDLE.0, MIDDLE.1), Err(Refusal::Component));
     assert_eq!(height(&projection(7), MIDDLE), Err(Refusal::Kind));
-    row[13 + 3 * 6] = -256;
+    row[13 + 3 * 6] = None;
     assert_eq!(height(&written(&row), NODE_6), Ok(469_260));
     assert_eq!(height(&written(&row), moved(NODE_6, 0, 1)), Err(Refusal::Absent));
-    row[6] = 0;
+    row[6] = Some(0);
     assert_eq!(height(&written(&row), MIDDLE), Err(Refusal::Spacing));
+    row[4] = None;
+    assert_eq!(height(&written(&row), MIDDLE), Err(Refusal::Origin));
 }
 
 #[test]
 fn empty_names_make_52_bytes() {
     let row = [[1021].as_slice(), &[0; 24]].concat();
-    let mut message = written(&row);
+    let mut message = written(&row_of(&row));
     assert_eq!(read(&message), Ok(Header { number: 1021, length: 52, sin: 0 }));
     message[51] |= 1;
     assert_eq!(read(&message), Err(Refusal::Fill));
@@ -134,21 +141,126 @@ fn empty_names_make_52_bytes() {
 fn longest_names_are_read_and_written() {
     let name = [[31].as_slice(), &[255; 31]].concat();
     for (number, others, length) in [(1021, 22, 114), (1022, 25, 127)] {
-        let row = [&[number], &name[..], &name, &vec![0; others]].concat();
+        let row = row_of(&[&[number], &name[..], &name, &vec![0; others]].concat());
         let message = written(&row);
         assert_eq!(message.len(), length);
         assert_eq!(read_fields(&message), Ok(row));
     }
 }
 
+/// The row of a 1025 whose fields behind the system identification number are zero.
+fn projection_row() -> Vec<Option<i64>> {
+    row_of(&[1025, 5, 0, 0, 0, 0, 0, 0])
+}
+
+/// The row of document 01's P12 with another latitude of origin (DF152).
+fn p12_row(latitude: Option<i64>) -> Vec<Option<i64>> {
+    let mut row = row_of(&[[1021].as_slice(), &[0; 24]].concat());
+    row[8] = latitude;
+    row
+}
+
+#[test]
+fn a_field_without_a_value_is_read_and_written() {
+    let mut out = [0; MOST_BYTES];
+    for latitude in [Some(162_000), Some(-162_000), None] {
+        let message = written(&p12_row(latitude));
+        assert_eq!(read_fields(&message), Ok(p12_row(latitude)));
+    }
+    for latitude in [-262_144, 162_001, -162_001] {
+        assert_eq!(write_fields(&p12_row(Some(latitude)), &mut out), Err(Refusal::Range));
+    }
+    let none = written(&p12_row(None));
+    let some = written(&p12_row(Some(0)));
+    let differing: Vec<u8> = none.iter().zip(&some).map(|(one, other)| one ^ other).filter(|&bits| bits != 0).collect();
+    assert_eq!(differing, [0x10]);
+}
+
+#[test]
+fn a_none_in_an_unsigned_field_is_refused() {
+    let signed = [3, 4, 7];
+    for place in 0..8 {
+        let mut row = projection_row();
+        row[place] = None;
+        let expected = if signed.contains(&place) { Ok(25) } else { Err(Refusal::Range) };
+        assert_eq!(write_fields(&row, &mut [0; 25]), expected);
+    }
+}
+
+#[test]
+fn a_row_of_too_many_fields_is_refused() {
+    let longest = row_of(&[&[1022, 31][..], &[0; 31], &[31], &[0; 31], &[0; 25]].concat());
+    assert_eq!((longest.len(), write_fields(&longest, &mut [0; MOST_BYTES])), (MOST_FIELDS, Ok(MOST_BYTES)));
+    for more in [1, 2, 1_000] {
+        let row = [&longest[..], &vec![Some(0); more]].concat();
+        assert_eq!(write_fields(&row, &mut [0; MOST_BYTES]), Err(Refusal::Range));
+    }
+}
+
+/// What the library answers to a row as two buffers.
+fn written_from(values: &[i64], present: &[u8]) -> ffi::Written {
+    let mut out = [0; MOST_BYTES];
+    // SAFETY: the pointers and lengths are those of slices that do not overlap.
+    unsafe {
+        ffi::tarnoklej_write_fields(
+            values.as_ptr(),
+            values.len(),
+            present.as_ptr(),
+            present.len(),
+            out.as_mut_ptr(),
+            out.len(),
+        )
+    }
+}
+
+#[test]
+fn buffers_that_are_no_row_are_refused() {
+    let values = [1025, 5, 0, 0, 0, 0, 0, 0];
+    let done = ffi::Written { refusal: 0, length: 25 };
+    let range = ffi::Written { refusal: 5, length: 0 };
+    assert_eq!(written_from(&values, &[1; 8]), done);
+    assert_eq!(written_from(&values, &[1, 1, 1, 1, 0, 1, 1, 1]), done);
+    for present in 2..=255 {
+        assert_eq!(written_from(&values, &[1, 1, 1, 1, present, 1, 1, 1]), range);
+    }
+    assert_eq!(written_from(&[1025, 5, 0, 0, 1, 0, 0, 0], &[1, 1, 1, 1, 0, 1, 1, 1]), range);
+    for count in [0, 1, 7, 9, 64] {
+        assert_eq!(written_from(&values, &vec![1; count]), range);
+        assert_eq!(written_from(&vec![1025; count], &[1; 8]), range);
+    }
+}
+
+/// The refusal of reading a message into two buffers, and the buffers afterwards.
+fn read_into(message: &[u8], values_room: usize, present_room: usize) -> (u8, Vec<i64>, Vec<u8>) {
+    let (mut values, mut present) = (vec![-1; values_room], vec![0xa5; present_room]);
+    // SAFETY: the pointers and lengths are those of slices that do not overlap.
+    let refusal = unsafe {
+        ffi::tarnoklej_read_fields(
+            message.as_ptr(),
+            message.len(),
+            values.as_mut_ptr(),
+            values.len(),
+            present.as_mut_ptr(),
+            present.len(),
+        )
+    };
+    (refusal, values, present)
+}
+
 #[test]
 fn a_short_row_or_buffer_stays_as_it_was() {
     let message = projection(5);
-    let mut row = [-1; 7];
+    let mut row = [Some(-1); 7];
     assert_eq!(read_fields_into(&message, &mut row), Err(Refusal::Room));
-    assert_eq!(row, [-1; 7]);
+    assert_eq!(row, [Some(-1); 7]);
+    for (values, present) in [(7, 8), (8, 7), (0, 8), (8, 0), (0, 0), (7, 90), (90, 7)] {
+        assert_eq!(read_into(&message, values, present), (6, vec![-1; values], vec![0xa5; present]));
+    }
+    let (refusal, values, present) = read_into(&message, 9, 10);
+    assert_eq!((refusal, &values[..]), (0, &[1025, 5, 0, 0, 0, 0, 0, 0, -1][..]));
+    assert_eq!(present, [1, 1, 1, 1, 1, 1, 1, 1, 0xa5, 0xa5]);
     let mut out = [0xa5; 24];
-    assert_eq!(write_fields(&[1025, 5, 0, 0, 0, 0, 0, 0], &mut out), Err(Refusal::Room));
+    assert_eq!(write_fields(&projection_row(), &mut out), Err(Refusal::Room));
     assert_eq!(out, [0xa5; 24]);
 }
 

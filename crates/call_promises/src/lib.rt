@@ -1,9 +1,10 @@
 // Every public function of the table, of the shift and of the exported interface, called once with its promise restated: a promise that is weakened there is missed here.
 ghost use mathlib.Core.Path.{_≡_};
-ghost use lib.IntN.{natAbs};
 ghost use lib.ListN.{length};
 ghost use Rattle.arith.specs.First.{first};
-ghost use Rattle.wire.specs.Message.{header, rowRefusal, rowRead, writeRow};
+ghost use Rattle.wire.specs.Message.{header, rowRefusal, valuesRead, presentRead, writeRow};
+ghost use Rattle.grid_records.specs.Grids.{frameAt};
+ghost use Rattle.grid_fields.specs.Fields.{gridSays, meanSays, nodeSays};
 ghost use Rattle.cell.specs.Cell.{alongOf, countIn};
 ghost use Rattle.grid_refusals.specs.Refusals.{fieldTests};
 ghost use Rattle.grid.specs.Shift.{messageShift, recordShift};
@@ -43,12 +44,6 @@ pub fn remove(t: &mut [u8], sin: u8, group: u8) -> u8
     table::remove(t, sin, group)
 }
 
-pub fn cell_magnitude(z: i64) -> u64
-    ensures { λ r. ⌜ r ≡ natAbs z ⌝ }
-{
-    cell::magnitude(z)
-}
-
 pub fn along(difference: i64, spacing: u64) -> cell::Place
     ensures { λ r. ⌜ r ≡ alongOf spacing difference ⌝ }
 {
@@ -61,10 +56,28 @@ pub fn count_in(mean: i64, factor: u64, n: cell::Corners, h: u64, w: u64, y: u64
     cell::count_in(mean, factor, n, h, w, y, x)
 }
 
-pub fn early_refusal(g: grid_records::Grid, component: u8, north: i64, east: i64) -> u8
-    ensures { λ r. ⌜ r ≡ first (fieldTests g component north east) ⌝ }
+pub fn early_refusal(f: grid_records::Frame, component: u8, north: i64, east: i64) -> u8
+    ensures { λ r. ⌜ r ≡ first (fieldTests f component north east) ⌝ }
 {
-    grid_refusals::early_refusal(g, component, north, east)
+    grid_refusals::early_refusal(f, component, north, east)
+}
+
+pub fn frame_at(s: &[u8]) -> grid_records::Frame
+    ensures { λ r. ⌜ r ≡ frameAt (gridSays (now (s .entry))) ⌝ }
+{
+    grid_fields::frame_at(s)
+}
+
+pub fn mean_at(s: &[u8], component: u8) -> field::Reading
+    ensures { λ r. ⌜ r ≡ meanSays (now (s .entry)) component ⌝ }
+{
+    grid_fields::mean_at(s, component)
+}
+
+pub fn node_at(s: &[u8], component: u8, node: u64) -> field::Reading
+    ensures { λ r. ⌜ r ≡ nodeSays (now (s .entry)) component node ⌝ }
+{
+    grid_fields::node_at(s, component, node)
 }
 
 pub fn shift_at(s: &[u8], component: u8, north: i64, east: i64) -> grid::Shift
@@ -85,18 +98,19 @@ pub fn tarnoklej_read(s: &[u8]) -> wire::Header
     capi::tarnoklej_read(s)
 }
 
-pub fn tarnoklej_read_fields(s: &[u8], fields: &mut [i64]) -> u8
-    ensures answer { λ r. ⌜ r ≡ rowRefusal (now (s .entry)) (length (now (fields .entry))) ⌝ }
-    ensures output { λ r. ⌜ now (fields .exit) ≡ rowRead (now (s .entry)) (now (fields .entry)) ⌝ }
+pub fn tarnoklej_read_fields(s: &[u8], values: &mut [i64], present: &mut [u8]) -> u8
+    ensures answer { λ r. ⌜ r ≡ rowRefusal (now (s .entry)) (length (now (values .entry))) (length (now (present .entry))) ⌝ }
+    ensures values { λ r. ⌜ now (values .exit) ≡ valuesRead (rowRefusal (now (s .entry)) (length (now (values .entry))) (length (now (present .entry)))) (now (s .entry)) (now (values .entry)) ⌝ }
+    ensures present { λ r. ⌜ now (present .exit) ≡ presentRead (rowRefusal (now (s .entry)) (length (now (values .entry))) (length (now (present .entry)))) (now (s .entry)) (now (present .entry)) ⌝ }
 {
-    capi::tarnoklej_read_fields(s, fields)
+    capi::tarnoklej_read_fields(s, values, present)
 }
 
-pub fn tarnoklej_write_fields(fields: &[i64], out: &mut [u8]) -> layout::Written
-    ensures answer { λ r. ⌜ r ≡ writeRow (now (fields .entry)) (now (out .entry)) .answer ⌝ }
-    ensures output { λ r. ⌜ now (out .exit) ≡ writeRow (now (fields .entry)) (now (out .entry)) .output ⌝ }
+pub fn tarnoklej_write_fields(values: &[i64], present: &[u8], out: &mut [u8]) -> layout::Written
+    ensures answer { λ r. ⌜ r ≡ writeRow (now (values .entry)) (now (present .entry)) (now (out .entry)) .answer ⌝ }
+    ensures output { λ r. ⌜ now (out .exit) ≡ writeRow (now (values .entry)) (now (present .entry)) (now (out .entry)) .output ⌝ }
 {
-    capi::tarnoklej_write_fields(fields, out)
+    capi::tarnoklej_write_fields(values, present, out)
 }
 
 pub fn tarnoklej_shift_at(s: &[u8], component: u8, north: i64, east: i64) -> capi::Counted

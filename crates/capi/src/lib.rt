@@ -1,7 +1,7 @@
 // The exported interface: include/tarnoklej.h.
 ghost use mathlib.Core.Path.{_≡_};
 ghost use lib.ListN.{length};
-ghost use Rattle.wire.specs.Message.{header, rowRefusal, rowRead, writeRow};
+ghost use Rattle.wire.specs.Message.{header, rowRefusal, valuesRead, presentRead, writeRow};
 ghost use Rattle.capi.specs.Counted.{countedShift};
 ghost use Rattle.table.specs.Table.{storeRefusal, storeTable, findRefusal, foundOf, removeTable};
 
@@ -13,22 +13,27 @@ pub extern "C" fn tarnoklej_read(s: &[u8]) -> wire::Header
     wire::read_header(s)
 }
 
-// The raw numbers of a message in wire order into the first places of a row.
+// What the fields of a message say, in wire order, into the first places of both buffers: the values, and a presence byte for each.
 #[no_mangle]
-pub extern "C" fn tarnoklej_read_fields(s: &[u8], fields: &mut [i64]) -> u8
-    ensures answer { λ r. ⌜ r ≡ rowRefusal (now (s .entry)) (length (now (fields .entry))) ⌝ }
-    ensures output { λ r. ⌜ now (fields .exit) ≡ rowRead (now (s .entry)) (now (fields .entry)) ⌝ }
+pub extern "C" fn tarnoklej_read_fields(s: &[u8], values: &mut [i64], present: &mut [u8]) -> u8
+    ensures answer { λ r. ⌜ r ≡ rowRefusal (now (s .entry)) (length (now (values .entry))) (length (now (present .entry))) ⌝ }
+    ensures values { λ r. ⌜ now (values .exit) ≡ valuesRead (rowRefusal (now (s .entry)) (length (now (values .entry))) (length (now (present .entry)))) (now (s .entry)) (now (values .entry)) ⌝ }
+    ensures present { λ r. ⌜ now (present .exit) ≡ presentRead (rowRefusal (now (s .entry)) (length (now (values .entry))) (length (now (present .entry)))) (now (s .entry)) (now (present .entry)) ⌝ }
 {
-    wire::read_row(s, fields)
+    wire::read_row(s, values, present)
 }
 
-// The message of a row of raw numbers in the first bytes of out.
+// The message of a row, values and presence bytes, in the first bytes of out.
 #[no_mangle]
-pub extern "C" fn tarnoklej_write_fields(fields: &[i64], out: &mut [u8]) -> layout::Written
-    ensures answer { λ r. ⌜ r ≡ writeRow (now (fields .entry)) (now (out .entry)) .answer ⌝ }
-    ensures output { λ r. ⌜ now (out .exit) ≡ writeRow (now (fields .entry)) (now (out .entry)) .output ⌝ }
+pub extern "C" fn tarnoklej_write_fields(
+    values: &[i64],
+    present: &[u8],
+    out: &mut [u8],
+) -> layout::Written
+    ensures answer { λ r. ⌜ r ≡ writeRow (now (values .entry)) (now (present .entry)) (now (out .entry)) .answer ⌝ }
+    ensures output { λ r. ⌜ now (out .exit) ≡ writeRow (now (values .entry)) (now (present .entry)) (now (out .entry)) .output ⌝ }
 {
-    wire::write_row(fields, out)
+    wire::write_row(values, present, out)
 }
 
 // A shift as a refusal and a count.

@@ -1,5 +1,5 @@
 // Reads cases from standard input, one to a line, and prints the answer to each, one to a line: second/VECTORS.md has the forms.
-// At most 20,000 lines are read, of at most 600 bytes each. A line that is no case is answered by its name and `?`.
+// At most 20,000 lines are read, of at most 900 bytes each. A line that is no case is answered by its name and `?`.
 use lines::input;
 use lines::input::Chunk;
 use lines::input::Line;
@@ -10,7 +10,7 @@ const LINES: usize = 20000;
 
 fn main() {
     let mut chunk = [0u8; 4096];
-    let mut line = [0u8; 600];
+    let mut line = [0u8; 900];
     let mut held = [0u8; 4300];
     let mut size: usize = 0;
     let mut out = [0u8; 16384];
@@ -63,7 +63,7 @@ fn answer_line(
     out: &mut Out,
     at: usize,
 ) -> usize {
-    if 600 < length {
+    if 900 < length {
         let to = output::put_name(out, at, words::word(line));
         return output::put(out, to, b'?');
     }
@@ -90,12 +90,30 @@ fn answer_command(
     out: &mut Out,
     at: usize,
 ) -> usize {
-    match words::place(command, b"read write shift table") {
+    match words::place(command, b"read write shift shiftof table") {
         0 => read_cases::answer(given, out, at),
         1 => write_cases::answer(given, out, at),
         2 => shift_cases::answer(given, out, at),
-        3 => table_cases::fresh(given, held, size, out, at),
-        _ => answer_held(command, given, held, *size, out, at),
+        3 => shift_cases::answer_of(given, out, at),
+        4 => table_cases::fresh(given, held, size, out, at),
+        _ => answer_record(command, given, held, *size, out, at),
+    }
+}
+
+// What a command on records answers.
+fn answer_record(
+    command: &[u8],
+    given: &[u8],
+    held: &mut [u8],
+    n: usize,
+    out: &mut Out,
+    at: usize,
+) -> usize {
+    match words::place(command, b"record remake rename") {
+        0 => field_cases::answer(given, out, at),
+        1 => remake_cases::answer(given, out, at),
+        2 => rename_cases::answer(given, out, at),
+        _ => answer_held(command, given, held, n, out, at),
     }
 }
 

@@ -23,16 +23,6 @@ pub struct Corners {
     pub ne: i64,
 }
 
-// The number without its sign.
-pub fn magnitude(z: i64) -> u64
-    ensures { λ r. ⌜ r ≡ natAbs z ⌝ }
-{
-    if z < 0 {
-        return (-1 - z) as u64 + 1;
-    }
-    z as u64
-}
-
 // The number without its sign is at most the bound.
 fn no_larger(z: i64, bound: u64) -> bool
     requires { ⌜ bound ≤ 10000000000000 ⌝ }
@@ -135,7 +125,7 @@ fn nearest_to(sum: i64, area: u64) -> i64
     requires { ⌜ (natAbs sum ≤ 2560 * 1676902500000000) × (0 < area) × (area ≤ 1676902500000000) ⌝ }
     ensures { λ r. ⌜ r ≡ nearestWhole sum area ⌝ }
 {
-    let size = magnitude(sum);
+    let size = field::magnitude(sum);
     let whole = size / area;
     let rest = size % area;
     if area <= 2 * rest {

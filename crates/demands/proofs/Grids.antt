@@ -12,7 +12,10 @@ use Rattle.arith.specs.Whole.{sameZ}
 use Rattle.arith.specs.First.{first}
 use Rattle.grid_records.specs.declared.Grid.{Grid}
 use Rattle.grid_records.specs.declared.Shifts.{Shifts}
-use Rattle.grid_records.specs.Grids.{gridOf, gridRow}
+use Rattle.grid_records.specs.Grids.{gridOf, gridRow, frameOf}
+use Rattle.field.specs.declared.Reading.{Reading}
+use Rattle.layout.specs.Layout.{valueIn}
+use Rattle.row.specs.Numbers.{valuesOf, presentOf}
 use Rattle.wire.specs.Message.{kindRefusal}
 use Rattle.message.specs.Kinds.{readGrid}
 use Rattle.bilinear.specs.Bilinear.{outside, cell, inCell, exact, absentIn, absent, interpolated, nearestWhole, LipschitzBound}
@@ -62,12 +65,12 @@ unfolding readGrid
 both-calls s c n e h = ap (λ (g : Grid). recordShift g c n e) (message-grid s c n e h) ∙ calls-agree s c n e h
 
 pub held-written : HeldIsWritten
-held-written g m h = held-is-written (gridRow g) m h
+held-written g m h = held-is-written (valuesOf (gridRow g)) (presentOf (gridRow g)) m h
 
--- nodes that agree raw agree in counts and in being present
-raw-same : (f : ℕ) {w : ℕ} {a b : ℤ} → (w ≡ 0) ⊎ (a ≡ b) → (w ≡ 0) ⊎ ((pos f *ℤ a ≡ pos f *ℤ b) × (available 9 a ≡ available 9 b))
-raw-same f (inl e) = inl e
-raw-same f (inr e) = inr (ap (λ (z : ℤ). pos f *ℤ z) e, ap (available 9) e)
+-- nodes that say the same agree in counts and in being present
+says-same : (f : ℕ) {w : ℕ} {a b : Reading} → (w ≡ 0) ⊎ (a ≡ b) → (w ≡ 0) ⊎ ((pos f *ℤ valueIn a ≡ pos f *ℤ valueIn b) × (available a ≡ available b))
+says-same f (inl e) = inl e
+says-same f (inr e) = inr (ap (λ (r : Reading). pos f *ℤ valueIn r) e, ap available e)
 
 module _ (g : Grid) (ns : List Shifts) (c : ℕ) (n e : ℤ) where
   abbrev y : ℕ
@@ -90,21 +93,21 @@ module _ (g : Grid) (ns : List Shifts) (c : ℕ) (n e : ℤ) where
     unfolding surface
     same-absent =
         absent-same (surface g c .H) (surface g c .W) (surface g c .mean) (surface g c .meanPresent) (surface g c .node) (surface (withNodes g ns) c .node)
-        (surface g c .present) (surface (withNodes g ns) c .present) k l y x (raw-same f (w .sw)) (raw-same f (w .se)) (raw-same f (w .nw)) (raw-same f (w .ne))
+        (surface g c .present) (surface (withNodes g ns) c .present) k l y x (says-same f (w .sw)) (says-same f (w .se)) (says-same f (w .nw)) (says-same f (w .ne))
 
     same-sum : inCell (surface g c) k l y x ≡ inCell (surface (withNodes g ns) c) k l y x
     unfolding surface
     same-sum =
         sum-same (surface g c .H) (surface g c .W) (surface g c .mean) (surface g c .meanPresent) (surface g c .node) (surface (withNodes g ns) c .node)
-        (surface g c .present) (surface (withNodes g ns) c .present) k l y x (raw-same f (w .sw)) (raw-same f (w .se)) (raw-same f (w .nw)) (raw-same f (w .ne))
+        (surface g c .present) (surface (withNodes g ns) c .present) k l y x (says-same f (w .sw)) (says-same f (w .se)) (says-same f (w .nw)) (says-same f (w .ne))
 
 pub only-weighted : OnlyWeighted
-unfolding surface northOf eastOf recordShift shiftWith recordShiftRefusal interpolated exact absent
+unfolding surface northOf eastOf recordShift shiftWith recordShiftRefusal interpolated exact absent frameOf
 only-weighted g ns c n e h w =
     λ i. outcome (g .number) c
     (first
     ((5, not (h i))
-    ∷ fieldTests g c n e
+    ∷ fieldTests (frameOf g) c n e
     ++ ((14, outside (surface g c .H) (northOf g n) || outside (surface g c .W) (eastOf g e)) ∷ (15, same-absent g ns c n e w i) ∷ [])))
     (surface g c .mean +ℤ nearestWhole (same-sum g ns c n e w i) (surface g c .H * surface g c .W))
 

@@ -1,3 +1,4 @@
 pub mod Messages
 pub mod Worked
 pub mod Grids
+pub mod Absent

@@ -1,4 +1,4 @@
--- The demands on messages hold: each statement of specs/Messages.antt, from the laws of `bits`, `records` and `message`.
+-- The demands on messages hold: each statement of specs/Messages.antt, from the laws of `layout`, `layouts`, `wire`, the records and `message`.
 -- Assumes nothing.
 use Prim.Native.Nat.{ℕ, _+_, _*_, _≤_, _<_}
 use native.Mathlib.Omega.{arith}
@@ -8,24 +8,26 @@ use mathlib.Core.Logic.{⊎-elim}
 use mathlib.Core.Bool.{Bool, true, false, not, cond, _||_, _&&_}
 use mathlib.Core.List.{List, _∷_, _++_}
 use lib.Dec.{ltb}
-use lib.IntN.{ℤ, pos}
+use lib.IntN.{pos}
 use lib.ListN.{length, length-append, length-replicate}
 use borrow.Author.Tests.{lt-ltb, le-ltb, lt-leb, le-leb, ne-eqb}
-use Rattle.arith.specs.Row.{at}
+use Rattle.field.specs.declared.Reading.{Reading}
+use Rattle.field.specs.declared.Reading.the-variants.{Value}
+use Rattle.row.specs.Numbers.{says, valuesOf, presentOf}
 use Rattle.field.specs.Field.{field}
 use Rattle.layout.specs.Layout.{uint, total, size, zeroFrom, allTake, decodeAll, refusalOf, answered}
-use Rattle.layout.proofs.Round.{accepted, refused-none}
+use Rattle.layout.proofs.Round.{accepted, refused-none, value-at}
 use Rattle.layout.proofs.Answer.{fill-set, out-of-range}
-use Rattle.transformation_records.specs.Transformations.{goodName}
+use Rattle.transformation_records.specs.Transformations.{goodName, helmertOf, helmertRow, molodenskiBadekasOf, molodenskiBadekasRow}
 use Rattle.transformation_records.specs.declared.Name.{Name}
 use Rattle.transformation_records.proofs.Inverse.{helmert-good, molodenski-badekas-good}
-use Rattle.wire.specs.Layouts.{names, tail1021, tail1022, layoutOf, layout1021, layout1022, layout1023, layout1024, layout1025, layout1026, layout1027}
+use Rattle.layouts.specs.Layouts.{names, tail1021, tail1022, layoutOf, layout1021, layout1022, layout1023, layout1024, layout1025, layout1026, layout1027}
 use Rattle.wire.specs.Message.{numberOf, sourceCount, targetCount, counterCut, layout, refusal}
-use Rattle.wire.specs.Message.{kindWriteRefusal}
+use Rattle.wire.specs.Message.{kindRow, kindWriteRefusal}
 use Rattle.message.specs.Kinds.{readHelmert, readMolodenskiBadekas, readGrid, readProjection, readLambert, readObliqueMercator}
-use Rattle.wire.proofs.Head.{head-of, head-passes, head-passed, accepted-head, row-of, source-lt, target-lt}
-use Rattle.wire.proofs.Length.{total-1021, total-1022, total-names, by-number, layout-most}
-use Rattle.wire.proofs.Trips.{value-behind, sized-head, message-of-row, row-written, message-accepted, row-of-message, length-message}
+use Rattle.wire.proofs.Head.{head-of, head-passes, head-passed, accepted-head, row-of, source-lt, target-lt, layout-most}
+use Rattle.layouts.proofs.Length.{total-1021, total-1022, total-names, by-number}
+use Rattle.wire.proofs.Trips.{sized-head, message-of-row, row-written, message-accepted, buffers-of-message, length-message}
 use Rattle.message.proofs.RecordTrips.{layout-at, kept, kept-written, helmert-row, molodenski-badekas-row, grid-row, projection-row, lambert-row, oblique-mercator-row, helmert-back, molodenski-badekas-back, grid-back, projection-back, lambert-back, oblique-mercator-back}
 use Rattle.demands.specs.Messages.{Bytes, FirstThatApplies, CounterCut, AcceptedLengths, SinFound, ReportedLength, MessageAgain, RowAgain, RecordsAgain, RecordsBack}
 
@@ -118,11 +120,11 @@ accepted-lengths s e =
     }
 
 -- the field behind the names
-behind : (n m : ℕ) (b s : List ℕ) → at (decodeAll (names n m ++ (uint 8 ∷ b)) 0 s) (3 + n + m) ≡ pos (field s (22 + 8 * (n + m)) 8)
+behind : (n m : ℕ) (b s : List ℕ) → says (decodeAll (names n m ++ (uint 8 ∷ b)) 0 s) (3 + n + m) ≡ Value (pos (field s (22 + 8 * (n + m)) 8))
 behind n m b s =
     let l : length (names n m) ≡ 3 + n + m = simp (length-append, length-replicate) (omega arith) in
     let t : 0 + total (names n m) ≡ 22 + 8 * (n + m) = omega (arith, total-names n m) in
-    ap (at (decodeAll (names n m ++ (uint 8 ∷ b)) 0 s)) (sym l) ∙ value-behind (names n m) (uint 8) b 0 s ∙ ap (λ (p : ℕ). pos (field s p 8)) t
+    ap (says (decodeAll (names n m ++ (uint 8 ∷ b)) 0 s)) (sym l) ∙ value-at (names n m) (uint 8) b 0 s ∙ ap (λ (p : ℕ). Value (pos (field s p 8))) t
 
 pub sin-found : SinFound
 sin-found s e =
@@ -133,8 +135,8 @@ sin-found s e =
       named =
           λ l.
           rw (le-leb (numberOf s) 1022 l)
-          (ap (λ (v : List ℤ). at v (3 + n + m)) (row-of s e ∙ ap (λ (l : List ℕ). decodeAll l 0 s) (layout-at s (numberOf s) refl))
-          ∙ by-number (λ k. k ≤ 1022 → at (decodeAll (layoutOf k n m) 0 s) (3 + n + m) ≡ pos (field s (22 + 8 * (n + m)) 8)) (numberOf s) (h .low) (h .high)
+          (ap (λ (v : List Reading). says v (3 + n + m)) (row-of s e ∙ ap (λ (l : List ℕ). decodeAll l 0 s) (layout-at s (numberOf s) refl))
+          ∙ by-number (λ k. k ≤ 1022 → says (decodeAll (layoutOf k n m) 0 s) (3 + n + m) ≡ Value (pos (field s (22 + 8 * (n + m)) 8))) (numberOf s) (h .low) (h .high)
           (λ _. unfold layoutOf layout1021 tail1021 in behind n m _ s)
           (λ _. unfold layoutOf layout1022 tail1022 in behind n m _ s)
           (λ g. absurd (lt-irrefl 0 (omega arith))) (λ g. absurd (lt-irrefl 0 (omega arith))) (λ g. absurd (lt-irrefl 0 (omega arith)))
@@ -143,8 +145,8 @@ sin-found s e =
       fixed =
           λ l.
           rw (lt-leb (numberOf s) 1022 l)
-          (ap (λ (v : List ℤ). at v 1) (row-of s e ∙ ap (λ (l : List ℕ). decodeAll l 0 s) (layout-at s (numberOf s) refl))
-          ∙ by-number (λ k. 1023 ≤ k → at (decodeAll (layoutOf k n m) 0 s) 1 ≡ pos (field s 12 8)) (numberOf s) (h .low) (h .high)
+          (ap (λ (v : List Reading). says v 1) (row-of s e ∙ ap (λ (l : List ℕ). decodeAll l 0 s) (layout-at s (numberOf s) refl))
+          ∙ by-number (λ k. 1023 ≤ k → says (decodeAll (layoutOf k n m) 0 s) 1 ≡ Value (pos (field s 12 8))) (numberOf s) (h .low) (h .high)
           (λ g. absurd (lt-irrefl 0 (omega arith)))
           (λ g. absurd (lt-irrefl 0 (omega arith)))
           (λ _. unfold layoutOf layout1023 decodeAll in refl)
@@ -157,7 +159,7 @@ sin-found s e =
 
 pub reported-length : ReportedLength
 unfolding answered
-reported-length v n e = rw e (length-message v n e)
+reported-length z b n e = rw e (length-message z b n e)
 
 -- ---- round trips
 
@@ -165,19 +167,21 @@ pub message-again : MessageAgain
 message-again s b e = (message-of-row s e b, row-written s e)
 
 pub row-again : RowAgain
-row-again v n e = (message-accepted v n e, row-of-message v n e)
+row-again z b n e =
+    let d = buffers-of-message z b n e in
+    record { accepted = message-accepted z b n e; values = d .0; present = d .1 }
 
 -- with both names good the writer answers as for a kind without names
-named-too : (a b : Name) (lo hi n : ℕ) (v : List ℤ) → (goodName a ≡ true) × (goodName b ≡ true) → kindWriteRefusal lo hi true v n ≡ 0
-    → kindWriteRefusal lo hi (goodName a && goodName b) v n ≡ 0
+named-too : (a b : Name) (lo hi n : ℕ) (v : List Reading) → (goodName a ≡ true) × (goodName b ≡ true)
+    → kindWriteRefusal lo hi true (valuesOf v) (presentOf v) n ≡ 0 → kindWriteRefusal lo hi (goodName a && goodName b) (valuesOf v) (presentOf v) n ≡ 0
 named-too a b lo hi n v g e = rw (g .0, g .1) e
 
 pub records-again : (s : List ℕ) → Bytes s → RecordsAgain s
 records-again s b =
     record {
-      helmert = λ e. unfold readHelmert in (kept 1021 1021 s _ e b (helmert-row s e), λ n h. named-too _ _ 1021 1021 n _ (helmert-good _) (kept-written 1021 1021 s _ n e (helmert-row s e) h));
+      helmert = λ e. unfold readHelmert in (kept 1021 1021 s _ e b (helmert-row s e), λ n h. named-too _ _ 1021 1021 n (helmertRow (helmertOf (says (kindRow 1021 1021 s)))) (helmert-good _) (kept-written 1021 1021 s _ n e (helmert-row s e) h));
       molodenskiBadekas =
-          λ e. unfold readMolodenskiBadekas in (kept 1022 1022 s _ e b (molodenski-badekas-row s e), λ n h. named-too _ _ 1022 1022 n _ (molodenski-badekas-good _) (kept-written 1022 1022 s _ n e (molodenski-badekas-row s e) h));
+          λ e. unfold readMolodenskiBadekas in (kept 1022 1022 s _ e b (molodenski-badekas-row s e), λ n h. named-too _ _ 1022 1022 n (molodenskiBadekasRow (molodenskiBadekasOf (says (kindRow 1022 1022 s)))) (molodenski-badekas-good _) (kept-written 1022 1022 s _ n e (molodenski-badekas-row s e) h));
       grid = λ e. unfold readGrid in (kept 1023 1024 s _ e b (grid-row s e), λ n. kept-written 1023 1024 s _ n e (grid-row s e));
       projection = λ e. unfold readProjection in (kept 1025 1025 s _ e b (projection-row s e), λ n. kept-written 1025 1025 s _ n e (projection-row s e));
       lambert = λ e. unfold readLambert in (kept 1026 1026 s _ e b (lambert-row s e), λ n. kept-written 1026 1026 s _ n e (lambert-row s e));

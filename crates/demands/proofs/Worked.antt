@@ -5,11 +5,11 @@ use mathlib.Core.Bool.{true}
 use Prim.Native.Nat.{ℕ, zero, suc, _<_}
 use native.Mathlib.Omega.{arith}
 use Rattle.arith.specs.Whole.{sameZ}
-use Rattle.field.specs.Field.{bitAt, field, twos}
-use Rattle.layout.specs.Layout.{takes, allTake, total, decodeAll, zeroFrom}
-use Rattle.grid_records.specs.Grids.{gridOf, placeAt, shiftsAt, shiftsRow, nodesAt, nodesRow}
+use Rattle.field.specs.Field.{bitAt, field, twos, signedOf}
+use Rattle.layout.specs.Layout.{allTake, total, decodeAll, zeroFrom}
+use Rattle.grid_records.specs.Grids.{gridOf, originAt, spacingAt, frameOf, shiftsAt, shiftsRow, nodesAt, nodesRow}
 use Rattle.row.specs.Numbers.{pairAt}
-use Rattle.wire.specs.Layouts.{layoutOf, layout1021, tail1021, layout1023}
+use Rattle.layouts.specs.Layouts.{layoutOf, layout1021, tail1021, layout1023}
 use Rattle.wire.specs.Message.{layout, refusal, row}
 use Rattle.bilinear.specs.Bilinear.{nearestWhole, fromEdge, outside, cell, weighted, inCell, exact, interpolated, lacks, absentIn, absent}
 use Rattle.grid.specs.Shift.{surface, northOf, byTurns, eastOf, shiftRefusal, answerOf, outcome, shiftWith, messageShift}
@@ -17,7 +17,7 @@ use Rattle.demands.specs.Worked.{gridK, gridKNegated, gridKNode7, gridKN
 use Rattle.demands.specs.Grids.{surfaceAt}
 
 pub grids-read : GridsRead
-unfolding gridK gridKNegated gridKNode7 gridKNorth0 gridKEast0 gridKBoth0 refusal row layout layoutOf layout1023 total zeroFrom decodeAll allTake takes field bitAt twos nodesRow shiftsRow
+unfolding gridK gridKNegated gridKNode7 gridKNorth0 gridKEast0 gridKBoth0 refusal row layout layoutOf layout1023 total zeroFrom decodeAll allTake field bitAt twos signedOf nodesRow shiftsRow
 grids-read = record { grid = refl; negated = refl; node7 = refl; north0 = refl; east0 = refl; both0 = refl }
 
 -- a number below 4 is one of four
@@ -29,7 +29,7 @@ four P a b c d (suc (suc (suc zero))) h = d
 four P a b c d (suc (suc (suc (suc i)))) h = absurd (omega arith)
 
 pub grid-k-present : GridKPresent
-unfolding gridK refusal row layout layoutOf layout1023 total zeroFrom decodeAll allTake takes field bitAt twos gridOf pairAt placeAt shiftsAt nodesAt surface sameZ
+unfolding gridK refusal row layout layoutOf layout1023 total zeroFrom decodeAll allTake field bitAt twos signedOf gridOf pairAt originAt spacingAt frameOf shiftsAt nodesAt surface sameZ
 grid-k-present =
     λ i j hi hj. four (λ (i : ℕ). surfaceAt gridK 2 .present i j ≡ true) (row0 j hj) (row1 j hj) (row2 j hj) (row3 j hj) i hi
   where
@@ -46,9 +46,9 @@ grid-k-present =
     row3 = four (λ (j : ℕ). surfaceAt gridK 2 .present 3 j ≡ true) refl refl refl refl
 
 pub worked-numbers : WorkedNumbers
-unfolding gridK gridKNegated gridKNode7 gridKNorth0 gridKEast0 gridKBoth0 table given wanted answerTo refusal row layout layoutOf layout1021 tail1021 layout1023 total zeroFrom decodeAll allTake takes field bitAt twos gridOf pairAt placeAt shiftsAt nodesAt surface northOf byTurns eastOf shiftRefusal answerOf outcome shiftWith messageShift nearestWhole fromEdge outside cell weighted inCell exact interpolated lacks absentIn absent sameZ
+unfolding gridK gridKNegated gridKNode7 gridKNorth0 gridKEast0 gridKBoth0 table given wanted answerTo refusal row layout layoutOf layout1021 tail1021 layout1023 total zeroFrom decodeAll allTake field bitAt twos signedOf gridOf pairAt originAt spacingAt frameOf shiftsAt nodesAt surface northOf byTurns eastOf shiftRefusal answerOf outcome shiftWith messageShift nearestWhole fromEdge outside cell weighted inCell exact interpolated lacks absentIn absent sameZ
 worked-numbers = refl
 
 pub worked-metres : WorkedMetres
-unfolding gridK refusal row layout layoutOf layout1023 total zeroFrom decodeAll allTake takes field bitAt twos gridOf pairAt placeAt shiftsAt nodesAt surface northOf byTurns eastOf shiftRefusal answerOf outcome shiftWith messageShift nearestWhole fromEdge outside cell weighted inCell exact interpolated lacks absentIn absent sameZ
+unfolding gridK refusal row layout layoutOf layout1023 total zeroFrom decodeAll allTake field bitAt twos signedOf gridOf pairAt originAt spacingAt frameOf shiftsAt nodesAt surface northOf byTurns eastOf shiftRefusal answerOf outcome shiftWith messageShift nearestWhole fromEdge outside cell weighted inCell exact interpolated lacks absentIn absent sameZ
 worked-metres = refl

@@ -10,20 +10,21 @@ use lib.IntN.{ℤ, pos, negℤ, natAbs, _+ℤ_, _-ℤ_, _*ℤ_}
 use lib.Signed.{_≤ℤ_, _<ℤ_}
 use lib.Ieee.{binary64, ofInt, toSigned}
 use Rattle.arith.specs.First.{first}
-use Rattle.arith.specs.Row.{at}
 use Rattle.grid_records.specs.declared.Grid.{Grid}
 use Rattle.grid_records.specs.declared.Shifts.{Shifts}
-use Rattle.grid_records.specs.Grids.{gridOf, gridRow}
+use Rattle.grid_records.specs.Grids.{gridOf, gridRow, frameOf}
+use Rattle.row.specs.Numbers.{says, valuesOf, presentOf}
+use Rattle.layout.specs.Layout.{valueIn}
 use Rattle.wire.specs.Message.{numberOf, refusal, row}
 use Rattle.wire.specs.Message.{kindWriteRefusal}
 use Rattle.message.specs.Kinds.{readGrid, gridHeld}
 use Rattle.bilinear.specs.Bilinear.{Surface, gap, fromEdge, outside, cell, exact, LipschitzBound}
-use Rattle.grid.specs.Shift.{stepsOf, nodeRaw, surface, northOf, eastOf, inCellShift, recordShift, messageShift}
+use Rattle.grid.specs.Shift.{stepsOf, nodeOf, surface, northOf, eastOf, inCellShift, recordShift, messageShift}
 use Rattle.grid_refusals.specs.Refusals.{fieldTests}
 
 -- the grid of a message, and one component of it
 abbrev pub gridAt : List ℕ → Grid
-gridAt s = gridOf (at (row s))
+gridAt s = gridOf (says (row s))
 
 abbrev pub surfaceAt : List ℕ → ℕ → Surface
 surfaceAt s c = surface (gridAt s) c
@@ -75,7 +76,7 @@ pub record Holds (g : Grid) (c k l : ℕ) (n e : ℤ) : Type 0 where
 -- "On a shared edge both cells must give the same answer or refusal": every cell that holds a position gives what the call answers
 abbrev pub SharedEdges : Type 0
 SharedEdges =
-    (s : List ℕ) (c : ℕ) (n e : ℤ) → readGrid s .refusal ≡ 0 → first (fieldTests (gridAt s) c n e) ≡ 0
+    (s : List ℕ) (c : ℕ) (n e : ℤ) → readGrid s .refusal ≡ 0 → first (fieldTests (frameOf (gridAt s)) c n e) ≡ 0
     → (k l : ℕ) → Holds (gridAt s) c k l n e → messageShift s c n e ≡ inCellShift (gridAt s) c k l (northSteps (gridAt s) c n) (eastSteps (gridAt s) c e)
 
 -- the call on the record that was read from a message answers as the call on the message
@@ -84,7 +85,7 @@ BothCalls = (s : List ℕ) (c : ℕ) (n e : ℤ) → readGrid s .refusal ≡ 0 �
 
 -- a grid record is one that a message holds, and so not RANGE, exactly where the writer with room for it refuses nothing
 abbrev pub HeldIsWritten : Type 0
-HeldIsWritten = (g : Grid) (m : ℕ) → 74 ≤ m → gridHeld g ≡ eqb (kindWriteRefusal 1023 1024 true (gridRow g) m) 0
+HeldIsWritten = (g : Grid) (m : ℕ) → 74 ≤ m → gridHeld g ≡ eqb (kindWriteRefusal 1023 1024 true (valuesOf (gridRow g)) (presentOf (gridRow g)) m) 0
 
 -- the grid with other nodes
 abbrev pub withNodes : Grid → List Shifts → Grid
@@ -104,10 +105,10 @@ withNodes g ns =
 
 -- the nodes ns are those of g, but for nodes that have no weight b steps north and a steps east of the corner of the cell k from the south and l from the west
 pub record SameWeighted (g : Grid) (ns : List Shifts) (c k l b a : ℕ) : Type 0 where
-  pub sw : ((surface g c .W - a) * (surface g c .H - b) ≡ 0) ⊎ (nodeRaw (g .nodes) c (3 - k) l ≡ nodeRaw ns c (3 - k) l)
-  pub se : (a * (surface g c .H - b) ≡ 0) ⊎ (nodeRaw (g .nodes) c (3 - k) (l + 1) ≡ nodeRaw ns c (3 - k) (l + 1))
-  pub nw : ((surface g c .W - a) * b ≡ 0) ⊎ (nodeRaw (g .nodes) c (2 - k) l ≡ nodeRaw ns c (2 - k) l)
-  pub ne : (a * b ≡ 0) ⊎ (nodeRaw (g .nodes) c (2 - k) (l + 1) ≡ nodeRaw ns c (2 - k) (l + 1))
+  pub sw : ((surface g c .W - a) * (surface g c .H - b) ≡ 0) ⊎ (nodeOf (g .nodes) c (3 - k) l ≡ nodeOf ns c (3 - k) l)
+  pub se : (a * (surface g c .H - b) ≡ 0) ⊎ (nodeOf (g .nodes) c (3 - k) (l + 1) ≡ nodeOf ns c (3 - k) (l + 1))
+  pub nw : ((surface g c .W - a) * b ≡ 0) ⊎ (nodeOf (g .nodes) c (2 - k) l ≡ nodeOf ns c (2 - k) l)
+  pub ne : (a * b ≡ 0) ⊎ (nodeOf (g .nodes) c (2 - k) (l + 1) ≡ nodeOf ns c (2 - k) (l + 1))
 
 -- only "a node of non-zero weight" is asked for: other nodes may be anything that a message holds
 abbrev pub OnlyWeighted : Type 0
@@ -128,7 +129,7 @@ SumBound = (s : List ℕ) (c : ℕ) (n e : ℤ) → AnsweredAt s c n e → 2 * n
 
 -- ---- demand 3
 
--- "all sixteen nodes present"
+-- "all sixteen nodes present": each has a value
 abbrev pub AllPresent : List ℕ → ℕ → Type 0
 AllPresent s c = (i j : ℕ) → i < 4 → j < 4 → surfaceAt s c .present i j ≡ true
 
@@ -153,7 +154,7 @@ PlainSteps = (s : List ℕ) (a b : ℤ) → refusal s ≡ 0 → numberOf s ≡ 1
 
 -- "rover minus origin", as plain numbers
 abbrev pub plainEast : Grid → ℤ → ℤ
-plainEast g e = e -ℤ pos (stepsOf (g .number)) *ℤ g .origin .east
+plainEast g e = e -ℤ pos (stepsOf (g .number)) *ℤ valueIn (g .origin .east)
 
 -- r is z "brought by whole turns of 12,960,000,000 steps to at least -6,480,000,000 and less than 6,480,000,000"
 pub record Turned (z r : ℤ) : Type 0 where

@@ -7,8 +7,10 @@ use mathlib.Core.Bool.{Bool, true, false, _&&_}
 use mathlib.Core.List.{List}
 use lib.IntN.{ℤ, pos}
 use lib.ListN.{length, getD}
-use Rattle.arith.specs.Row.{at}
-use Rattle.layout.specs.Layout.{size, total, zeroFrom, allTake, decodeAll, answered}
+use Rattle.field.specs.declared.Reading.{Reading}
+use Rattle.field.specs.declared.Reading.the-variants.{Value}
+use Rattle.row.specs.Numbers.{says, valuesOf, presentOf}
+use Rattle.layout.specs.Layout.{size, total, zeroFrom, allTake, decodeAll, rowOf, answered}
 use Rattle.transformation_records.specs.declared.Name.{Name}
 use Rattle.transformation_records.specs.declared.Helmert.{Helmert}
 use Rattle.transformation_records.specs.declared.MolodenskiBadekas.{MolodenskiBadekas}
@@ -65,32 +67,38 @@ pub record Lengths (s : List ℕ) : Type 0 where
 abbrev pub AcceptedLengths : Type 0
 AcceptedLengths = (s : List ℕ) → refusal s ≡ 0 → Lengths s
 
--- DF147 is the number behind both names of 1021 and 1022, and number 1 of the other rows
+-- DF147 stands behind both names of 1021 and 1022, and at place 1 of the other rows
 pub record SinPlace (s : List ℕ) : Type 0 where
-  pub named : numberOf s ≤ 1022 → at (row s) (3 + sourceCount s + targetCount s) ≡ pos (sinOf s)
-  pub fixed : 1023 ≤ numberOf s → at (row s) 1 ≡ pos (sinOf s)
+  pub named : numberOf s ≤ 1022 → says (row s) (3 + sourceCount s + targetCount s) ≡ Value (pos (sinOf s))
+  pub fixed : 1023 ≤ numberOf s → says (row s) 1 ≡ Value (pos (sinOf s))
 
 abbrev pub SinFound : Type 0
 SinFound = (s : List ℕ) → refusal s ≡ 0 → SinPlace s
 
 -- "The length reported by the writer is the layout's"
 abbrev pub ReportedLength : Type 0
-ReportedLength = (v : List ℤ) (n : ℕ) → writeRefusal v n ≡ 0 → answered (writeRefusal v n) (message v) .length ≡ size (rowLayout v)
+ReportedLength =
+    (z : List ℤ) (b : List ℕ) (n : ℕ) → writeRefusal z b n ≡ 0 → answered (writeRefusal z b n) (message (rowOf z b)) .length ≡ size (rowLayout (rowOf z b))
 
 -- ---- demand 2: both round trips
 
 -- an accepted message, read as a row and written again wherever there is room for it, gives the same bytes
 abbrev pub MessageAgain : Type 0
 MessageAgain =
-    (s : List ℕ) → Bytes s → refusal s ≡ 0 → (message (row s) ≡ s) × ((n : ℕ) → length s ≤ n → writeRefusal (row s) n ≡ 0)
+    (s : List ℕ) → Bytes s → refusal s ≡ 0 → (message (row s) ≡ s) × ((n : ℕ) → length s ≤ n → writeRefusal (valuesOf (row s)) (presentOf (row s)) n ≡ 0)
 
--- a row that is written is an accepted message, and reads back as itself
+-- a row that is written, values z and presence bytes b, is an accepted message, and reads back as itself in both buffers
+pub record RowBack (z : List ℤ) (b : List ℕ) : Type 0 where
+  pub accepted : refusal (message (rowOf z b)) ≡ 0
+  pub values : valuesOf (row (message (rowOf z b))) ≡ z
+  pub present : presentOf (row (message (rowOf z b))) ≡ b
+
 abbrev pub RowAgain : Type 0
-RowAgain = (v : List ℤ) (n : ℕ) → writeRefusal v n ≡ 0 → (refusal (message v) ≡ 0) × (row (message v) ≡ v)
+RowAgain = (z : List ℤ) (b : List ℕ) (n : ℕ) → writeRefusal z b n ≡ 0 → RowBack z b
 
 -- the same of a record kind, read by its reader and written from its row
-abbrev pub Rewritten : ℕ → ℕ → Bool → List ℤ → List ℕ → Type 0
-Rewritten lo hi good v s = (message v ≡ s) × ((n : ℕ) → length s ≤ n → kindWriteRefusal lo hi good v n ≡ 0)
+abbrev pub Rewritten : ℕ → ℕ → Bool → List Reading → List ℕ → Type 0
+Rewritten lo hi good v s = (message v ≡ s) × ((n : ℕ) → length s ≤ n → kindWriteRefusal lo hi good (valuesOf v) (presentOf v) n ≡ 0)
 
 pub record RecordsAgain (s : List ℕ) : Type 0 where
   pub helmert : readHelmert s .refusal ≡ 0
@@ -110,13 +118,13 @@ pub record NameBytes (n : Name) : Type 0 where
 -- a record that is written reads back as itself, for each kind
 pub record RecordsBack (n : ℕ) : Type 0 where
   pub helmert : (r : Helmert) → NameBytes (r .source) → NameBytes (r .target)
-      → kindWriteRefusal 1021 1021 (goodName (r .source) && goodName (r .target)) (helmertRow r) n ≡ 0
+      → kindWriteRefusal 1021 1021 (goodName (r .source) && goodName (r .target)) (valuesOf (helmertRow r)) (presentOf (helmertRow r)) n ≡ 0
       → readHelmert (message (helmertRow r)) ≡ record { refusal = 0; value = r }
   pub molodenskiBadekas : (r : MolodenskiBadekas) → NameBytes (r .source) → NameBytes (r .target)
-      → kindWriteRefusal 1022 1022 (goodName (r .source) && goodName (r .target)) (molodenskiBadekasRow r) n ≡ 0
+      → kindWriteRefusal 1022 1022 (goodName (r .source) && goodName (r .target)) (valuesOf (molodenskiBadekasRow r)) (presentOf (molodenskiBadekasRow r)) n ≡ 0
       → readMolodenskiBadekas (message (molodenskiBadekasRow r)) ≡ record { refusal = 0; value = r }
-  pub grid : (r : Grid) → length (r .nodes) ≡ 16 → kindWriteRefusal 1023 1024 true (gridRow r) n ≡ 0 → readGrid (message (gridRow r)) ≡ record { refusal = 0; value = r }
-  pub projection : (r : Projection) → kindWriteRefusal 1025 1025 true (projectionRow r) n ≡ 0 → readProjection (message (projectionRow r)) ≡ record { refusal = 0; value = r }
-  pub lambert : (r : Lambert) → kindWriteRefusal 1026 1026 true (lambertRow r) n ≡ 0 → readLambert (message (lambertRow r)) ≡ record { refusal = 0; value = r }
-  pub obliqueMercator : (r : ObliqueMercator) → kindWriteRefusal 1027 1027 true (obliqueMercatorRow r) n ≡ 0
+  pub grid : (r : Grid) → length (r .nodes) ≡ 16 → kindWriteRefusal 1023 1024 true (valuesOf (gridRow r)) (presentOf (gridRow r)) n ≡ 0 → readGrid (message (gridRow r)) ≡ record { refusal = 0; value = r }
+  pub projection : (r : Projection) → kindWriteRefusal 1025 1025 true (valuesOf (projectionRow r)) (presentOf (projectionRow r)) n ≡ 0 → readProjection (message (projectionRow r)) ≡ record { refusal = 0; value = r }
+  pub lambert : (r : Lambert) → kindWriteRefusal 1026 1026 true (valuesOf (lambertRow r)) (presentOf (lambertRow r)) n ≡ 0 → readLambert (message (lambertRow r)) ≡ record { refusal = 0; value = r }
+  pub obliqueMercator : (r : ObliqueMercator) → kindWriteRefusal 1027 1027 true (valuesOf (obliqueMercatorRow r)) (presentOf (obliqueMercatorRow r)) n ≡ 0
       → readObliqueMercator (message (obliqueMercatorRow r)) ≡ record { refusal = 0; value = r }

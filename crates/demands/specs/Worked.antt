@@ -4,11 +4,13 @@
 use Prim.Native.Nat.{ℕ, _+_}
 use mathlib.Core.Path.{_≡_}
 use mathlib.Core.Bool.{cond}
-use mathlib.Core.List.{List, [], _∷_, _++_}
+use mathlib.Core.List.{List, [], _∷_, _++_, map}
 use lib.Dec.{eqb}
-use lib.IntN.{ℤ, pos, negsuc, negℤ}
+use lib.IntN.{ℤ, pos, negℤ}
 use lib.ListN.{set}
 use Rattle.arith.specs.Row.{upTo}
+use Rattle.field.specs.declared.Reading.{Reading}
+use Rattle.field.specs.declared.Reading.the-variants.{Value, Absent}
 use Rattle.layout.specs.Layout.{blank}
 use Rattle.grid_records.specs.Grids.{nodesRow}
 use Rattle.wire.specs.Message.{refusal, row}
@@ -28,7 +30,7 @@ unfoldable pub gridKNegated : List ℕ
 gridKNegated =
     63 ∷ 240 ∷ 116 ∷ 172 ∷ 68 ∷ 0 ∷ 154 ∷ 176 ∷ 22 ∷ 129 ∷ 104 ∷ 0 ∷ 0 ∷ 18 ∷ 84 ∷ 0 ∷ 0 ∷ 63 ∷ 224 ∷ 0 ∷ 7 ∷ 248 ∷ 0 ∷ 0 ∷ 254 ∷ 128 ∷ 0 ∷ 31 ∷ 192 ∷ 0 ∷ 3 ∷ 246 ∷ 0 ∷ 0 ∷ 126 ∷ 128 ∷ 0 ∷ 15 ∷ 200 ∷ 0 ∷ 1 ∷ 248 ∷ 0 ∷ 0 ∷ 62 ∷ 224 ∷ 0 ∷ 7 ∷ 216 ∷ 0 ∷ 0 ∷ 250 ∷ 128 ∷ 0 ∷ 31 ∷ 64 ∷ 0 ∷ 3 ∷ 230 ∷ 0 ∷ 0 ∷ 124 ∷ 128 ∷ 0 ∷ 15 ∷ 136 ∷ 0 ∷ 1 ∷ 240 ∷ 0 ∷ 0 ∷ 0 ∷ 0 ∷ []
 
--- Grid K with "node 7 raw -256"
+-- Grid K with "node 7 raw -256": it has no value
 unfoldable pub gridKNode7 : List ℕ
 gridKNode7 = set (set gridK 37 8) 38 0
 
@@ -98,21 +100,21 @@ WorkedNumbers = given table ≡ wanted table
 abbrev pub WorkedMetres : Type 0
 WorkedMetres = messageShift gridK 2 (pos 1764000000) (pos 396000000) .answer ≡ Metres (unitsOf 10000 (pos 469285))
 
--- the row of a grid like Grid K: its raw spacings, and its height nodes 1 to 16
-abbrev pub rowK : ℤ → ℤ → (ℕ → ℤ) → List ℤ
+-- the row of a grid like Grid K: its raw spacings, and what its height nodes 1 to 16 say
+abbrev pub rowK : ℤ → ℤ → (ℕ → Reading) → List Reading
 rowK rows columns node =
-    (pos 1023 ∷ pos 7 ∷ pos 0 ∷ pos 1 ∷ pos 352800 ∷ pos 79200 ∷ rows ∷ columns ∷ pos 0 ∷ pos 0 ∷ pos 4692 ∷ [])
-    ++ nodesRow (upTo (λ i. record { north = pos 0; east = pos 0; height = node (i + 1) }) 16)
-    ++ (pos 0 ∷ pos 0 ∷ pos 0 ∷ pos 0 ∷ pos 0 ∷ [])
+    map Value (pos 1023 ∷ pos 7 ∷ pos 0 ∷ pos 1 ∷ pos 352800 ∷ pos 79200 ∷ rows ∷ columns ∷ pos 0 ∷ pos 0 ∷ pos 4692 ∷ [])
+    ++ nodesRow (upTo (λ i. record { north = Value (pos 0); east = Value (pos 0); height = node (i + 1) }) 16)
+    ++ map Value (pos 0 ∷ pos 0 ∷ pos 0 ∷ pos 0 ∷ pos 0 ∷ [])
 
 -- the bytes read as document 01 gives Grid K and the grids made from it
 pub record GridsRead : Type 0 where
-  pub grid : row gridK ≡ rowK (pos 720) (pos 720) pos
-  pub negated : row gridKNegated ≡ rowK (pos 720) (pos 720) (λ i. negℤ (pos i))
-  pub node7 : row gridKNode7 ≡ rowK (pos 720) (pos 720) (λ i. cond (eqb i 7) (negsuc 255) (pos i))
-  pub north0 : row gridKNorth0 ≡ rowK (pos 0) (pos 720) pos
-  pub east0 : row gridKEast0 ≡ rowK (pos 720) (pos 0) pos
-  pub both0 : row gridKBoth0 ≡ rowK (pos 0) (pos 0) pos
+  pub grid : row gridK ≡ rowK (pos 720) (pos 720) (λ i. Value (pos i))
+  pub negated : row gridKNegated ≡ rowK (pos 720) (pos 720) (λ i. Value (negℤ (pos i)))
+  pub node7 : row gridKNode7 ≡ rowK (pos 720) (pos 720) (λ i. cond (eqb i 7) Absent (Value (pos i)))
+  pub north0 : row gridKNorth0 ≡ rowK (pos 0) (pos 720) (λ i. Value (pos i))
+  pub east0 : row gridKEast0 ≡ rowK (pos 720) (pos 0) (λ i. Value (pos i))
+  pub both0 : row gridKBoth0 ≡ rowK (pos 0) (pos 0) (λ i. Value (pos i))
 
 -- Grid K's heights have all sixteen nodes present, as demand 3 asks
 abbrev pub GridKPresent : Type 0

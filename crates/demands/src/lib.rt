@@ -7,6 +7,7 @@ ghost use Rattle.demands.specs.Worked.{WorkedNumbers, WorkedMetres, Grid
 ghost use Rattle.demands.specs.Grids.{GridAnswer, SharedEdges, BothCalls, HeldIsWritten, OnlyWeighted, Lossless, SumBound, AllPresent, surfaceAt, stepsNorth, stepsEast, Lipschitz, PlainSteps, EastTurned, BothSides};
 ghost use Rattle.bilinear.specs.Bilinear.{LipschitzBound};
 ghost use Rattle.grid.specs.Shift.{messageShift};
+ghost use Rattle.demands.specs.Absent.{NoneIsThePattern, UnsignedHasValue, PatternRefused, RefusedIsZero, MeanFormed};
 ghost use Rattle.demands.specs.Tables.{LikeADictionary, LastStored, NoGroup, ZeroBytes, StaysFormed, RefusedKeeps};
 
 // Demand 1 of reading: the first refusal that applies, and only then.
@@ -28,6 +29,15 @@ pub fn round_trips()
     ensures rows { λ r. ⌜ RowAgain ⌝ }
     ensures records { λ r. ⌜ ((s : List ℕ) → Bytes s → RecordsAgain s) ⌝ }
     ensures back { λ r. ⌜ ((n : ℕ) → RecordsBack n) ⌝ }
+{}
+
+// Not available is not a number: what reading says of it, what writing refuses, and that no mean is formed of it.
+pub fn absences()
+    ensures none { λ r. ⌜ NoneIsThePattern ⌝ }
+    ensures unsigned { λ r. ⌜ UnsignedHasValue ⌝ }
+    ensures written { λ r. ⌜ PatternRefused ⌝ }
+    ensures refused { λ r. ⌜ ((s : List ℕ) → RefusedIsZero s) ⌝ }
+    ensures mean { λ r. ⌜ MeanFormed ⌝ }
 {}
 
 // Demands 1 and 2 of the table, over any list of calls.

@@ -143,12 +143,12 @@ pub field-step : (s : List ℕ) (p k m : ℕ) → m ≤ 8 - (p + k) % 8
 field-step s p k m h =
     rw (← field-in s (p + k) m (8 - (p + k) % 8 - m) (omega arith)) (sym (field-add s p k m))
 
--- one more whole byte behind i of them
-pub byte-step : (s : List ℕ) (q i : ℕ) → field s (8 * q) (8 * i) * 2 ^ 8 + getD s (q + i) 0 / 2 ^ 0 % 2 ^ 8 ≡ field s (8 * q) (8 * i + 8)
-byte-step s q i =
-    let at : (8 * q + 8 * i) / 8 ≡ q + i = omega arith in
-    let below : 8 - (8 * q + 8 * i) % 8 - 8 ≡ 0 = omega arith in
-    rw (at, below) at (field-step s (8 * q) (8 * i) 8 (omega arith))
+-- i whole bytes, and k behind them
+pub bytes-join : (s : List ℕ) (q i k : ℕ) → field s (8 * q) (8 * i) * 2 ^ (8 * k) + field s (8 * (q + i)) (8 * k) ≡ field s (8 * q) (8 * (i + k))
+bytes-join s q i k =
+    let at : 8 * (q + i) ≡ 8 * q + 8 * i = omega arith in
+    let all : 8 * (i + k) ≡ 8 * i + 8 * k = omega arith in
+    rw (at, all) (sym (field-add s (8 * q) (8 * i) (8 * k)))
 
 -- the w bits that have r bits below them and o above them
 pub field-part : (s : List ℕ) (p o w r : ℕ) → field s p (o + w + r) / 2 ^ r % 2 ^ w ≡ field s (p + o) w
@@ -239,7 +239,7 @@ setField-in s p (suc m) j v h l n =
 pub setField-step : (s t : List ℕ) (p w v k m : ℕ) → t ≡ setField s p k (v / 2 ^ (w - k)) → k + m ≤ w → m ≤ 8 - (p + k) % 8 → p + w ≤ 8 * length s → 0 < m
     → set t ((p + k) / 8) (putBits (getD t ((p + k) / 8) 0) (8 - (p + k) % 8 - m) m (v / 2 ^ (w - k - m) % 2 ^ m)) ≡ setField s p (k + m) (v / 2 ^ (w - (k + m)))
 setField-step s t p w v k m e h l n z =
-    sym (setField-in t (p + k) m (8 - (p + k) % 8 - m) (Y % 2 ^ m) (omega arith) (mod-lt Y (pow-pos m)) inside)
+    sym (setField-in t (p + k) m (8 - (p + k) % 8 - m) (Y % 2 ^ m) (omega arith) (mod-lt Y (pow-pos m)) contains)
     ∙ ap (λ (x : List ℕ). setField x (p + k) m (Y % 2 ^ m)) e
     ∙ ap (λ (x : ℕ). setField (setField s p k x) (p + k) m (Y % 2 ^ m)) (sym up)
     ∙ sym (setField-add s p k m Y)
@@ -254,8 +254,8 @@ setField-step s t p w v k m e h l n z =
     rest : w - k - m ≡ w - (k + m)
     rest = omega arith
 
-    inside : (p + k) / 8 < length t
-    inside = let y : length t ≡ length s = ap length e ∙ length-setField s p k (v / 2 ^ (w - k)) in omega arith
+    contains : (p + k) / 8 < length t
+    contains = let y : length t ≡ length s = ap length e ∙ length-setField s p k (v / 2 ^ (w - k)) in omega arith
 
 -- ---- one bit
 
@@ -299,11 +299,11 @@ unfolding field setField
 field-setField s p zero v n h = omega arith
 field-setField s p (suc w) v n h =
     let S : List ℕ = setField s p w (v / 2) in
-    let inside : (p + w) / 8 < length S = omega (arith, length-setField s p w (v / 2)) in
+    let contains : (p + w) / 8 < length S = omega (arith, length-setField s p w (v / 2)) in
     let half : v / 2 < 2 ^ w = omega (arith, pow-suc 2 w) in
     let other : field (setBit S (p + w) (v % 2)) p w ≡ field S p w =
-    field-same (setBit S (p + w) (v % 2)) S p w (λ i a b. setBit-other S (p + w) i (v % 2) (omega arith) inside (omega arith)) in
-    let last : bitAt (setBit S (p + w) (v % 2)) (p + w) ≡ v % 2 = setBit-same S (p + w) (v % 2) (omega arith) inside in
+    field-same (setBit S (p + w) (v % 2)) S p w (λ i a b. setBit-other S (p + w) i (v % 2) (omega arith) contains (omega arith)) in
+    let last : bitAt (setBit S (p + w) (v % 2)) (p + w) ≡ v % 2 = setBit-same S (p + w) (v % 2) (omega arith) contains in
     omega (arith, other, last, field-setField s p w (v / 2) (omega arith) half)
 
 -- writing what was read

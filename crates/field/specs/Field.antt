@@ -2,11 +2,12 @@
 -- Assumes nothing.
 use Prim.Native.Nat.{ℕ, zero, suc, _+_, _-_, _*_, _/_, _%_, _^_}
 use mathlib.Core.List.{List}
-use mathlib.Core.Bool.{Bool, cond, _&&_}
-use lib.Dec.{ltb, leb}
+use mathlib.Core.Bool.{Bool, true, cond, _&&_}
+use lib.Dec.{ltb, leb, eqb}
 use lib.ListN.{length, getD, set}
-use lib.IntN.{ℤ, pos, negsuc}
-use lib.Signed.{mag}
+use lib.IntN.{ℤ, pos, negsuc, natAbs}
+use Rattle.field.specs.declared.Reading.{Reading}
+use Rattle.field.specs.declared.Reading.the-variants.{Value, Absent}
 
 -- ---- numbers in bits
 
@@ -32,20 +33,30 @@ unfoldable pub setField : List ℕ → ℕ → ℕ → ℕ → List ℕ
 setField s p zero v = s
 setField s p (suc w) v = setBit (setField s p w (v / 2)) (p + w) (v % 2)
 
--- ---- intN: two's complement (000, table 3.3-1)
+-- ---- intN: two's complement, whose most negative pattern means "not available" (000, table 3.3-1)
+
+-- the most negative pattern of w bits
+abbrev pub noneOf : ℕ → ℕ
+noneOf w = 2 ^ w / 2
 
 -- the pattern u of w bits, read as two's complement: u, or u - 2^w where its first bit is set
 unfoldable pub twos : ℕ → ℕ → ℤ
 twos w u = cond (ltb (u * 2) (2 ^ w)) (pos u) (negsuc (2 ^ w - suc u))
 
--- the pattern of z in w bits: z itself, or z + 2^w where z is negative
-unfoldable pub patternOf : ℕ → ℤ → ℕ
-patternOf w (pos n) = n
-patternOf w (negsuc n) = 2 ^ w - suc n
+-- what the pattern u of w bits says
+unfoldable pub signedOf : ℕ → ℕ → Reading
+signedOf w u = cond (eqb u (noneOf w)) Absent (Value (twos w u))
 
--- z has a pattern of w bits: `mag` is n both of n and of -n - 1
-abbrev pub fitsSigned : ℕ → ℤ → Bool
-fitsSigned w z = ltb (mag z) (2 ^ w / 2)
+-- the values of w bits are those between the most negative one and its opposite
+abbrev pub fits : ℕ → Reading → Bool
+fits w (Value z) = ltb (natAbs z) (noneOf w)
+fits w Absent = true
+
+-- the pattern of w bits: z itself, z + 2^w where z is negative, or the most negative one
+abbrev pub patternOf : ℕ → Reading → ℕ
+patternOf w (Value (pos n)) = n
+patternOf w (Value (negsuc n)) = 2 ^ w - suc n
+patternOf w Absent = noneOf w
 
 -- ---- fields of lent bytes
 
@@ -53,16 +64,16 @@ fitsSigned w z = ltb (mag z) (2 ^ w / 2)
 abbrev pub contains : List ℕ → ℕ → ℕ → Bool
 contains s p w = leb w 63 && (leb p 65535 && leb (p + w) (8 * length s))
 
--- the number in a field that s contains, else 0; and the same as two's complement
+-- the number in a field, 0 where s does not contain it; and what a signed field says, which is the value 0 there (none, where w is 0)
 unfoldable pub fieldAt : List ℕ → ℕ → ℕ → ℕ
 fieldAt s p w = cond (contains s p w) (field s p w) 0
 
-unfoldable pub signedAt : List ℕ → ℕ → ℕ → ℤ
-signedAt s p w = twos w (fieldAt s p w)
+unfoldable pub signedAt : List ℕ → ℕ → ℕ → Reading
+signedAt s p w = signedOf w (fieldAt s p w)
 
--- s with a number in a field that s contains and that has room for it, else s; and the same with a signed number
+-- s with a number in a field, or with what a signed field is to say; s where s does not contain the field or the number does not fit
 unfoldable pub putField : List ℕ → ℕ → ℕ → ℕ → List ℕ
 putField s p w v = cond (contains s p w && ltb v (2 ^ w)) (setField s p w v) s
 
-unfoldable pub putSigned : List ℕ → ℕ → ℕ → ℤ → List ℕ
-putSigned s p w z = cond (fitsSigned w z) (putField s p w (patternOf w z)) s
+unfoldable pub putSigned : List ℕ → ℕ → ℕ → Reading → List ℕ
+putSigned s p w r = cond (fits w r) (putField s p w (patternOf w r)) s

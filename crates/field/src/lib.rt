@@ -1,9 +1,9 @@
-// One field of bits in bytes, most significant bit first. The leaves have a requires and are private.
+// One field of bytes, most significant bit first. The functions with a requires are private.
 ghost use mathlib.Core.Path.{_≡_};
 ghost use Prim.Native.Nat.{_+_, _*_, _/_, _%_, _^_, _≤_, _<_, min};
 ghost use lib.ListN.{length};
-ghost use lib.Signed.{mag};
-ghost use Rattle.field.specs.Field.{field, putBits, setField, twos, patternOf, contains, fieldAt, signedAt, putField, putSigned};
+ghost use lib.IntN.{natAbs};
+ghost use Rattle.field.specs.Field.{field, putBits, setField, twos, signedOf, patternOf, contains, fieldAt, signedAt, putField, putSigned};
 
 fn pow2(m: usize) -> u64
     requires { ⌜ m < 64 ⌝ }
@@ -45,17 +45,6 @@ fn read_bits(s: &[u8], p: usize, w: usize) -> u64
     r
 }
 
-// The 32 bits of s from byte q on.
-fn four_bytes(s: &[u8], q: usize) -> u64
-    requires { ⌜ (q + 4 ≤ length (now s)) × (q ≤ 8192) ⌝ }
-    ensures { λ r. ⌜ r ≡ field (now (s .entry)) (8 * q) 32 ⌝ }
-{
-    let a = join_bits(0, s[q], 0, 8);
-    let b = join_bits(a, s[q + 1], 0, 8);
-    let c = join_bits(b, s[q + 2], 0, 8);
-    join_bits(c, s[q + 3], 0, 8)
-}
-
 // Whether w is at most 63, p at most 65,535, and the w bits from bit p on all stand in s.
 fn contains_field(s: &[u8], p: usize, w: usize) -> bool
     ensures { λ r. ⌜ r ≡ contains (now (s .entry)) p w ⌝ }
@@ -69,25 +58,20 @@ fn contains_field(s: &[u8], p: usize, w: usize) -> bool
     (p + w + 7) / 8 <= s.len()
 }
 
-// The number in the w bits of s from bit p on; 0 where w is over 63, p is over 65,535, or the bits do not all stand in s.
-// Bits that stand in four bytes are read by one load.
+// The number in the w bits of s from bit p on; 0 where s does not contain them.
 pub fn field_at(s: &[u8], p: usize, w: usize) -> u64
     ensures { λ r. ⌜ r ≡ fieldAt (now (s .entry)) p w ⌝ }
 {
-    if 65535 < p {
-        return 0;
-    }
-    let q = p / 8;
-    let o = p % 8;
-    if q + 4 <= s.len() {
-        if w <= 32 - o {
-            return four_bytes(s, q) / pow2(32 - o - w) % pow2(w);
-        }
-    }
     if contains_field(s, p, w) {
         return read_bits(s, p, w);
     }
     0
+}
+
+// What a signed field says: a value, or that there is none.
+pub enum Reading {
+    Value(i64),
+    Absent,
 }
 
 // The pattern u of w bits as two's complement.
@@ -96,28 +80,37 @@ fn signed_of(u: u64, w: usize) -> i64
     ensures { λ r. ⌜ r ≡ twos w u ⌝ }
 {
     let n = pow2(w);
-    if u * 2 < n {
-        return u as i64;
-    }
-    -1 - ((n - 1 - u) as i64)
+    let h = n / 2;
+    ((u + h) % n) as i64 - h as i64
 }
 
-// The same number as two's complement.
-pub fn signed_at(s: &[u8], p: usize, w: usize) -> i64
+// What the pattern u of w bits says.
+fn reading_of(u: u64, w: usize) -> Reading
+    requires { ⌜ (w ≤ 63) × (u < 2 ^ w) ⌝ }
+    ensures { λ r. ⌜ r ≡ signedOf w u ⌝ }
+{
+    if u == pow2(w) / 2 {
+        return Reading::Absent;
+    }
+    Reading::Value(signed_of(u, w))
+}
+
+// What the signed field of w bits from bit p on says; where s does not contain them, what the number 0 says: Value(0), or Absent where w is 0.
+pub fn signed_at(s: &[u8], p: usize, w: usize) -> Reading
     ensures { λ r. ⌜ r ≡ signedAt (now (s .entry)) p w ⌝ }
 {
     if 63 < w {
-        return 0;
+        return Reading::Value(0);
     }
-    signed_of(field_at(s, p, w), w)
+    reading_of(field_at(s, p, w), w)
 }
 
-// n for n, and for -n - 1.
+// The magnitude of z.
 pub fn magnitude(z: i64) -> u64
-    ensures { λ r. ⌜ r ≡ mag z ⌝ }
+    ensures { λ r. ⌜ r ≡ natAbs z ⌝ }
 {
     if z < 0 {
-        return (-1 - z) as u64;
+        return (-1 - z) as u64 + 1;
     }
     z as u64
 }
@@ -164,23 +157,32 @@ pub fn put_field(s: &mut [u8], p: usize, w: usize, v: u64)
 
 // The pattern of z in w bits.
 fn pattern_of(z: i64, w: usize) -> u64
-    requires { ⌜ (w ≤ 63) × (mag z < 2 ^ w) ⌝ }
-    ensures { λ r. ⌜ r ≡ patternOf w z ⌝ }
+    requires { ⌜ (w ≤ 63) × (natAbs z < 2 ^ w) ⌝ }
+    ensures { λ r. ⌜ r ≡ patternOf w (Reading.Value z) ⌝ }
 {
     let m = magnitude(z);
     if z < 0 {
-        return pow2(w) - 1 - m;
+        return pow2(w) - m;
     }
     m
 }
 
-// s with z as two's complement in the w bits from bit p on; s as it is where it does not contain them or z has more bits.
-pub fn put_signed(s: &mut [u8], p: usize, w: usize, z: i64)
-    ensures { λ _. ⌜ now (s .exit) ≡ putSigned (now (s .entry)) p w z ⌝ }
+// s with a signed field of w bits from bit p on that says r; s as it is where it does not contain them or r does not fit.
+pub fn put_signed(s: &mut [u8], p: usize, w: usize, r: Reading)
+    ensures { λ _. ⌜ now (s .exit) ≡ putSigned (now (s .entry)) p w r ⌝ }
 {
-    if contains_field(s, p, w) {
-        if magnitude(z) < pow2(w) / 2 {
-            write_bits(s, p, w, pattern_of(z, w));
+    if 63 < w {
+        return;
+    }
+    let h = pow2(w) / 2;
+    match r {
+        Reading::Value(z) => {
+            if magnitude(z) < h {
+                put_field(s, p, w, pattern_of(z, w));
+            }
+        }
+        Reading::Absent => {
+            put_field(s, p, w, h);
         }
     }
 }

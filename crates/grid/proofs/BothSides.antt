@@ -8,18 +8,18 @@ use Prim.Native.Nat.{ℕ, zero, suc, _≤_, _<_}
 use native.Mathlib.Nat.{eq-or-lt-of-le}
 use native.Mathlib.Omega.{arith}
 use borrow.Author.Tests.{ne-eqb, leb-true}
-use lib.Dec.{eqb, leb, ltb}
-use lib.IntN.{ℤ, pos, negsuc, negℤ, natAbs, _+ℤ_, _-ℤ_, _*ℤ_}
+use lib.Dec.{eqb, leb}
+use lib.IntN.{ℤ, pos, negsuc, negℤ, _+ℤ_, _-ℤ_, _*ℤ_}
 use Rattle.arith.specs.First.{Test, first}
-use Rattle.arith.specs.Row.{at}
 use Rattle.arith.specs.Whole.{natural, sameZ}
 use Rattle.arith.proofs.First.{first-append}
-use Rattle.arith.proofs.Tests.{false-ne-true, both-first, both-second}
-use Rattle.arith.proofs.Whole.{eqZ-refl}
+use Rattle.arith.proofs.Tests.{both-first, both-second}
 use Rattle.arith.proofs.Int.{nat, minus, _⊞_, _⊟_, _⊠_, ring}
 use Rattle.arith.proofs.Int as Int
 use Rattle.grid_records.specs.declared.Grid.{Grid}
-use Rattle.grid_records.specs.Grids.{gridOf}
+use Rattle.grid_records.specs.Grids.{gridOf, frameOf}
+use Rattle.layout.specs.Layout.{valueIn}
+use Rattle.row.specs.Numbers.{says}
 use Rattle.wire.specs.Message.{tests, refusal, numberOf, row}
 use Rattle.wire.proofs.Trips.{row-number}
 use Rattle.bilinear.specs.Bilinear.{outside, absent, interpolated}
@@ -40,7 +40,7 @@ turned-both b x y e h = rw e h
 
 east-both : (g : Grid) → ellipsoidal (g .number) ≡ true → eastOf g (pos halfTurn) ≡ eastOf g (negℤ (pos halfTurn))
 unfolding eastOf
-east-both g t = turned-both (ellipsoidal (g .number)) _ _ t (both-turns (pos (stepsOf (g .number)) *ℤ g .origin .east))
+east-both g t = turned-both (ellipsoidal (g .number)) _ _ t (both-turns (pos (stepsOf (g .number)) *ℤ valueIn (g .origin .east)))
 
 only : (k : ℕ) → 1023 ≤ k → k ≤ 1024 → (k ≡ 1024 → ⊥) → k ≡ 1023
 only k l h m = ⊎-elim (λ (e : 1023 ≡ k). sym e) (λ (e : 1023 < k). let z : k ≡ 1024 = omega arith in absurd (m z)) (eq-or-lt-of-le l)
@@ -55,7 +55,7 @@ plane (negsuc k) h = absurd (omega arith)
 
 module _ (s : List ℕ) (c : ℕ) (n : ℤ) where
   abbrev g : Grid
-  g = gridOf (at (row s))
+  g = gridOf (says (row s))
 
   abbrev kind : Bool
   kind = leb 1023 (numberOf s) && leb (numberOf s) 1024
@@ -69,7 +69,7 @@ module _ (s : List ℕ) (c : ℕ) (n : ℤ) where
   tests-both t =
       ap
       (λ (v : ℤ).
-      fieldTests g c n (pos halfTurn)
+      fieldTests (frameOf g) c n (pos halfTurn)
       ++ ((14, outside (surface g c .H) (northOf g n) || outside (surface g c .W) v) ∷ (15, absent (surface g c) (northOf g n) v) ∷ []))
       (east-both g t)
 

@@ -1,7 +1,9 @@
 pub mod Floats
+pub mod Antimeridian
+pub mod Places
 pub mod Parts
 pub mod Accepted
-pub mod Antimeridian
+pub mod Said
 pub mod BothSides
 pub mod Lipschitz
 pub mod Calls

@@ -6,28 +6,35 @@ use mathlib.Core.Bool.{Bool, false, cond}
 use Rattle.grid_refusals.specs.Refusals.{ellipsoidal}
 use Prim.Native.Nat.{ℕ, _<_}
 use lib.IntN.{ℤ, pos, negℤ, _*ℤ_}
-use Rattle.arith.specs.Row.{at}
 use Rattle.grid_records.specs.declared.Grid.{Grid}
-use Rattle.grid_records.specs.Grids.{gridOf}
+use Rattle.grid_records.specs.Grids.{gridOf, frameOf}
+use Rattle.layout.specs.Layout.{valueIn}
+use Rattle.row.specs.Numbers.{says}
 use Rattle.wire.specs.Message.{row}
 use Rattle.bilinear.specs.Bilinear.{gap, interpolated, LipschitzBound}
 use Rattle.bilinear.proofs.Gap.{gap-add}
 use Rattle.bilinear.proofs.Lipschitz.{lipschitz}
 use Rattle.grid.specs.Shift.{stepsOf, surface, northOf, byTurns, eastOf, shiftRefusal, outcome, shiftWith, messageShift}
-use Rattle.grid.proofs.Parts.{Answered, answered, spacings}
+use Rattle.grid.specs.Private.{Held}
+use Rattle.grid.proofs.Places.{spacings}
+use Rattle.grid.proofs.Parts.{Answered, answered}
 use Rattle.grid.proofs.Accepted.{message-none, message-fields}
 
 -- ---- an answer with refusal 0
 
 module _ (s : List ℕ) (c : ℕ) (n e : ℤ) (h : shiftRefusal s c n e ≡ 0) where
   abbrev g : Grid
-  g = gridOf (at (row s))
+  g = gridOf (says (row s))
 
   pub placed : Answered g c n e
   placed = answered g c n e (message-none s c n e h .1)
 
+  fields : Held g
+  fields = message-fields s c n e (message-none s c n e h .0)
+
   pub spaced : (0 < surface g c .H) × (0 < surface g c .W)
-  spaced = let p = spacings g c n e (message-fields s c n e (message-none s c n e h .0)) (placed .early) in (p .0 .0, p .1 .0)
+  unfolding surface frameOf
+  spaced = let p = spacings (frameOf g) n e (fields .frame) (placed .early) in (p .0 .0, p .1 .0)
 
   pub counted : messageShift s c n e .count ≡ interpolated (surface g c) (northOf g n) (eastOf g e)
   unfolding messageShift shiftWith outcome
@@ -38,7 +45,7 @@ module _ (s : List ℕ) (c : ℕ) (n e : ℤ) (h : shiftRefusal s c n e ≡ 0) w
 -- the difference north changes as the position does
 pub north-steps : (g : Grid) (a b : ℤ) → gap (northOf g a) (northOf g b) ≡ gap a b
 unfolding northOf
-north-steps g a b = gap-add a b (negℤ (pos (stepsOf (g .number)) *ℤ g .origin .north))
+north-steps g a b = gap-add a b (negℤ (pos (stepsOf (g .number)) *ℤ valueIn (g .origin .north)))
 
 -- and so does that of plain eastings
 plain : (b : Bool) (x y : ℤ) → b ≡ false → gap (cond b (byTurns x) x) (cond b (byTurns y) y) ≡ gap x y
@@ -46,14 +53,14 @@ plain b x y e = rw e
 
 pub east-steps : (g : Grid) (a b : ℤ) → ellipsoidal (g .number) ≡ false → gap (eastOf g a) (eastOf g b) ≡ gap a b
 unfolding eastOf
-east-steps g a b p = plain (ellipsoidal (g .number)) _ _ p ∙ gap-add a b (negℤ (pos (stepsOf (g .number)) *ℤ g .origin .east))
+east-steps g a b p = plain (ellipsoidal (g .number)) _ _ p ∙ gap-add a b (negℤ (pos (stepsOf (g .number)) *ℤ valueIn (g .origin .east)))
 
 -- of the answers to any two positions of one component of one message
 pub lipschitz-message : (s : List ℕ) (c : ℕ) (n₁ e₁ n₂ e₂ : ℤ) → shiftRefusal s c n₁ e₁ ≡ 0 → shiftRefusal s c n₂ e₂ ≡ 0
-    → LipschitzBound (surface (gridOf (at (row s))) c) (messageShift s c n₁ e₁ .count) (messageShift s c n₂ e₂ .count) (gap n₁ n₂)
-    (gap (eastOf (gridOf (at (row s))) e₁) (eastOf (gridOf (at (row s))) e₂))
+    → LipschitzBound (surface (gridOf (says (row s))) c) (messageShift s c n₁ e₁ .count) (messageShift s c n₂ e₂ .count) (gap n₁ n₂)
+    (gap (eastOf (gridOf (says (row s))) e₁) (eastOf (gridOf (says (row s))) e₂))
 lipschitz-message s c n₁ e₁ n₂ e₂ p q =
-    let g = gridOf (at (row s)) in
+    let g = gridOf (says (row s)) in
     let a = placed s c n₁ e₁ p in
     let b = placed s c n₂ e₂ q in
     let d = spaced s c n₁ e₁ p in

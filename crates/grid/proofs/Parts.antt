@@ -1,33 +1,38 @@
--- From tests to answers: what the tests on the fields say, and the answer of each way out.
+-- From a place and what its nodes say to the answer: the refusals of a cell, the bound of the count, and the answer of a grid.
 -- Assumes nothing.
-use mathlib.Core.Path.{_≡_, refl, sym, ap, _∙_}
-use mathlib.Core.Bool.{Bool, true, false, not, cond, _&&_, _||_}
-use mathlib.Core.List.{List, [], _∷_, _++_}
-use Prim.Native.Nat.{ℕ, zero, suc, _+_, _*_, _-_, _≤_, _<_}
-use native.Mathlib.Nat.{mul-pos, mul-le-mul, le-trans}
+use mathlib.Core.Path.{_≡_, refl, sym, ap, _∙_, subst}
+use mathlib.Core.Bool.{Bool, true, false, not, cond, _&&_}
+use mathlib.Core.List.{List, [], _∷_}
+use Prim.Native.Nat.{ℕ, _+_, _*_, _-_, _≤_, _<_}
+use native.Mathlib.Nat.{le-trans}
 use native.Mathlib.Omega.{arith}
-use borrow.Author.Tests.{eq-eqb, ne-eqb, ltb-false}
-use lib.Dec.{T, eqb, ltb, lit≤}
-use lib.IntN.{ℤ, pos, negsuc, natAbs, _+ℤ_, _*ℤ_}
+use borrow.Author.Tests.{ne-eqb}
+use lib.Dec.{eqb, ltb, lit≤}
+use lib.IntN.{ℤ, pos, natAbs, _+ℤ_, _*ℤ_}
 use Rattle.arith.specs.First.{Test, first}
-use Rattle.arith.specs.Whole.{natural, sameZ}
-use Rattle.arith.proofs.First.{passed, not-false, or-false, stops, goes-on, passes}
-use Rattle.arith.proofs.Tests.{false-ne-true, both-second}
-use Rattle.grid_records.specs.declared.Grid.{Grid}
-use Rattle.bilinear.specs.Bilinear.{nearestWhole, fromEdge, outside, cell, inCell, exact, interpolated, lacks, absent, absentIn}
-use Rattle.bilinear.proofs.Place.{steps-most, cell-le, cell-from, cell-upto}
-use Rattle.grid_refusals.specs.Refusals.{ellipsoidal, side, originAvailable, beyond, fieldTests, available}
-use Rattle.grid.specs.Shift.{stepsOf, nodeFactor, surface, northOf, eastOf, gridTests, answerOf, outcome, inCellShift, shiftWith, meanWidth, meanFactor, part}
-use Rattle.grid.specs.Private.{Fields, Placed, cornersOf, nodesLack}
+use Rattle.arith.specs.Whole.{sameZ}
+use Rattle.arith.proofs.First.{stops, goes-on, passes}
 use Rattle.arith.proofs.Machine.{Num, lit, arg, mul, add}
-use Rattle.cell.specs.Cell.{alongOf, sumOf, countIn}
-use Rattle.cell.specs.Private.{Most}
-use Rattle.cell.specs.declared.Place.{Place}
+use Rattle.arith.proofs.Tests.{false-ne-true}
+use Rattle.field.specs.declared.Reading.{Reading}
+use Rattle.field.specs.declared.Reading.the-variants.{Value, Absent}
+use Rattle.layout.specs.Layout.{valueIn}
+use Rattle.grid_records.specs.declared.Grid.{Grid}
+use Rattle.grid_records.specs.Grids.{frameOf}
+use Rattle.grid_refusals.specs.Refusals.{available}
+use Rattle.bilinear.specs.Bilinear.{nearestWhole, fromEdge, outside, cell, lacks, inCell, exact, interpolated, absentIn, absent}
+use Rattle.cell.specs.Cell.{sumOf}
+use Rattle.cell.specs.Private.{Within}
 use Rattle.cell.specs.declared.Corners.{Corners}
-use Rattle.cell.proofs.Sum.{near-most}
+use Rattle.cell.proofs.Sum.{area-most, sum-most, near-most}
 use Rattle.cell.proofs.Held.{along-steps, along-cell, count-in-is}
+use Rattle.grid.specs.Shift.{part, nodeFactor, meanFactor, surface, northOf, eastOf, gridTests, answerOf, outcome, inCellShift, shiftWith}
+use Rattle.grid.specs.Private.{Held, heightOf, widthOf, northFrom, eastFrom, placeTests, located, asked, nodesIn, valuesIn, lacking, Bounded, countAt, cellShift}
 use Rattle.grid.specs.declared.Answer.the-variants.{Refused}
+use Rattle.grid.specs.declared.Located.{Located}
+use Rattle.grid.specs.declared.Nodes.{Nodes}
 use Rattle.grid.specs.declared.Shift.{Shift}
+use Rattle.grid.proofs.Places.{Early, inside, spacings, located-refusal, located-in, within, in-grid}
 
 -- ---- a refusal
 
@@ -38,175 +43,75 @@ pub refuses : (number : ℤ) (c r : ℕ) (count : ℤ) (s : Shift) → Refuses r
 unfolding outcome answerOf
 refuses number c r count s h n = (λ i. record { refusal = h .0 i; count = h .1 i; answer = h .2 i }) ∙ rw (ne-eqb r 0 n)
 
--- ---- what the tests on the fields say
+-- ---- what a node of weight w says
 
-pub record Early (g : Grid) (n e : ℤ) : Type 0 where
-  pub north : natAbs n ≤ 1000000000000
-  pub east : natAbs e ≤ 1000000000000
-  pub turn : ellipsoidal (g .number) ≡ true → (natAbs e ≤ 6480000000) × (available 22 (g .origin .east) ≡ true)
-  pub rows : sameZ (g .spacing .north) (pos 0) ≡ false
-  pub columns : sameZ (g .spacing .east) (pos 0) ≡ false
+differ : {z : ℤ} → Value z ≡ Absent → ⊥
+differ e = false-ne-true (sym (ap available e))
 
-not-beyond : (b : Bool) (n e : ℕ) → cond b (ltb 3240000000 n || ltb 6480000000 e) (ltb 1000000000000 n || ltb 1000000000000 e) ≡ false →
-    (n ≤ 1000000000000) × (e ≤ 1000000000000)
-not-beyond true n e h =
-    let t = or-false (ltb 3240000000 n) (ltb 6480000000 e) h in
-    (omega (arith, ltb-false 3240000000 n (t .0)), omega (arith, ltb-false 6480000000 e (t .1)))
-not-beyond false n e h =
-    let t = or-false (ltb 1000000000000 n) (ltb 1000000000000 e) h in
-    (ltb-false 1000000000000 n (t .0), ltb-false 1000000000000 e (t .1))
+none : (b : Bool) (r : Reading) → cond b (Value (valueIn r)) r ≡ Absent → (not b && not (available r)) ≡ true
+none true r e = absurd (differ e)
+none false (Value z) e = absurd (differ e)
+none false Absent e = refl
 
--- of 1023: within half a turn, with an origin
-turn-of : (b : Bool) (n e : ℕ) (x y z : Bool) → b ≡ true → cond b (ltb 3240000000 n || ltb 6480000000 e) (ltb 1000000000000 n || ltb 1000000000000 e) ≡ false → not (cond b (x && y) z) ≡ false
-    → (e ≤ 6480000000) × (y ≡ true)
-turn-of true n e x y z t h k = (ltb-false 6480000000 e (or-false (ltb 3240000000 n) (ltb 6480000000 e) h .1), both-second x y (not-false (x && y) k))
-turn-of false n e x y z t h k = absurd (false-ne-true t)
+some : (b : Bool) (r : Reading) {z : ℤ} → cond b (Value (valueIn r)) r ≡ Value z → ((not b && not (available r)) ≡ false) × (z ≡ valueIn r)
+some true r e = (refl, sym (ap valueIn e))
+some false (Value z) e = (refl, sym (ap valueIn e))
+some false Absent e = absurd (differ (sym e))
 
-three-of : (a b c d f h : Bool) → first ((8, a) ∷ (9, b) ∷ (10, c) ∷ (11, d) ∷ (12, f) ∷ (13, h) ∷ []) ≡ 0 → (b ≡ false) × ((f ≡ false) × (h ≡ false))
-three-of a b c d f h e =
-    let p = passed 8 b _ (passed 7 a _ e .1) in
-    let q = passed 11 f _ (passed 10 d _ (passed 9 c _ (p .1) .1) .1) in
-    (p .0, (q .0, passed 12 h _ (q .1) .0))
+module _ (w : ℕ) (r : Reading) {q : Reading} (h : q ≡ asked w r) where
+  pub missing : q ≡ Absent → lacks w (available r) ≡ true
+  unfolding lacks
+  missing e = none (eqb w 0) r (sym h ∙ e)
 
-pub early : (g : Grid) (c : ℕ) (n e : ℤ) → first (fieldTests g c n e) ≡ 0 → Early g n e
-early g c n e h =
-    let p =
-    three-of (ltb 2 c) (beyond (g .number) n e) (sameZ (side c (g .indicators)) (pos 0)) (not (sameZ (side c (g .methods)) (pos 0)))
-    (not (originAvailable (g .number) (g .origin .north) (g .origin .east)))
-    (sameZ (g .spacing .north) (pos 0) || sameZ (g .spacing .east) (pos 0)) h in
-    let far = not-beyond (sameZ (g .number) (pos 1023)) (natAbs n) (natAbs e) (p .0) in
-    let some = or-false (sameZ (g .spacing .north) (pos 0)) (sameZ (g .spacing .east) (pos 0)) (p .1 .1) in
-    record {
-      north = far .0;
-      east = far .1;
-      turn = λ t. turn-of (ellipsoidal (g .number)) (natAbs n) (natAbs e) (available 21 (g .origin .north)) (available 22 (g .origin .east)) (available 25 (g .origin .north)) t (p .0) (p .1 .0);
-      rows = some .0;
-      columns = some .1;
-    }
+  pub given : {z : ℤ} → q ≡ Value z → (lacks w (available r) ≡ false) × (z ≡ valueIn r)
+  unfolding lacks
+  given e = some (eqb w 0) r (sym h ∙ e)
 
-pub above-zero : (z : ℤ) → z ≡ pos (natural z) → sameZ z (pos 0) ≡ false → 0 < natural z
-unfolding sameZ
-above-zero (pos zero) e h = absurd (false-ne-true (sym h))
-above-zero (pos (suc n)) e h = omega arith
-above-zero (negsuc n) e h = let z : _≡_ {A = ℕ} 0 1 = cc in absurd (omega arith)
+-- ---- the answers in a cell
 
-pub steps-some : (number : ℤ) → (0 < stepsOf number) × (stepsOf number ≤ 10000)
-steps-some number = by (sameZ number (pos 1023))
-  where
-    by : (b : Bool) → (0 < cond b 5000 10000) × (cond b 5000 10000 ≤ 10000)
-    by true = (omega arith, omega arith)
-    by false = (omega arith, omega arith)
-
--- the spacings in steps
-pub spacings : (g : Grid) (c : ℕ) (n e : ℤ) → Fields g → Early g n e →
-    ((0 < surface g c .H) × (surface g c .H ≤ 40950000)) × ((0 < surface g c .W) × (surface g c .W ≤ 40950000))
-unfolding surface
-spacings g c n e f p =
-    let u = steps-some (g .number) in (
-      (mul-pos (above-zero (g .spacing .north) (f .rows .0) (p .rows)) (u .0), mul-le-mul (f .rows .1) (u .1)),
-      (mul-pos (above-zero (g .spacing .east) (f .columns .0) (p .columns)) (u .0), mul-le-mul (f .columns .1) (u .1)),
-    )
-
--- ---- a place along one direction
-
-module _ (d : ℕ) (u : ℤ) (p : 0 < d) (q : d ≤ 40950000) (h : outside d u ≡ false) where
-  abbrev t : ℕ
-  t = natAbs (fromEdge d u)
-
-  abbrev a : Place
-  a = alongOf d u
-
-  pub in-cell : (a .cell ≤ 2) × (a .cell * d ≤ a .steps) × (a .steps - a .cell * d ≤ d)
-  in-cell = rw (along-steps d u p q h, along-cell d u p q h) (cell-le d t, cell-from d t, omega (arith, cell-upto d t p (steps-most d u h)))
-
--- a place in both directions, as the code finds it
-placed : (g : Grid) (c : ℕ) (u v : ℤ) → Fields g → (0 < surface g c .H) × (surface g c .H ≤ 40950000) → (0 < surface g c .W) × (surface g c .W ≤ 40950000)
-    → outside (surface g c .H) u ≡ false → outside (surface g c .W) v ≡ false
-    → Placed g c (alongOf (surface g c .H) u .cell) (alongOf (surface g c .W) v .cell) (alongOf (surface g c .H) u .steps) (alongOf (surface g c .W) v .steps)
-    (surface g c .H) (surface g c .W)
-placed g c u v f p q a b =
-    let y = in-cell (surface g c .H) u (p .0) (p .1) a in
-    let x = in-cell (surface g c .W) v (q .0) (q .1) b in
-    record {
-      fields = f;
-      high = refl;
-      wide = refl;
-      within = record { north = y .2; east = x .2; high = p; wide = q };
-      row = (y .0, y .1);
-      column = (x .0, x .1);
-    }
-
-pub placed-by : (g : Grid) (c : ℕ) (u v : ℤ) {n e : Place} {h w : ℕ} → Fields g → (0 < surface g c .H) × (surface g c .H ≤ 40950000)
-    → (0 < surface g c .W) × (surface g c .W ≤ 40950000) → outside (surface g c .H) u ≡ false → outside (surface g c .W) v ≡ false
-    → n ≡ alongOf (surface g c .H) u → e ≡ alongOf (surface g c .W) v → h ≡ surface g c .H → w ≡ surface g c .W
-    → Placed g c (n .cell) (e .cell) (n .steps) (e .steps) h w
-placed-by g c u v f p q a b i j k l = rw (i, j, k, l) (placed g c u v f p q a b)
-
-pub outside-yes : {r : ℕ} (b : Bool) → r ≡ cond b 14 0 → (r ≡ 0 → ⊥) → b ≡ true
-outside-yes true e h = refl
-outside-yes false e h = absurd (h e)
-
-pub outside-no : {r : ℕ} (b : Bool) → r ≡ cond b 14 0 → r ≡ 0 → b ≡ false
-outside-no true e h = absurd (omega (arith, e, h))
-outside-no false e h = refl
-
--- ---- the ways out
-
-pub record Answered (g : Grid) (c : ℕ) (n e : ℤ) : Type 0 where
-  pub early : Early g n e
-  pub north : outside (surface g c .H) (northOf g n) ≡ false
-  pub east : outside (surface g c .W) (eastOf g e) ≡ false
-
-module _ (g : Grid) (c : ℕ) (n e : ℤ) where
-  abbrev late : List Test
-  late =
-      (14, outside (surface g c .H) (northOf g n) || outside (surface g c .W) (eastOf g e))
-      ∷ (15, absent (surface g c) (northOf g n) (eastOf g e))
-      ∷ []
+module _ (number : ℤ) (c : ℕ) (mean : Reading) (n : Nodes) (p : Located) (s : Shift) where
+  abbrev lack : Bool
+  lack = lacking mean n (p .height) (p .width) (p .north) (p .east)
 
   abbrev count : ℤ
-  count = interpolated (surface g c) (northOf g n) (eastOf g e)
+  count = countAt number c (valueIn mean) (valuesIn n) p
 
-  -- a position that is answered
-  pub answered : first (gridTests g c n e) ≡ 0 → Answered g c n e
-  answered h =
-      let p = passes (fieldTests g c n e) late tt h in
-      let o = or-false (outside (surface g c .H) (northOf g n)) (outside (surface g c .W) (eastOf g e)) (passed 13 _ _ (p .1) .0) in
-      record { early = early g c n e (p .0); north = o .0; east = o .1 }
+  abbrev u : ℕ
+  u = p .width - p .east
 
-  with-refusal : {r : ℕ} (s : Shift) → Refuses r s → (r ≡ 0 → ⊥) → r ≡ first (gridTests g c n e) → s ≡ shiftWith g c n e (first (gridTests g c n e))
-  unfolding shiftWith
-  with-refusal {r} s h k f = refuses (g .number) c r count s h k ∙ ap (λ (m : ℕ). outcome (g .number) c m count) f
+  abbrev v : ℕ
+  v = p .height - p .north
 
-  pub early-out : {r : ℕ} (s : Shift) → r ≡ first (fieldTests g c n e) → (r ≡ 0 → ⊥) → Refuses r s → s ≡ shiftWith g c n e (first (gridTests g c n e))
-  early-out s f k h = with-refusal s h k (stops (fieldTests g c n e) late tt f k)
+  absent-out : lack ≡ true → Refuses 15 s → s ≡ cellShift number c mean n p
+  unfolding cellShift
+  absent-out e r = refuses number c 15 count s r (λ z. absurd (omega arith)) ∙ rw e
 
-  module _ (f : first (fieldTests g c n e) ≡ 0) where
-    first-is : first late ≡ first (gridTests g c n e)
-    first-is = goes-on (fieldTests g c n e) late tt f
+  present-out : lack ≡ false → s ≡ outcome number c 0 count → s ≡ cellShift number c mean n p
+  unfolding cellShift
+  present-out e h = h ∙ rw e
 
-    pub north-out : (s : Shift) → outside (surface g c .H) (northOf g n) ≡ true → Refuses 14 s → s ≡ shiftWith g c n e (first (gridTests g c n e))
-    north-out s o h = let is : 14 ≡ first late = rw o in with-refusal s h (λ z. absurd (omega arith)) (is ∙ first-is)
+  pub mean-out : available mean ≡ false → Refuses 15 s → s ≡ cellShift number c mean n p
+  mean-out e = absent-out (rw e)
 
-    module _ (a : outside (surface g c .H) (northOf g n) ≡ false) where
-      pub east-out : (s : Shift) → outside (surface g c .W) (eastOf g e) ≡ true → Refuses 14 s → s ≡ shiftWith g c n e (first (gridTests g c n e))
-      east-out s o h = let is : 14 ≡ first late = rw (a, o) in with-refusal s h (λ z. absurd (omega arith)) (is ∙ first-is)
+  module _ (m : available mean ≡ true) where
+    pub sw-out : lacks (u * v) (available (n .sw)) ≡ true → Refuses 15 s → s ≡ cellShift number c mean n p
+    sw-out e = absent-out (rw (m, e))
 
-      abbrev y : ℕ
-      y = natAbs (fromEdge (surface g c .H) (northOf g n))
+    module _ (a : lacks (u * v) (available (n .sw)) ≡ false) where
+      pub se-out : lacks (p .east * v) (available (n .se)) ≡ true → Refuses 15 s → s ≡ cellShift number c mean n p
+      se-out e = absent-out (rw (m, a, e))
 
-      abbrev x : ℕ
-      x = natAbs (fromEdge (surface g c .W) (eastOf g e))
+      module _ (b : lacks (p .east * v) (available (n .se)) ≡ false) where
+        pub nw-out : lacks (u * p .north) (available (n .nw)) ≡ true → Refuses 15 s → s ≡ cellShift number c mean n p
+        nw-out e = absent-out (rw (m, a, b, e))
 
-      pub in-out : (s : Shift) → outside (surface g c .W) (eastOf g e) ≡ false
-          → s ≡ inCellShift g c (cell (surface g c .H) y) (cell (surface g c .W) x) y x
-          → s ≡ shiftWith g c n e (first (gridTests g c n e))
-      unfolding shiftWith interpolated exact absent
-      in-out s o h =
-          let is : cond (absent (surface g c) (northOf g n) (eastOf g e)) 15 0 ≡ first late = rw (a, o) in
-          h ∙ ap (λ (m : ℕ). outcome (g .number) c m count) (is ∙ first-is)
+        module _ (d : lacks (u * p .north) (available (n .nw)) ≡ false) where
+          pub ne-out : lacks (p .east * p .north) (available (n .ne)) ≡ true → Refuses 15 s → s ≡ cellShift number c mean n p
+          ne-out e = absent-out (rw (m, a, b, d, e))
 
--- ---- the cell of a surface
+          pub all-in : lacks (p .east * p .north) (available (n .ne)) ≡ false → {z y : ℤ} {w : Corners} → s ≡ outcome z c 0 (countAt z c y w p)
+              → z ≡ number → y ≡ valueIn mean → w ≡ valuesIn n → s ≡ cellShift number c mean n p
+          all-in e h i j k = present-out (rw (m, a, b, d, e)) (h ∙ (λ x. outcome (i x) c 0 (countAt (i x) c (j x) (k x) p)))
 
 pub factor-most : (number : ℤ) (c : ℕ) → nodeFactor number c ≤ 10
 factor-most number c = by (sameZ number (pos 1023) && ltb c 2)
@@ -215,55 +120,177 @@ factor-most number c = by (sameZ number (pos 1023) && ltb c 2)
     by true = omega arith
     by false = omega arith
 
-in-front : (m : Bool) (h w y x : ℕ) (n : Corners) →
-    (m || lacks ((w - x) * (h - y)) (available 9 (n .sw)) || lacks (x * (h - y)) (available 9 (n .se)) || lacks ((w - x) * y) (available 9 (n .nw)) || lacks (x * y) (available 9 (n .ne)))
-    ≡ (m || nodesLack h w y x n)
-in-front true h w y x n = refl
-in-front false h w y x n = refl
-
-module _ {g : Grid} {c k l y x h w : ℕ} (p : Placed g c k l y x h w) where
-  abbrev n : Corners
-  n = cornersOf (g .nodes) c k l
-
-  pub absent-is : absentIn (surface g c) k l y x ≡ (not (available (meanWidth (g .number) c) (part c (g .mean))) || nodesLack h w (y - k * h) (x - l * w) n)
-  unfolding absentIn surface
-  absent-is =
-      rw (p .high, p .wide)
-      (in-front (not (available (meanWidth (g .number) c) (part c (g .mean)))) (surface g c .H) (surface g c .W) (y - k * surface g c .H) (x - l * surface g c .W) n)
-
-  pub count-is :
-      surface g c .mean +ℤ nearestWhole (inCell (surface g c) k l y x) (surface g c .H * surface g c .W)
-      ≡ pos meanFactor *ℤ part c (g .mean) +ℤ nearestWhole (sumOf (nodeFactor (g .number) c) h w (y - k * h) (x - l * w) n) (h * w)
-  unfolding inCell surface
-  count-is = rw (p .high, p .wide)
-
-  pub corners-most : Most 256 n
-  corners-most =
-      let f = p .fields .nodes c in
-      record { sw = f (3 - k) l; se = f (3 - k) (l + 1); nw = f (2 - k) l; ne = f (2 - k) (l + 1) }
+module _ (number : ℤ) (c : ℕ) {m : ℤ} {n : Corners} {p : Located} (b : Bounded m n p) where
+  abbrev means : Num
+  means = mul (lit 100 tt) (arg m 16384 (b .mean) tt) tt
 
   abbrev value : ℤ
-  value = pos meanFactor *ℤ part c (g .mean) +ℤ nearestWhole (sumOf (nodeFactor (g .number) c) h w (y - k * h) (x - l * w) n) (h * w)
+  value = pos meanFactor *ℤ m +ℤ nearestWhole (sumOf (nodeFactor number c) (p .height) (p .width) (p .north) (p .east) n) (p .height * p .width)
 
-  pub absent-out : (s : Shift) → absentIn (surface g c) k l y x ≡ true → Refuses 15 s → s ≡ inCellShift g c k l y x
-  absent-out s e r =
-      refuses (g .number) c 15 (surface g c .mean +ℤ nearestWhole (inCell (surface g c) k l y x) (surface g c .H * surface g c .W)) s r (λ z. absurd (omega arith))
-      ∙ rw e
+  pub count-is : countAt number c m n p ≡ value
+  count-is =
+      count-in-is (means .z) (nodeFactor number c) n (p .height) (p .width) (p .north) (p .east) (b .within) (b .nodes) (means .le) (factor-most number c)
 
-  pub present-out : (s : Shift) → absentIn (surface g c) k l y x ≡ false → s ≡ outcome (g .number) c 0 value → s ≡ inCellShift g c k l y x
-  present-out s e f = f ∙ rw (e, count-is)
-
-  abbrev means : Num
-  means = mul (lit 100 tt) (arg (part c (g .mean)) 16384 (p .fields .mean c) tt) tt
-
-  pub value-is : countIn (pos meanFactor *ℤ part c (g .mean)) (nodeFactor (g .number) c) n h w (y - k * h) (x - l * w) ≡ value
-  value-is =
-      count-in-is (means .z) (nodeFactor (g .number) c) n h w (y - k * h) (x - l * w) (p .within) corners-most (means .le) (factor-most (g .number) c)
-
-  pub value-most : natAbs value ≤ 9007199254740992
-  value-most =
-      le-trans
+  pub count-most : natAbs (countAt number c m n p) ≤ 9007199254740992
+  count-most =
+      rw count-is
+      (le-trans
       (add means
-      (arg (nearestWhole (sumOf (nodeFactor (g .number) c) h w (y - k * h) (x - l * w) n) (h * w)) 2560
-      (near-most (p .within) (nodeFactor (g .number) c) n (factor-most (g .number) c) corners-most) tt) tt .le)
-      (lit≤ tt)
+      (arg (nearestWhole (sumOf (nodeFactor number c) (p .height) (p .width) (p .north) (p .east) n) (p .height * p .width)) 2560
+      (near-most (b .within) (nodeFactor number c) n (factor-most number c) (b .nodes)) tt) tt .le)
+      (lit≤ tt))
+
+-- ---- the answer of a grid
+
+-- the place y and x steps from the edges of a grid, in the cell k from the south and l from the west
+abbrev placeAt : Grid → (c k l y x : ℕ) → Located
+placeAt g c k l y x =
+    record {
+      refusal = 0;
+      row = k;
+      column = l;
+      north = y - k * surface g c .H;
+      east = x - l * surface g c .W;
+      height = surface g c .H;
+      width = surface g c .W;
+    }
+
+-- what is summed there
+abbrev pub Summed : Grid → (c k l : ℕ) → Located → Type 0
+Summed g c k l p = Bounded (valueIn (part c (g .mean))) (valuesIn (nodesIn (g .nodes) c k l)) p
+
+summed : (g : Grid) (c k l : ℕ) {p : Located} → Held g → Within (p .height) (p .width) (p .north) (p .east) → Summed g c k l p
+summed g c k l f w =
+    let a = f .nodes c in
+    record {
+      mean = f .mean c;
+      nodes = record { sw = a (3 - k) l; se = a (3 - k) (l + 1); nw = a (2 - k) l; ne = a (2 - k) (l + 1) };
+      within = w;
+    }
+
+cell-is : (g : Grid) (c k l y x : ℕ) → Summed g c k l (placeAt g c k l y x)
+    → cellShift (g .number) c (part c (g .mean)) (nodesIn (g .nodes) c k l) (placeAt g c k l y x) ≡ inCellShift g c k l y x
+unfolding cellShift absentIn inCell surface
+cell-is g c k l y x b = ap (outcome (g .number) c (cond (absentIn (surface g c) k l y x) 15 0)) (count-is (g .number) c b)
+
+module _ (g : Grid) (c : ℕ) (n e : ℤ) where
+  abbrev p : Located
+  p = located (frameOf g) c n e
+
+  abbrev H : ℕ
+  H = surface g c .H
+
+  abbrev W : ℕ
+  W = surface g c .W
+
+  abbrev y : ℕ
+  y = natAbs (fromEdge H (northOf g n))
+
+  abbrev x : ℕ
+  x = natAbs (fromEdge W (eastOf g e))
+
+  abbrev answer : ℕ → Shift
+  answer r = outcome (g .number) c r (interpolated (surface g c) (northOf g n) (eastOf g e))
+
+  abbrev late : List Test
+  late = (15, absent (surface g c) (northOf g n) (eastOf g e)) ∷ []
+
+  -- a refusal of the place
+  refused-as : {r : ℕ} → r ≡ first (placeTests (frameOf g) c n e) → (r ≡ 0 → ⊥) → r ≡ first (gridTests g c n e)
+  unfolding frameOf surface northOf eastOf
+  refused-as h k = stops (placeTests (frameOf g) c n e) late tt h k
+
+  pub refused-out : (s : Shift) → (p .refusal ≡ 0 → ⊥) → Refuses (p .refusal) s → s ≡ shiftWith g c n e (first (gridTests g c n e))
+  unfolding shiftWith
+  refused-out s k h =
+      refuses (g .number) c (p .refusal) _ s h k ∙ ap answer (refused-as (located-refusal (frameOf g) c n e) k)
+
+  -- the answer in the cell of the place
+  passed-as : first (placeTests (frameOf g) c n e) ≡ 0 → cond (absent (surface g c) (northOf g n) (eastOf g e)) 15 0 ≡ first (gridTests g c n e)
+  unfolding frameOf surface northOf eastOf
+  passed-as h = goes-on (placeTests (frameOf g) c n e) late tt h
+
+  pub in-out : first (placeTests (frameOf g) c n e) ≡ 0 → inCellShift g c (cell H y) (cell W x) y x ≡ shiftWith g c n e (first (gridTests g c n e))
+  unfolding shiftWith interpolated exact absent
+  in-out h = ap answer (passed-as h)
+
+  -- of a grid that a message holds
+  module _ (k : Held g) (h : p .refusal ≡ 0) where
+    none-before : first (placeTests (frameOf g) c n e) ≡ 0
+    none-before = sym (located-refusal (frameOf g) c n e) ∙ h
+
+    place-is : p ≡ placeAt g c (cell H y) (cell W x) y x
+    unfolding frameOf surface northOf eastOf
+    place-is =
+        let f = frameOf g in
+        let i = inside f c n e none-before in
+        let d = spacings f n e (k .frame) (i .early) in
+        located-in f c n e none-before
+        ∙ rw (
+          along-steps (heightOf f) (northFrom f n) (d .0 .0) (d .0 .1) (i .north),
+          along-cell (heightOf f) (northFrom f n) (d .0 .0) (d .0 .1) (i .north),
+          along-steps (widthOf f) (eastFrom f e) (d .1 .0) (d .1 .1) (i .east),
+          along-cell (widthOf f) (eastFrom f e) (d .1 .0) (d .1 .1) (i .east),
+        )
+
+    pub summed-in : Summed g c (p .row) (p .column) p
+    summed-in = summed g c (p .row) (p .column) k (within (frameOf g) c n e (k .frame) h)
+
+    pub answered-out : cellShift (g .number) c (part c (g .mean)) (nodesIn (g .nodes) c (p .row) (p .column)) p ≡ shiftWith g c n e (first (gridTests g c n e))
+    answered-out =
+        (λ i. cellShift (g .number) c (part c (g .mean)) (nodesIn (g .nodes) c (place-is i .row) (place-is i .column)) (place-is i))
+        ∙ cell-is g c (cell H y) (cell W x) y x (subst (λ (q : Located). Summed g c (q .row) (q .column) q) place-is summed-in)
+        ∙ in-out none-before
+
+    -- twice the sum, and the count
+    pub sum-below : 2 * natAbs (exact (surface g c) y x) < 8600000000000000000
+    unfolding exact inCell surface
+    sum-below =
+        let b = subst (λ (q : Located). Summed g c (q .row) (q .column) q) place-is summed-in in
+        omega (
+          arith,
+          area-most (b .within),
+          sum-most (b .within) (nodeFactor (g .number) c) (valuesIn (nodesIn (g .nodes) c (cell H y) (cell W x))) (factor-most (g .number) c) (b .nodes),
+        )
+
+    pub whole-most : natAbs (interpolated (surface g c) (northOf g n) (eastOf g e)) ≤ 9007199254740992
+    unfolding interpolated exact inCell surface
+    whole-most =
+        let b = subst (λ (q : Located). Summed g c (q .row) (q .column) q) place-is summed-in in
+        subst (λ (z : ℤ). natAbs z ≤ 9007199254740992) (count-is (g .number) c b) (count-most (g .number) c b)
+
+-- ---- a position that is answered
+
+pub record Answered (g : Grid) (c : ℕ) (n e : ℤ) : Type 0 where
+  pub early : Early (frameOf g) n e
+  pub north : outside (surface g c .H) (northOf g n) ≡ false
+  pub east : outside (surface g c .W) (eastOf g e) ≡ false
+  pub found : located (frameOf g) c n e .refusal ≡ 0
+
+pub answered : (g : Grid) (c : ℕ) (n e : ℤ) → first (gridTests g c n e) ≡ 0 → Answered g c n e
+unfolding frameOf surface northOf eastOf
+answered g c n e h =
+    let p = passes (placeTests (frameOf g) c n e) (late g c n e) tt h .0 in
+    let i = inside (frameOf g) c n e p in
+    record { early = i .early; north = i .north; east = i .east; found = located-refusal (frameOf g) c n e ∙ p }
+
+-- ---- a call: the place, the mean and the nodes that it found are the grid's
+
+module _ (g : Grid) (c : ℕ) (n e : ℤ) {p : Located} (f : p ≡ located (frameOf g) c n e) where
+  pub call-refused : (s : Shift) → (p .refusal ≡ 0 → ⊥) → Refuses (p .refusal) s → s ≡ shiftWith g c n e (first (gridTests g c n e))
+  call-refused s k h =
+      refused-out g c n e s (subst (λ (q : Located). q .refusal ≡ 0 → ⊥) f k) (subst (λ (q : Located). Refuses (q .refusal) s) f h)
+
+  module _ (k : Held g) (h : p .refusal ≡ 0) where
+    found : located (frameOf g) c n e .refusal ≡ 0
+    found = sym (ap (λ (q : Located). q .refusal) f) ∙ h
+
+    pub call-cell : (p .row ≤ 2) × (p .column ≤ 2)
+    call-cell = rw f (in-grid (frameOf g) c n e (k .frame) found)
+
+    module _ {m : Reading} {w : Nodes} (a : m ≡ part c (g .mean)) (b : w ≡ nodesIn (g .nodes) c (p .row) (p .column)) where
+      pub call-summed : Bounded (valueIn m) (valuesIn w) p
+      call-summed = rw (a, b, f) (summed-in g c n e k found)
+
+      pub call-answered : {s : Shift} {z : ℤ} → s ≡ cellShift z c m w p → z ≡ g .number → s ≡ shiftWith g c n e (first (gridTests g c n e))
+      call-answered h d = h ∙ rw (d, a, b, f) (answered-out g c n e k found)

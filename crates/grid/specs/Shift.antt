@@ -8,11 +8,14 @@ use lib.Ieee.{Float, binary64, div, ofInt}
 use lib.IntN.{ℤ, pos, negsuc, _+ℤ_, _-ℤ_, _*ℤ_}
 use lib.ListN.{getD}
 use Rattle.arith.specs.First.{Test, first}
-use Rattle.arith.specs.Row.{at}
 use Rattle.arith.specs.Whole.{natural}
 use Rattle.grid_records.specs.declared.Grid.{Grid}
 use Rattle.grid_records.specs.declared.Shifts.{Shifts}
-use Rattle.grid_records.specs.Grids.{gridOf}
+use Rattle.grid_records.specs.Grids.{gridOf, frameOf}
+use Rattle.field.specs.declared.Reading.{Reading}
+use Rattle.field.specs.declared.Reading.the-variants.{Value}
+use Rattle.layout.specs.Layout.{valueIn}
+use Rattle.row.specs.Numbers.{says}
 use Rattle.wire.specs.Message.{tests, numberOf, row}
 use Rattle.message.specs.Kinds.{gridHeld}
 use Rattle.grid_refusals.specs.Refusals.{ellipsoidal, available, fieldTests}
@@ -21,7 +24,7 @@ use Rattle.grid.specs.declared.Answer.{Answer}
 use Rattle.grid.specs.declared.Answer.the-variants.{Seconds, Metres, Refused}
 use Rattle.grid.specs.declared.Shift.{Shift}
 
--- ---- from raw numbers to steps and counts
+-- ---- from values of fields to steps and counts
 
 -- "Positions are whole steps: 0.0001 arc second for 1023 (origin and spacing raw times 5,000), 1 mm for 1024 (raw times 10,000)":
 -- DF192 to DF195 have a resolution of 0.5", DF202 to DF205 of 10 m
@@ -29,7 +32,7 @@ abbrev pub stepsOf : ℤ → ℕ
 stepsOf number = cond (ellipsoidal number) 5000 10000
 
 -- the components of a shift, document 01's term: 0 north-south, 1 east-west, 2 height
-abbrev pub part : ℕ → Shifts → ℤ
+abbrev pub part : ℕ → Shifts → Reading
 part c s = cond (eqb c 0) (s .north) (cond (eqb c 1) (s .east) (s .height))
 
 -- counts in a raw step of a node: 0.00003" over 0.00001" (DF199, DF200), 0.001 m over 0.1 mm (DF201, DF209 to DF211)
@@ -41,31 +44,26 @@ nodeFactor number c = cond (ellipsoidal number && ltb c 2) 3 10
 abbrev pub meanFactor : ℕ
 meanFactor = 100
 
--- int9 for every node (DF199 to DF201, DF209 to DF211); int15 for the mean height (DF198, DF208),
--- int8 for the other means of 1023 (DF196, DF197), int10 for those of 1024 (DF206, DF207)
-abbrev pub meanWidth : ℤ → ℕ → ℕ
-meanWidth number c = cond (eqb c 2) 15 (cond (ellipsoidal number) 8 10)
-
 -- ---- the component's surface, and the place in it
 
 -- node i from the north and j from the west is node 4 i + j of the message, numbered from 0
-abbrev pub nodeRaw : List Shifts → ℕ → ℕ → ℕ → ℤ
-nodeRaw nodes c i j = part c (getD nodes (4 * i + j) (record { north = pos 0; east = pos 0; height = pos 0 }))
+abbrev pub nodeOf : List Shifts → ℕ → ℕ → ℕ → Reading
+nodeOf nodes c i j = part c (getD nodes (4 * i + j) (record { north = Value (pos 0); east = Value (pos 0); height = Value (pos 0) }))
 
 unfoldable pub surface : Grid → ℕ → Surface
 surface g c =
     record {
       H = natural (g .spacing .north) * stepsOf (g .number);
       W = natural (g .spacing .east) * stepsOf (g .number);
-      mean = pos meanFactor *ℤ part c (g .mean);
-      node = λ i j. pos (nodeFactor (g .number) c) *ℤ nodeRaw (g .nodes) c i j;
-      present = λ i j. available 9 (nodeRaw (g .nodes) c i j);
-      meanPresent = available (meanWidth (g .number) c) (part c (g .mean));
+      mean = pos meanFactor *ℤ valueIn (part c (g .mean));
+      node = λ i j. pos (nodeFactor (g .number) c) *ℤ valueIn (nodeOf (g .nodes) c i j);
+      present = λ i j. available (nodeOf (g .nodes) c i j);
+      meanPresent = available (part c (g .mean));
     }
 
 -- the differences position minus origin, in steps: "rover minus origin"
 unfoldable pub northOf : Grid → ℤ → ℤ
-northOf g n = n -ℤ pos (stepsOf (g .number)) *ℤ g .origin .north
+northOf g n = n -ℤ pos (stepsOf (g .number)) *ℤ valueIn (g .origin .north)
 
 -- a whole turn of longitudes, 360 degrees, and half of it; the remainder of z by whole turns, from 0 on
 abbrev pub turn : ℕ
@@ -87,12 +85,12 @@ abbrev pub eastBy : ℤ → ℤ → ℤ
 eastBy number d = cond (ellipsoidal number) (byTurns d) d
 
 unfoldable pub eastOf : Grid → ℤ → ℤ
-eastOf g e = eastBy (g .number) (e -ℤ pos (stepsOf (g .number)) *ℤ g .origin .east)
+eastOf g e = eastBy (g .number) (e -ℤ pos (stepsOf (g .number)) *ℤ valueIn (g .origin .east))
 
 -- ---- refusals: 8 to 13 (`fieldTests`, crate grid_refusals), then 14 OUTSIDE, 15 ABSENT
 abbrev pub gridTests : Grid → ℕ → ℤ → ℤ → List Test
 gridTests g c n e =
-    fieldTests g c n e
+    fieldTests (frameOf g) c n e
     ++ ((14, outside (surface g c .H) (northOf g n) || outside (surface g c .W) (eastOf g e))
     ∷ (15, absent (surface g c) (northOf g n) (eastOf g e))
     ∷ [])
@@ -104,7 +102,7 @@ recordShiftRefusal g c n e = first ((5, not (gridHeld g)) ∷ gridTests g c n e)
 -- of a message: 1 to 5, 7 KIND, 8 to 15
 unfoldable pub shiftRefusal : List ℕ → ℕ → ℤ → ℤ → ℕ
 shiftRefusal s c n e =
-    first (tests s ++ (7, not (leb 1023 (numberOf s) && leb (numberOf s) 1024)) ∷ gridTests (gridOf (at (row s))) c n e)
+    first (tests s ++ (7, not (leb 1023 (numberOf s) && leb (numberOf s) 1024)) ∷ gridTests (gridOf (says (row s))) c n e)
 
 -- ---- answers
 
@@ -138,4 +136,4 @@ unfoldable pub recordShift : Grid → ℕ → ℤ → ℤ → Shift
 recordShift g c n e = shiftWith g c n e (recordShiftRefusal g c n e)
 
 unfoldable pub messageShift : List ℕ → ℕ → ℤ → ℤ → Shift
-messageShift s c n e = shiftWith (gridOf (at (row s))) c n e (shiftRefusal s c n e)
+messageShift s c n e = shiftWith (gridOf (says (row s))) c n e (shiftRefusal s c n e)

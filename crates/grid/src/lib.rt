@@ -1,22 +1,18 @@
 // The shift at a position from a grid message, 1023 or 1024.
 use cell::Corners;
+use field::Reading;
+use grid_records::Frame;
 use grid_records::Grid;
 use grid_records::Shifts;
-use row::Pair;
 ghost use mathlib.Core.Path.{_≡_};
-ghost use mathlib.Core.Bool.{_||_, cond, not, true};
-ghost use mathlib.Core.List.{[], _∷_};
-ghost use Prim.Native.Nat.{_*_, _≤_, _<_};
-ghost use lib.Dec.{ltb};
+ghost use mathlib.Core.Bool.{true};
+ghost use Prim.Native.Nat.{_*_, _≤_};
 ghost use lib.IntN.{pos, natAbs, _-ℤ_, _*ℤ_};
-ghost use Rattle.arith.specs.First.{first};
-ghost use Rattle.arith.specs.Whole.{natural, sameZ};
-ghost use Rattle.bilinear.specs.Bilinear.{lacks};
-ghost use Rattle.cell.specs.Cell.{alongOf};
-ghost use Rattle.cell.specs.Private.{Within};
-ghost use Rattle.grid.specs.Shift.{stepsOf, part, nodeFactor, meanFactor, meanWidth, nodeRaw, byTurns, eastBy, gridTests, unitsOf, answerOf, outcome, inCellShift, shiftWith, recordShift, messageShift};
-ghost use Rattle.grid_refusals.specs.Refusals.{ellipsoidal, available};
-ghost use Rattle.grid.specs.Private.{Fields, Placed, cornersOf, nodesLack};
+ghost use Rattle.arith.specs.Whole.{natural};
+ghost use Rattle.layout.specs.Layout.{valueIn};
+ghost use Rattle.grid.specs.Shift.{stepsOf, part, nodeOf, nodeFactor, byTurns, eastBy, answerOf, outcome, recordShift, messageShift};
+ghost use Rattle.grid_refusals.specs.Refusals.{ellipsoidal};
+ghost use Rattle.grid.specs.Private.{Fields, Bounded, noPlace, placeOf, located, asked, valuesIn, nodesIn, nodesSaid, countAt, cellShift};
 
 // What the add-on gets: arc seconds, metres, or the refusal number.
 pub enum Answer {
@@ -32,6 +28,25 @@ pub struct Shift {
     pub answer: Answer,
 }
 
+// A place in a grid: a refusal number, or 0 with its cell, the steps from the cell's southern and western edge, and the cell's height and width.
+struct Located {
+    refusal: u8,
+    row: u64,
+    column: u64,
+    north: u64,
+    east: u64,
+    height: u64,
+    width: u64,
+}
+
+// What the four nodes of a cell say.
+struct Nodes {
+    sw: Reading,
+    se: Reading,
+    nw: Reading,
+    ne: Reading,
+}
+
 // A refusal, with a count of 0.
 fn refused(refusal: u8) -> Shift
     ensures { λ r. ⌜ (r .refusal ≡ refusal) × (r .count ≡ pos 0) × (r .answer ≡ Answer.Refused refusal) ⌝ }
@@ -43,20 +58,7 @@ fn refused(refusal: u8) -> Shift
     }
 }
 
-// The component of a shift.
-fn part_of(component: u8, s: Shifts) -> i64
-    ensures { λ r. ⌜ r ≡ part component s ⌝ }
-{
-    if component == 0 {
-        return s.north;
-    }
-    if component == 1 {
-        return s.east;
-    }
-    s.height
-}
-
-// Steps in a raw number of the origin and the spacing.
+// Steps in a unit of the origin and the spacing.
 fn steps_of(number: i64) -> u64
     ensures { λ r. ⌜ r ≡ stepsOf number ⌝ }
 {
@@ -66,7 +68,7 @@ fn steps_of(number: i64) -> u64
     10000
 }
 
-// Counts in a raw number of a node.
+// Counts in a unit of a node.
 fn factor_of(number: i64, component: u8) -> u64
     ensures { λ r. ⌜ r ≡ nodeFactor number component ⌝ }
 {
@@ -95,158 +97,18 @@ fn difference(position: i64, origin: i64, steps: u64) -> i64
     position - steps as i64 * origin
 }
 
-// A node of this weight that is needed and not available.
-fn node_lacks(weight: u64, raw: i64) -> bool
-    ensures { λ r. ⌜ r ≡ lacks weight (available 9 raw) ⌝ }
-{
-    if raw != -256 {
-        return false;
-    }
-    weight != 0
-}
-
-// A count of 0.00001 arc second as arc seconds.
-fn seconds(count: i64) -> f64
-    requires { ⌜ natAbs count ≤ 9007199254740992 ⌝ }
-    ensures { λ r. ⌜ r ≡ unitsOf 100000 count ⌝ }
-{
-    count as f64 / 100000.0
-}
-
-// A count of 0.1 mm as metres.
-fn metres(count: i64) -> f64
-    requires { ⌜ natAbs count ≤ 9007199254740992 ⌝ }
-    ensures { λ r. ⌜ r ≡ unitsOf 10000 count ⌝ }
-{
-    count as f64 / 10000.0
-}
-
 // The second answer for a count.
 fn answer_of(number: i64, component: u8, count: i64) -> Answer
     requires { ⌜ natAbs count ≤ 9007199254740992 ⌝ }
     ensures { λ r. ⌜ r ≡ answerOf number component 0 count ⌝ }
 {
     if number != 1023 {
-        return Answer::Metres(metres(count));
+        return Answer::Metres(count as f64 / 10000.0);
     }
     if component < 2 {
-        return Answer::Seconds(seconds(count));
+        return Answer::Seconds(count as f64 / 100000.0);
     }
-    Answer::Metres(metres(count))
-}
-
-fn done(number: i64, component: u8, count: i64) -> Shift
-    requires { ⌜ natAbs count ≤ 9007199254740992 ⌝ }
-    ensures { λ r. ⌜ r ≡ outcome number component 0 count ⌝ }
-{
-    Shift {
-        refusal: 0,
-        count,
-        answer: answer_of(number, component, count),
-    }
-}
-
-// The raw node in row i from the north and column j from the west.
-fn node_at(nodes: [Shifts; 16], component: u8, i: u64, j: u64) -> i64
-    requires { ⌜ (i ≤ 3) × (j ≤ 3) ⌝ }
-    ensures { λ r. ⌜ r ≡ nodeRaw nodes component i j ⌝ }
-{
-    let n = nodes[(4 * i + j) as usize];
-    part_of(component, n)
-}
-
-// The raw nodes of the cell k from the south and l from the west.
-fn corners_of(nodes: [Shifts; 16], component: u8, k: u64, l: u64) -> Corners
-    requires { ⌜ (k ≤ 2) × (l ≤ 2) ⌝ }
-    ensures { λ r. ⌜ r ≡ cornersOf nodes component k l ⌝ }
-{
-    Corners {
-        sw: node_at(nodes, component, 3 - k, l),
-        se: node_at(nodes, component, 3 - k, l + 1),
-        nw: node_at(nodes, component, 2 - k, l),
-        ne: node_at(nodes, component, 2 - k, l + 1),
-    }
-}
-
-// The mean is not available.
-fn mean_lacks(number: i64, component: u8, mean: i64) -> bool
-    ensures { λ r. ⌜ r ≡ not (available (meanWidth number component) mean) ⌝ }
-{
-    if component == 2 {
-        return mean == -16384;
-    }
-    if number == 1023 {
-        return mean == -128;
-    }
-    mean == -512
-}
-
-// A node with weight is not available.
-fn nodes_lack(n: Corners, h: u64, w: u64, y: u64, x: u64) -> bool
-    requires { ⌜ Within h w y x ⌝ }
-    ensures { λ r. ⌜ r ≡ nodesLack h w y x n ⌝ }
-{
-    let u = w - x;
-    let v = h - y;
-    if node_lacks(u * v, n.sw) {
-        return true;
-    }
-    if node_lacks(x * v, n.se) {
-        return true;
-    }
-    if node_lacks(u * y, n.nw) {
-        return true;
-    }
-    node_lacks(x * y, n.ne)
-}
-
-// The mean in counts.
-fn mean_counts(mean: i64) -> i64
-    requires { ⌜ natAbs mean ≤ 16384 ⌝ }
-    ensures { λ r. ⌜ r ≡ pos meanFactor *ℤ mean ⌝ }
-{
-    100 * mean
-}
-
-// ABSENT, or the shift at a place inside: its cell, the steps from the edges of the grid, and the spacings.
-fn cell_shift(g: Grid, component: u8, k: u64, l: u64, y: u64, x: u64, h: u64, w: u64) -> Shift
-    requires { ⌜ Placed g component k l y x h w ⌝ }
-    ensures { λ r. ⌜ r ≡ inCellShift g component k l y x ⌝ }
-{
-    let number = g.number;
-    let mean = part_of(component, g.mean);
-    let nodes = g.nodes;
-    let n = corners_of(nodes, component, k, l);
-    let b = y - k * h;
-    let a = x - l * w;
-    if mean_lacks(number, component, mean) {
-        return refused(15);
-    }
-    if nodes_lack(n, h, w, b, a) {
-        return refused(15);
-    }
-    done(
-        number,
-        component,
-        cell::count_in(
-            mean_counts(mean),
-            factor_of(number, component),
-            n,
-            h,
-            w,
-            b,
-            a,
-        ),
-    )
-}
-
-// Along one direction: the position, the raw number of the origin, and the spacing in steps.
-fn place(position: i64, origin: i64, spacing: u64, steps: u64) -> cell::Place
-    requires { ⌜ (natAbs position ≤ 1000000000000) × (natAbs origin ≤ 67108864) × (steps ≤ 10000) ⌝ }
-    ensures { λ r. ⌜ r ≡ alongOf spacing (position -ℤ pos steps *ℤ origin) ⌝ }
-{
-    let u = difference(position, origin, steps);
-    cell::along(u, spacing)
+    Answer::Metres(count as f64 / 10000.0)
 }
 
 // A difference of longitudes brought to at least minus half a turn and less than half a turn: both longitudes are within half a turn, so one turn is enough.
@@ -263,54 +125,200 @@ fn by_turns(d: i64) -> i64
     d - 12960000000
 }
 
-// Along the east-west direction, of a message of number `kind`: by longitudes for 1023.
-fn east_place(kind: i64, position: i64, origin: i64, spacing: u64, steps: u64) -> cell::Place
+// The difference east-west, for a message of number `kind`: by longitudes for 1023.
+fn east_difference(kind: i64, position: i64, origin: i64, steps: u64) -> i64
     requires { ⌜ (natAbs position ≤ 1000000000000) × (natAbs origin ≤ 67108864) × (steps ≤ 10000) × (ellipsoidal kind ≡ true → natAbs (position -ℤ pos steps *ℤ origin) ≤ 12960000000) ⌝ }
-    ensures { λ r. ⌜ r ≡ alongOf spacing (eastBy kind (position -ℤ pos steps *ℤ origin)) ⌝ }
+    ensures { λ r. ⌜ r ≡ eastBy kind (position -ℤ pos steps *ℤ origin) ⌝ }
 {
-    let u = difference(position, origin, steps);
+    let d = difference(position, origin, steps);
     if kind == 1023 {
-        return cell::along(by_turns(u), spacing);
+        return by_turns(d);
     }
-    cell::along(u, spacing)
+    d
 }
 
-// The shift from a record that a grid message holds.
-fn shift_in(g: Grid, component: u8, north: i64, east: i64) -> Shift
-    requires { ⌜ Fields g ⌝ }
-    ensures { λ r. ⌜ r ≡ shiftWith g component north east (first (gridTests g component north east)) ⌝ }
+// A refusal, and no place.
+fn no_place(refusal: u8) -> Located
+    ensures { λ r. ⌜ r ≡ noPlace refusal ⌝ }
 {
-    let early = grid_refusals::early_refusal(g, component, north, east);
+    Located {
+        refusal,
+        row: 0,
+        column: 0,
+        north: 0,
+        east: 0,
+        height: 0,
+        width: 0,
+    }
+}
+
+// A place in both directions, in cells h high and w wide.
+fn place_in(n: cell::Place, e: cell::Place, h: u64, w: u64) -> Located
+    requires { ⌜ (n .cell * h ≤ n .steps) × (e .cell * w ≤ e .steps) ⌝ }
+    ensures { λ r. ⌜ r ≡ placeOf n e h w ⌝ }
+{
+    Located {
+        refusal: 0,
+        row: n.cell,
+        column: e.cell,
+        north: n.steps - n.cell * h,
+        east: e.steps - e.cell * w,
+        height: h,
+        width: w,
+    }
+}
+
+// COMPONENT to OUTSIDE, or the place of a position in the grid.
+fn locate(f: Frame, component: u8, north: i64, east: i64) -> Located
+    requires { ⌜ Fields f ⌝ }
+    ensures { λ r. ⌜ r ≡ located f component north east ⌝ }
+{
+    let early = grid_refusals::early_refusal(f, component, north, east);
     if early != 0 {
-        return refused(early);
+        return no_place(early);
     }
-    let steps = steps_of(g.number);
-    let origin = g.origin;
-    let spacing = g.spacing;
+    let number = f.number;
+    let steps = steps_of(number);
+    let origin = f.origin;
+    let latitude = origin.north;
+    let spacing = f.spacing;
     let h = spacing_of(spacing.north, steps);
-    let n = place(north, origin.north, h, steps);
+    let u = difference(north, layout::value_in(latitude), steps);
+    let n = cell::along(u, h);
     if n.refusal != 0 {
-        return refused(14);
+        return no_place(14);
     }
+    let longitude = origin.east;
     let w = spacing_of(spacing.east, steps);
-    let e = east_place(g.number, east, origin.east, w, steps);
+    let v = east_difference(number, east, layout::value_in(longitude), steps);
+    let e = cell::along(v, w);
     if e.refusal != 0 {
-        return refused(14);
+        return no_place(14);
     }
-    cell_shift(g, component, n.cell, e.cell, n.steps, e.steps, h, w)
+    place_in(n, e, h, w)
+}
+
+// What a node says that has this weight: without weight it is not asked for.
+fn weighted(weight: u64, r: Reading) -> Reading
+    ensures { λ q. ⌜ q ≡ asked weight r ⌝ }
+{
+    if weight == 0 {
+        return Reading::Value(layout::value_in(r));
+    }
+    r
+}
+
+// The shift at a place from its mean and its nodes.
+fn count_shift(number: i64, component: u8, mean: i64, n: Corners, p: Located) -> Shift
+    requires { ⌜ Bounded mean n p ⌝ }
+    ensures { λ r. ⌜ r ≡ outcome number component 0 (countAt number component mean n p) ⌝ }
+{
+    let factor = factor_of(number, component);
+    let count = cell::count_in(100 * mean, factor, n, p.height, p.width, p.north, p.east);
+    Shift {
+        refusal: 0,
+        count,
+        answer: answer_of(number, component, count),
+    }
+}
+
+// ABSENT, or the shift at a place: each field that is asked for is taken apart into its value.
+fn cell_shift(number: i64, component: u8, mean: Reading, n: Nodes, p: Located) -> Shift
+    requires { ⌜ Bounded (valueIn mean) (valuesIn n) p ⌝ }
+    ensures { λ r. ⌜ r ≡ cellShift number component mean n p ⌝ }
+{
+    let Reading::Value(m) = mean else {
+        return refused(15);
+    };
+    let y = p.north;
+    let x = p.east;
+    let v = p.height - y;
+    let u = p.width - x;
+    let a = n.sw;
+    let Reading::Value(sw) = weighted(u * v, a) else {
+        return refused(15);
+    };
+    let b = n.se;
+    let Reading::Value(se) = weighted(x * v, b) else {
+        return refused(15);
+    };
+    let c = n.nw;
+    let Reading::Value(nw) = weighted(u * y, c) else {
+        return refused(15);
+    };
+    let d = n.ne;
+    let Reading::Value(ne) = weighted(x * y, d) else {
+        return refused(15);
+    };
+    count_shift(number, component, m, Corners { sw, se, nw, ne }, p)
+}
+
+// What the nodes of the cell k from the south and l from the west say in a message.
+fn nodes_in(message: &[u8], component: u8, k: u64, l: u64) -> Nodes
+    requires { ⌜ (k ≤ 2) × (l ≤ 2) ⌝ }
+    ensures { λ r. ⌜ r ≡ nodesSaid (now (message .entry)) component k l ⌝ }
+{
+    let south = 4 * (3 - k) + l;
+    let north = 4 * (2 - k) + l;
+    Nodes {
+        sw: grid_fields::node_at(message, component, south),
+        se: grid_fields::node_at(message, component, south + 1),
+        nw: grid_fields::node_at(message, component, north),
+        ne: grid_fields::node_at(message, component, north + 1),
+    }
+}
+
+// The component of a shift.
+fn part_of(component: u8, s: Shifts) -> Reading
+    ensures { λ r. ⌜ r ≡ part component s ⌝ }
+{
+    if component == 0 {
+        return s.north;
+    }
+    if component == 1 {
+        return s.east;
+    }
+    s.height
+}
+
+// What node i from the north and j from the west says in a record.
+fn node_of(nodes: [Shifts; 16], component: u8, i: u64, j: u64) -> Reading
+    requires { ⌜ (i ≤ 3) × (j ≤ 3) ⌝ }
+    ensures { λ r. ⌜ r ≡ nodeOf nodes component i j ⌝ }
+{
+    let n = nodes[(4 * i + j) as usize];
+    part_of(component, n)
+}
+
+// What the nodes of the cell k from the south and l from the west say in a record.
+fn nodes_of(nodes: [Shifts; 16], component: u8, k: u64, l: u64) -> Nodes
+    requires { ⌜ (k ≤ 2) × (l ≤ 2) ⌝ }
+    ensures { λ r. ⌜ r ≡ nodesIn nodes component k l ⌝ }
+{
+    Nodes {
+        sw: node_of(nodes, component, 3 - k, l),
+        se: node_of(nodes, component, 3 - k, l + 1),
+        nw: node_of(nodes, component, 2 - k, l),
+        ne: node_of(nodes, component, 2 - k, l + 1),
+    }
 }
 
 // The shift of a component at a position from a message's bytes.
 pub fn shift_at(message: &[u8], component: u8, north: i64, east: i64) -> Shift
     ensures { λ r. ⌜ r ≡ messageShift (now (message .entry)) component north east ⌝ }
 {
-    let r = message::read_grid(message);
-    let refusal = r.refusal;
+    let refusal = wire::check_kind(message, 1023, 1024);
     if refusal != 0 {
         return refused(refusal);
     }
-    let g = r.value;
-    shift_in(g, component, north, east)
+    let f = grid_fields::frame_at(message);
+    let p = locate(f, component, north, east);
+    if p.refusal != 0 {
+        return refused(p.refusal);
+    }
+    let mean = grid_fields::mean_at(message, component);
+    let n = nodes_in(message, component, p.row, p.column);
+    cell_shift(f.number, component, mean, n, p)
 }
 
 // The same from a record; RANGE where no grid message holds it.
@@ -320,5 +328,13 @@ pub fn shift_of(grid: Grid, component: u8, north: i64, east: i64) -> Shift
     if !message::grid_held(grid) {
         return refused(5);
     }
-    shift_in(grid, component, north, east)
+    let frame = grid_records::frame_of(grid);
+    let p = locate(frame, component, north, east);
+    if p.refusal != 0 {
+        return refused(p.refusal);
+    }
+    let mean = part_of(component, grid.mean);
+    let nodes = grid.nodes;
+    let n = nodes_of(nodes, component, p.row, p.column);
+    cell_shift(frame.number, component, mean, n, p)
 }

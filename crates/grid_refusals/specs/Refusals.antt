@@ -1,13 +1,16 @@
 -- Refusals 8 COMPONENT to 13 SPACING of the shift: document 01, "The grid" and "Refusal numbers".
 -- Assumes nothing.
-use Prim.Native.Nat.{ℕ, _-_, _/_, _^_}
-use mathlib.Core.Bool.{Bool, not, cond, _&&_, _||_}
+use Prim.Native.Nat.{ℕ}
+use mathlib.Core.Bool.{Bool, true, false, not, cond, _&&_, _||_}
 use mathlib.Core.List.{List, [], _∷_}
 use lib.Dec.{eqb, ltb}
-use lib.IntN.{ℤ, pos, negsuc, natAbs}
+use lib.IntN.{ℤ, pos, natAbs}
 use Rattle.arith.specs.First.{Test}
 use Rattle.arith.specs.Whole.{sameZ}
-use Rattle.grid_records.specs.declared.Grid.{Grid}
+use Rattle.field.specs.declared.Reading.{Reading}
+use Rattle.field.specs.declared.Reading.the-variants.{Value, Absent}
+use Rattle.grid_records.specs.declared.Origin.{Origin}
+use Rattle.grid_records.specs.declared.Frame.{Frame}
 use Rattle.row.specs.declared.Pair.{Pair}
 
 -- by the message number: 1023 gives angles, 1024 metres
@@ -18,17 +21,14 @@ ellipsoidal number = sameZ number (pos 1023)
 abbrev pub side : ℕ → Pair → ℤ
 side c p = cond (eqb c 2) (p .vertical) (p .horizontal)
 
--- ---- the "not available" pattern of an int of w bits
+-- a field has a value
+abbrev pub available : Reading → Bool
+available (Value z) = true
+available Absent = false
 
-abbrev pub available : ℕ → ℤ → Bool
-available w z = not (sameZ z (negsuc (2 ^ w / 2 - 1)))
-
--- int21 and int22 (DF192, DF193); int25 (DF202), and DF203, a uint26, is always available
-abbrev pub originAvailable : ℤ → ℤ → ℤ → Bool
-originAvailable number north east =
-    cond (ellipsoidal number)
-    (available 21 north && available 22 east)
-    (available 25 north)
+-- DF192 and DF193, DF202; DF203, which is unsigned, has a value in every message
+abbrev pub originAvailable : Origin → Bool
+originAvailable o = available (o .north) && available (o .east)
 
 -- ---- refusals
 
@@ -40,12 +40,12 @@ beyond number n e =
     (ltb 1000000000000 (natAbs n) || ltb 1000000000000 (natAbs e))
 
 -- 8 COMPONENT, 9 POSITION, 10 OFF, 11 METHOD, 12 ORIGIN, 13 SPACING
-abbrev pub fieldTests : Grid → ℕ → ℤ → ℤ → List Test
-fieldTests g c n e =
+abbrev pub fieldTests : Frame → ℕ → ℤ → ℤ → List Test
+fieldTests f c n e =
     (8, ltb 2 c)
-    ∷ (9, beyond (g .number) n e)
-    ∷ (10, sameZ (side c (g .indicators)) (pos 0))
-    ∷ (11, not (sameZ (side c (g .methods)) (pos 0)))
-    ∷ (12, not (originAvailable (g .number) (g .origin .north) (g .origin .east)))
-    ∷ (13, sameZ (g .spacing .north) (pos 0) || sameZ (g .spacing .east) (pos 0))
+    ∷ (9, beyond (f .number) n e)
+    ∷ (10, sameZ (side c (f .indicators)) (pos 0))
+    ∷ (11, not (sameZ (side c (f .methods)) (pos 0)))
+    ∷ (12, not (originAvailable (f .origin)))
+    ∷ (13, sameZ (f .spacing .north) (pos 0) || sameZ (f .spacing .east) (pos 0))
     ∷ []

@@ -1,21 +1,22 @@
-// The refusals of the shift that a grid record, a component and a position give before the place in the grid is looked for: COMPONENT to SPACING.
-use grid_records::Grid;
+// The refusals of the shift that a grid without its shifts, a component and a position give before the place in the grid is looked for: COMPONENT to SPACING.
+use field::Reading;
+use grid_records::Frame;
 use row::Pair;
 ghost use mathlib.Core.Path.{_≡_};
-ghost use mathlib.Core.Bool.{not, cond, _||_};
+ghost use mathlib.Core.Bool.{not, _&&_, _||_};
 ghost use mathlib.Core.List.{[], _∷_};
 ghost use lib.Dec.{ltb};
 ghost use lib.IntN.{pos, natAbs};
 ghost use Rattle.arith.specs.First.{first};
 ghost use Rattle.arith.specs.Whole.{sameZ};
-ghost use Rattle.grid_refusals.specs.Refusals.{side, originAvailable, beyond, fieldTests};
+ghost use Rattle.grid_refusals.specs.Refusals.{side, available, beyond, fieldTests};
 
 // COMPONENT, POSITION, or 0.
 fn position_refusal(component: u8, number: i64, north: i64, east: i64) -> u8
     ensures { λ r. ⌜ r ≡ first ((8, ltb 2 component) ∷ (9, beyond number north east) ∷ []) ⌝ }
 {
-    let n = cell::magnitude(north);
-    let e = cell::magnitude(east);
+    let n = field::magnitude(north);
+    let e = field::magnitude(east);
     if 2 < component {
         return 8;
     }
@@ -37,36 +38,16 @@ fn position_refusal(component: u8, number: i64, north: i64, east: i64) -> u8
     0
 }
 
-// ORIGIN, or 0.
-fn origin_refusal(number: i64, north: i64, east: i64) -> u8
-    ensures { λ r. ⌜ r ≡ cond (originAvailable number north east) 0 12 ⌝ }
-{
-    if number == 1023 {
-        if north == -1048576 {
-            return 12;
-        }
-        if east == -2097152 {
-            return 12;
-        }
-        return 0;
-    }
-    if north == -16777216 {
-        return 12;
-    }
-    0
-}
-
 // OFF, METHOD, ORIGIN, SPACING, or 0.
 fn field_refusal(
     indicator: i64,
     method: i64,
-    number: i64,
-    north: i64,
-    east: i64,
+    north: Reading,
+    east: Reading,
     rows: i64,
     columns: i64,
 ) -> u8
-    ensures { λ r. ⌜ r ≡ first ((10, sameZ indicator (pos 0)) ∷ (11, not (sameZ method (pos 0))) ∷ (12, not (originAvailable number north east)) ∷ (13, sameZ rows (pos 0) || sameZ columns (pos 0)) ∷ []) ⌝ }
+    ensures { λ r. ⌜ r ≡ first ((10, sameZ indicator (pos 0)) ∷ (11, not (sameZ method (pos 0))) ∷ (12, not (available north && available east)) ∷ (13, sameZ rows (pos 0) || sameZ columns (pos 0)) ∷ []) ⌝ }
 {
     if indicator == 0 {
         return 10;
@@ -74,9 +55,12 @@ fn field_refusal(
     if method != 0 {
         return 11;
     }
-    if origin_refusal(number, north, east) != 0 {
+    let Reading::Value(_) = north else {
         return 12;
-    }
+    };
+    let Reading::Value(_) = east else {
+        return 12;
+    };
     if rows == 0 {
         return 13;
     }
@@ -97,24 +81,25 @@ fn side_of(component: u8, p: Pair) -> i64
 }
 
 // COMPONENT, POSITION, OFF, METHOD, ORIGIN, SPACING, or 0.
-pub fn early_refusal(g: Grid, component: u8, north: i64, east: i64) -> u8
-    ensures { λ r. ⌜ r ≡ first (fieldTests g component north east) ⌝ }
+pub fn early_refusal(f: Frame, component: u8, north: i64, east: i64) -> u8
+    ensures { λ r. ⌜ r ≡ first (fieldTests f component north east) ⌝ }
 {
-    let number = g.number;
+    let number = f.number;
     let p = position_refusal(component, number, north, east);
     if p != 0 {
         return p;
     }
-    let indicator = side_of(component, g.indicators);
-    let method = side_of(component, g.methods);
-    let origin = g.origin;
-    let spacing = g.spacing;
+    let indicator = side_of(component, f.indicators);
+    let method = side_of(component, f.methods);
+    let origin = f.origin;
+    let latitude = origin.north;
+    let longitude = origin.east;
+    let spacing = f.spacing;
     field_refusal(
         indicator,
         method,
-        number,
-        origin.north,
-        origin.east,
+        latitude,
+        longitude,
         spacing.north,
         spacing.east,
     )

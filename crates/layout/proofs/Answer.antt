@@ -1,28 +1,49 @@
--- The answers of `decode` and `encode`, one law for each way out.
+-- The answers of checks, readers and writers, one law for each way out.
 -- Assumes nothing.
 use mathlib.Core.Path.{_≡_, refl, sym, ap, _∙_}
 use mathlib.Core.List.{List, [], _∷_, _++_}
-use mathlib.Core.Bool.{Bool, true, false, cond}
-use Prim.Native.Nat.{ℕ, suc, _-_, _≤_, _<_}
-use lib.Dec.{eqb, eqb·suc-zero}
-use lib.IntN.{ℤ, pos}
-use lib.ListN.{length, take, drop, replicate}
-use lib.Seq.{take-at}
-use borrow.Author.Tests.{lt-ltb, le-ltb, eq-eqb, ne-eqb}
-use Rattle.arith.proofs.Rows.{drop-replicate}
-use Rattle.layout.specs.declared.Row.{Row}
+use mathlib.Core.Bool.{true, false, not}
+use Prim.Native.Nat.{ℕ, suc, _≤_, _<_}
+use lib.Dec.{ltb, eqb, eqb·suc-zero}
+use Rattle.arith.specs.First.{Test}
+use lib.ListN.{length, drop}
+use lib.IntN.{ℤ}
+use borrow.Author.Tests.{lt-ltb, le-ltb, eq-eqb, ne-eqb, ltb-false, eqb-true}
+use Rattle.arith.proofs.First.{passed, not-false, stops, goes-on}
 use Rattle.layout.specs.declared.Written.{Written}
-use Rattle.layout.specs.Layout.{allTake, total, size, decodeAll, zeroFrom, refusalOf, valuesOf, decoded, encodeRefusal, answered, stored}
-use Rattle.arith.specs.Row.{padded}
+use Rattle.layout.specs.Layout.{allTake, total, size, decodeAll, zeroFrom, readTests, refusalOf, decodeRefusal, stored, rowTakes, encodeRefusal, answered}
 
 pub length-decodeAll : (es : List ℕ) (p : ℕ) (s : List ℕ) → length (decodeAll es p s) ≡ length es
 unfolding decodeAll
 length-decodeAll [] p s = refl
 length-decodeAll (e ∷ es) p s = ap suc (length-decodeAll es _ s)
 
--- ---- decode
+-- what an answer of 0 says of the tests
+pub record Accepted (es s : List ℕ) : Type 0 where
+  pub few : length es ≤ 96
+  pub sized : length s ≡ size es
+  pub filled : zeroFrom s (total es) ≡ true
+  pub ranged : allTake es (decodeAll es 0 s) ≡ true
 
 module _ (es s : List ℕ) where
+  pub accepted : refusalOf es s ≡ 0 → Accepted es s
+  unfolding refusalOf
+  accepted h =
+      let a = passed 2 (ltb 96 (length es)) _ h in
+      let b = passed 2 (not (eqb (length s) (size es))) _ (a .1) in
+      let c = passed 3 (not (zeroFrom s (total es))) _ (b .1) in
+      let d = passed 4 (not (allTake es (decodeAll es 0 s))) _ (c .1) in
+      record {
+        few = ltb-false 96 (length es) (a .0);
+        sized = eqb-true (length s) (size es) (not-false _ (b .0));
+        filled = not-false _ (c .0);
+        ranged = not-false _ (d .0);
+      }
+
+  pub refused-none : Accepted es s → refusalOf es s ≡ 0
+  unfolding refusalOf
+  refused-none a = rw (le-ltb 96 (length es) (a .few), eq-eqb (length s) (size es) (a .sized), a .filled, a .ranged)
+
   pub too-many : 96 < length es → refusalOf es s ≡ 3
   unfolding refusalOf
   too-many h = rw (lt-ltb 96 (length es) h)
@@ -41,52 +62,80 @@ module _ (es s : List ℕ) where
       unfolding refusalOf
       out-of-range f r = rw (le-ltb 96 (length es) few, eq-eqb (length s) (size es) sized, f, r)
 
-  pub refused-row : (n : ℕ) (r : Row) → (r .refusal ≡ suc n) × (r .values ≡ padded []) → refusalOf es s ≡ suc n → r ≡ decoded es s
-  unfolding decoded valuesOf
-  refused-row n r e h =
-      λ i. record {
-        refusal = (e .0 ∙ sym h) i;
-        values = (e .1 ∙ sym (ap (λ (b : Bool). padded (cond b (decodeAll es 0 s) [])) (ap (λ (m : ℕ). eqb m 0) h ∙ eqb·suc-zero n))) i;
-      }
+-- ---- decode
+module _ (es s : List ℕ) (m n : ℕ) where
+  unfoldable rooms : List Test
+  rooms = (6, ltb m (length es)) ∷ (6, ltb n (length es)) ∷ []
 
-  pub decoded-row : (v : List ℤ) → v ≡ padded (decodeAll es 0 s) → refusalOf es s ≡ 0 → _≡_ {A = Row} (record { refusal = 0; values = v }) (decoded es s)
-  unfolding decoded valuesOf
-  decoded-row v e h =
-      λ i. record {
-        refusal = sym h i;
-        values = (e ∙ ap (λ (m : ℕ). padded (cond (eqb m 0) (decodeAll es 0 s) [])) (sym h)) i;
-      }
+  pub not-read : (refusalOf es s ≡ 0 → ⊥) → decodeRefusal es s m n ≡ refusalOf es s
+  unfolding decodeRefusal refusalOf rooms
+  not-read h = sym (stops (readTests es s) rooms tt refl h)
 
--- what a loop leaves that fills the first places of 96 zeros
-pub padded-loop : (vs : List ℤ) (k : ℕ) → length vs ≡ k → vs ++ drop k (replicate 96 (pos 0)) ≡ padded vs
-unfolding padded
-padded-loop vs k e = ap (λ (r : List ℤ). vs ++ r) (drop-replicate 96 k (pos 0) ∙ ap (λ (m : ℕ). replicate (96 - m) (pos 0)) (sym e))
+  module _ (z : refusalOf es s ≡ 0) where
+    pub few-values : m < length es → decodeRefusal es s m n ≡ 6
+    unfolding decodeRefusal refusalOf rooms
+    few-values h = sym (goes-on (readTests es s) rooms tt z) ∙ rw (lt-ltb m (length es) h)
 
--- the values are the first of the padded ones
-pub take-padded : (vs : List ℤ) (k : ℕ) → length vs ≡ k → take k (padded vs) ≡ vs
-unfolding padded
-take-padded vs k e = take-at vs (replicate (96 - length vs) (pos 0)) k e
+    module _ (k : length es ≤ m) where
+      pub few-bytes : n < length es → decodeRefusal es s m n ≡ 6
+      unfolding decodeRefusal refusalOf rooms
+      few-bytes h = sym (goes-on (readTests es s) rooms tt z) ∙ rw (le-ltb m (length es) k, lt-ltb n (length es) h)
+
+      pub read-none : length es ≤ n → decodeRefusal es s m n ≡ 0
+      unfolding decodeRefusal refusalOf rooms
+      read-none h = sym (goes-on (readTests es s) rooms tt z) ∙ rw (le-ltb m (length es) k, le-ltb n (length es) h)
+
+-- ---- lent places: kept with a refusal, and filled with none
+module _ {A : Type 0} (n : ℕ) (m out : List A) where
+  pub kept : (n ≡ 0 → ⊥) → out ≡ stored n m out
+  unfolding stored
+  kept h = rw (ne-eqb n 0 h)
+
+  pub filled-first : (k : ℕ) → n ≡ 0 → length m ≡ k → m ++ drop k out ≡ stored n m out
+  unfolding stored
+  filled-first k e f = rw (e, ← f)
+
+-- a row that was not read
+pub refused-read : (n d : ℕ) (vs v : List ℤ) (bs b : List ℕ) → d ≡ n → (n ≡ 0 → ⊥) → (n ≡ d) × ((v ≡ stored d vs v) × (b ≡ stored d bs b))
+refused-read n d vs v bs b e h = (sym e, (kept d vs v (λ z. h (sym e ∙ z)), kept d bs b (λ z. h (sym e ∙ z))))
 
 -- ---- encode
-
-module _ (es : List ℕ) (vs : List ℤ) (out : List ℕ) where
-  pub write-many : 96 < length es → encodeRefusal es vs (length out) ≡ 5
+module _ (es : List ℕ) (zs : List ℤ) (bs : List ℕ) (n : ℕ) where
+  pub write-many : 96 < length es → encodeRefusal es zs bs n ≡ 5
   unfolding encodeRefusal
   write-many h = rw (lt-ltb 96 (length es) h)
 
   module _ (few : length es ≤ 96) where
-    pub write-range : allTake es vs ≡ false → encodeRefusal es vs (length out) ≡ 5
+    pub write-range : rowTakes es zs bs ≡ false → encodeRefusal es zs bs n ≡ 5
     unfolding encodeRefusal
     write-range t = rw (le-ltb 96 (length es) few, t)
 
-    module _ (t : allTake es vs ≡ true) where
-      pub write-room : length out < size es → encodeRefusal es vs (length out) ≡ 6
+    module _ (t : rowTakes es zs bs ≡ true) where
+      pub write-room : n < size es → encodeRefusal es zs bs n ≡ 6
       unfolding encodeRefusal
-      write-room h = rw (le-ltb 96 (length es) few, t, lt-ltb (length out) (size es) h)
+      write-room h = rw (le-ltb 96 (length es) few, t, lt-ltb n (size es) h)
 
-      pub write-none : size es ≤ length out → encodeRefusal es vs (length out) ≡ 0
+      pub write-none : size es ≤ n → encodeRefusal es zs bs n ≡ 0
       unfolding encodeRefusal
-      write-none h = rw (le-ltb 96 (length es) few, t, le-ltb (length out) (size es) h)
+      write-none h = rw (le-ltb 96 (length es) few, t, le-ltb n (size es) h)
+
+-- what an answer of 0 says of a write
+pub record Writable (es : List ℕ) (zs : List ℤ) (bs : List ℕ) (n : ℕ) : Type 0 where
+  pub few : length es ≤ 96
+  pub taken : rowTakes es zs bs ≡ true
+  pub room : size es ≤ n
+
+pub writable : (es : List ℕ) (zs : List ℤ) (bs : List ℕ) (n : ℕ) → encodeRefusal es zs bs n ≡ 0 → Writable es zs bs n
+unfolding encodeRefusal
+writable es zs bs n h =
+    let a = passed 4 (ltb 96 (length es)) _ h in
+    let b = passed 4 (not (rowTakes es zs bs)) _ (a .1) in
+    let c = passed 5 (ltb n (size es)) _ (b .1) in
+    record {
+      few = ltb-false 96 (length es) (a .0);
+      taken = not-false _ (b .0);
+      room = ltb-false n (size es) (c .0);
+    }
 
 -- any writer's way out: a refusal keeps the output, and 0 has the message's length
 pub refused-write : (n k : ℕ) (m out : List ℕ) → n ≡ suc k → (_≡_ {A = Written} (record { refusal = suc k; length = 0 }) (answered n m)) × (out ≡ stored n m out)

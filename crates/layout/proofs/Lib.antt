@@ -1,4 +1,5 @@
-pub mod Answer
+pub mod Says
 pub mod Loop
+pub mod Answer
 pub mod Round
-pub mod Sign
+pub mod Places

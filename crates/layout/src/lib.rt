@@ -1,12 +1,12 @@
-// Messages by a layout: checked, read and written. The leaves have a requires and are private.
+// Messages by a layout: checked and written. The functions with a requires are private.
 ghost use mathlib.Core.Path.{_≡_};
 ghost use Prim.Native.Nat.{_+_, _*_, _^_, _≤_, _<_};
-ghost use mathlib.Core.List.{[], _++_};
+ghost use mathlib.Core.List.{_++_};
 ghost use lib.Dec.{T};
 ghost use lib.ListN.{length, drop};
-ghost use Rattle.arith.specs.Row.{padded};
-ghost use Rattle.field.specs.Field.{field, setField, patternOf};
-ghost use Rattle.layout.specs.Layout.{width, signed, limit, value, fits, within, takes, allTake, total, decodeAll, encodeInto, encodeAll, size, blank, zeroFrom, decoded, encodeRefusal, answered, stored};
+ghost use Rattle.field.specs.Field.{field, fieldAt, setField, patternOf};
+ghost use Rattle.field.specs.declared.Reading.the-variants.{Value};
+ghost use Rattle.layout.specs.Layout.{width, signed, readingOf, ofWidth, takes, allTake, total, bitsOf, size, decodeAll, encodeInto, blank, encodeAll, zeroFrom, valueIn, presentIn, readingIn, rowOf, placeTakes, rowTakes, stored, refusalOf, placesTake, placesRefusal, encodeRefusal, answered};
 
 // The number of patterns of the width of entry e.
 fn patterns(e: u64) -> u64
@@ -15,21 +15,20 @@ fn patterns(e: u64) -> u64
     1u64 << (e % 64)
 }
 
-// The value of the field of entry e at bit p of s.
-fn read_value(s: &[u8], p: usize, e: u64) -> i64
-    requires { ⌜ (p + width e ≤ 8 * length (now s)) × (p ≤ 65535) ⌝ }
-    ensures { λ r. ⌜ r ≡ value (signed e) (width e) (field (now (s .entry)) p (width e)) ⌝ }
+// What the field of entry e at bit p of s says; as a field of zeros where s does not contain it.
+fn read_entry(s: &[u8], p: usize, e: u64) -> field::Reading
+    ensures { λ r. ⌜ r ≡ readingOf e (fieldAt (now (s .entry)) p (width e)) ⌝ }
 {
     let w = (e % 64) as usize;
     if e / 64 % 2 == 1 {
         return field::signed_at(s, p, w);
     }
-    field::field_at(s, p, w) as i64
+    field::Reading::Value(field::field_at(s, p, w) as i64)
 }
 
-// Whether z has a pattern of the width of entry e.
-fn fits_width(e: u64, z: i64) -> bool
-    ensures { λ r. ⌜ r ≡ fits (signed e) (width e) z ⌝ }
+// Whether z has a pattern of the width of entry e, other than the most negative one.
+fn of_width(e: u64, z: i64) -> bool
+    ensures { λ r. ⌜ r ≡ ofWidth (signed e) (width e) z ⌝ }
 {
     let n = patterns(e);
     let m = field::magnitude(z);
@@ -42,74 +41,32 @@ fn fits_width(e: u64, z: i64) -> bool
     m < n
 }
 
-// Whether z is within the range of entry e, or the most negative pattern of its width.
-fn in_range(e: u64, z: i64) -> bool
-    ensures { λ r. ⌜ r ≡ within (width e) (limit e) z ⌝ }
-{
-    let l = e / 128;
-    let m = field::magnitude(z);
-    if z < 0 {
-        if m < l {
-            return true;
-        }
-        return m + 1 == patterns(e) / 2;
-    }
-    m < l + 1
-}
-
 // Whether entry e takes the value z.
 fn takes_value(e: u64, z: i64) -> bool
-    ensures { λ r. ⌜ r ≡ takes e z ⌝ }
+    ensures { λ r. ⌜ r ≡ takes e (Value z) ⌝ }
 {
-    if fits_width(e, z) {
-        if e / 128 == 0 {
+    let fitting = of_width(e, z);
+    if fitting {
+        let l = e / 128;
+        if l == 0 {
             return true;
         }
-        return in_range(e, z);
+        return field::magnitude(z) <= l;
     }
     false
 }
 
-// s with the value z in the field of entry e at bit p.
-fn write_value(s: &mut [u8], p: usize, e: u64, z: i64)
-    requires { ⌜ (p + width e ≤ 8 * length (now s)) × ((p ≤ 65535) × (T (takes e z))) ⌝ }
-    ensures { λ _. ⌜ now (s .exit) ≡ setField (now (s .entry)) p (width e) (patternOf (width e) z) ⌝ }
+// Whether entry e takes what its field at bit p of s says: only a declared range can refuse it.
+fn takes_read(s: &[u8], p: usize, e: u64) -> bool
+    ensures { λ r. ⌜ r ≡ takes e (readingOf e (fieldAt (now (s .entry)) p (width e))) ⌝ }
 {
-    let w = (e % 64) as usize;
-    if e / 64 % 2 == 1 {
-        field::put_signed(s, p, w, z);
-        return;
+    if e / 128 == 0 {
+        return true;
     }
-    field::put_field(s, p, w, field::magnitude(z));
-}
-
-// The values of the fields of a layout from bit p of s on, into the first places of out.
-fn read_all(s: &[u8], p: usize, layout: &[u64], out: &mut [i64])
-    requires { ⌜ (p + total (now layout) ≤ 8 * length (now s)) × ((p + total (now layout) ≤ 65535) × (length (now layout) ≤ length (now out))) ⌝ }
-    ensures { λ _. ⌜ now (out .exit) ≡ decodeAll (now (layout .entry)) p (now (s .entry)) ++ drop (length (now (layout .entry))) (now (out .entry)) ⌝ }
-{
-    let mut at = p;
-    let mut i: usize = 0;
-    while i < layout.len() {
-        let e = layout[i];
-        out[i] = read_value(s, at, e);
-        at += (e % 64) as usize;
-        i += 1;
-    }
-}
-
-// The values into the fields of a layout from bit p of s on.
-fn write_all(s: &mut [u8], p: usize, layout: &[u64], values: &[i64])
-    requires { ⌜ (p + total (now layout) ≤ 8 * length (now s)) × ((p + total (now layout) ≤ 65535) × (T (allTake (now layout) (now values)))) ⌝ }
-    ensures { λ _. ⌜ now (s .exit) ≡ encodeInto (now (layout .entry)) (now (values .entry)) p (now (s .entry)) ⌝ }
-{
-    let mut at = p;
-    let mut i: usize = 0;
-    while i < layout.len() {
-        let e = layout[i];
-        write_value(s, at, e, values[i]);
-        at += (e % 64) as usize;
-        i += 1;
+    let r = read_entry(s, p, e);
+    match r {
+        field::Reading::Value(z) => takes_value(e, z),
+        field::Reading::Absent => e / 64 % 2 == 1,
     }
 }
 
@@ -127,23 +84,14 @@ fn total_bits(layout: &[u64]) -> usize
     n
 }
 
-// Whether each field of a layout takes its value.
-pub fn all_take(layout: &[u64], values: &[i64]) -> bool
-    ensures { λ r. ⌜ r ≡ allTake (now (layout .entry)) (now (values .entry)) ⌝ }
+// The same; 0 for more than 96 entries.
+pub fn bits_of(layout: &[u64]) -> usize
+    ensures { λ r. ⌜ r ≡ bitsOf (now (layout .entry)) ⌝ }
 {
-    if layout.len() != values.len() {
-        return false;
+    if 96 < layout.len() {
+        return 0;
     }
-    let mut i: usize = 0;
-    while i < layout.len() {
-        let ok = takes_value(layout[i], values[i]);
-        if ok {
-            i += 1;
-        } else {
-            return false;
-        }
-    }
-    true
+    total_bits(layout)
 }
 
 // Whether the bits of s from bit p on are zero: fewer than 8 of them.
@@ -152,6 +100,181 @@ fn fill_is_zero(s: &[u8], p: usize) -> bool
     ensures { λ r. ⌜ r ≡ zeroFrom (now (s .entry)) p ⌝ }
 {
     field::field_at(s, p, s.len() * 8 - p) == 0
+}
+
+// Whether each field of a layout takes what it says.
+fn all_in_range(s: &[u8], layout: &[u64]) -> bool
+    requires { ⌜ (total (now layout) ≤ 8 * length (now s)) × (length (now layout) ≤ 96) ⌝ }
+    ensures { λ r. ⌜ r ≡ allTake (now (layout .entry)) (decodeAll (now (layout .entry)) 0 (now (s .entry))) ⌝ }
+{
+    let mut at: usize = 0;
+    let mut i: usize = 0;
+    while i < layout.len() {
+        let e = layout[i];
+        let taken = takes_read(s, at, e);
+        if taken {
+            at += (e % 64) as usize;
+            i += 1;
+        } else {
+            return false;
+        }
+    }
+    true
+}
+
+// Why s is no message of a layout, 3 LENGTH, 4 FILL or 5 RANGE; or 0.
+pub fn check(s: &[u8], layout: &[u64]) -> u8
+    ensures { λ r. ⌜ r ≡ refusalOf (now (layout .entry)) (now (s .entry)) ⌝ }
+{
+    if 96 < layout.len() {
+        return 3;
+    }
+    let n = total_bits(layout);
+    if s.len() != (n + 7) / 8 {
+        return 3;
+    }
+    if !fill_is_zero(s, n) {
+        return 4;
+    }
+    if !all_in_range(s, layout) {
+        return 5;
+    }
+    0
+}
+
+// Whether each entry takes what its field at its bit says.
+fn places_in_range(s: &[u8], starts: &[u64], entries: &[u64]) -> bool
+    ensures { λ r. ⌜ r ≡ placesTake (now (starts .entry)) (now (entries .entry)) (now (s .entry)) ⌝ }
+{
+    let mut i: usize = 0;
+    while i < starts.len() {
+        if i < entries.len() {
+            let taken = takes_read(s, starts[i] as usize, entries[i]);
+            if taken {
+                i += 1;
+            } else {
+                return false;
+            }
+        } else {
+            return true;
+        }
+    }
+    true
+}
+
+// Why s is no message of so many bits of which the fields at the bits `starts` have the ranges of `entries`: 3 LENGTH, 4 FILL or 5 RANGE; or 0.
+pub fn check_places(s: &[u8], bits: usize, starts: &[u64], entries: &[u64]) -> u8
+    ensures { λ r. ⌜ r ≡ placesRefusal bits (now (starts .entry)) (now (entries .entry)) (now (s .entry)) ⌝ }
+{
+    if 65535 < bits {
+        return 3;
+    }
+    if s.len() != (bits + 7) / 8 {
+        return 3;
+    }
+    if !fill_is_zero(s, bits) {
+        return 4;
+    }
+    if !places_in_range(s, starts, entries) {
+        return 5;
+    }
+    0
+}
+
+// The value of what is said; 0 where there is none.
+pub fn value_in(r: field::Reading) -> i64
+    ensures { λ x. ⌜ x ≡ valueIn r ⌝ }
+{
+    match r {
+        field::Reading::Value(z) => z,
+        field::Reading::Absent => 0,
+    }
+}
+
+// 1 where a value is said, 0 where there is none.
+pub fn present_in(r: field::Reading) -> u8
+    ensures { λ x. ⌜ x ≡ presentIn r ⌝ }
+{
+    match r {
+        field::Reading::Value(_) => 1,
+        field::Reading::Absent => 0,
+    }
+}
+
+// What a value and its byte say.
+pub fn reading_in(z: i64, b: u8) -> field::Reading
+    ensures { λ r. ⌜ r ≡ readingIn z b ⌝ }
+{
+    if b == 1 {
+        return field::Reading::Value(z);
+    }
+    field::Reading::Absent
+}
+
+// Whether entry e takes what a value and its byte say.
+fn takes_place(e: u64, z: i64, b: u8) -> bool
+    ensures { λ r. ⌜ r ≡ placeTakes e z b ⌝ }
+{
+    if b == 1 {
+        return takes_value(e, z);
+    }
+    if b != 0 {
+        return false;
+    }
+    if z != 0 {
+        return false;
+    }
+    e / 64 % 2 == 1
+}
+
+// Whether each field of a layout takes its place of a row.
+pub fn row_taken(layout: &[u64], values: &[i64], present: &[u8]) -> bool
+    ensures { λ r. ⌜ r ≡ rowTakes (now (layout .entry)) (now (values .entry)) (now (present .entry)) ⌝ }
+{
+    if layout.len() != values.len() {
+        return false;
+    }
+    if layout.len() != present.len() {
+        return false;
+    }
+    let mut i: usize = 0;
+    while i < layout.len() {
+        let taken = takes_place(layout[i], values[i], present[i]);
+        if taken {
+            i += 1;
+        } else {
+            return false;
+        }
+    }
+    true
+}
+
+// s with what a value and its byte say in the field of entry e at bit p.
+fn write_entry(s: &mut [u8], p: usize, e: u64, z: i64, b: u8)
+    requires { ⌜ (p + width e ≤ 8 * length (now s)) × ((p ≤ 65535) × (T (placeTakes e z b))) ⌝ }
+    ensures { λ _. ⌜ now (s .exit) ≡ setField (now (s .entry)) p (width e) (patternOf (width e) (readingIn z b)) ⌝ }
+{
+    let w = (e % 64) as usize;
+    if e / 64 % 2 == 1 {
+        field::put_signed(s, p, w, reading_in(z, b));
+        return;
+    }
+    field::put_field(s, p, w, field::magnitude(z));
+}
+
+// What a row says into the fields of a layout.
+fn write_all(s: &mut [u8], layout: &[u64], values: &[i64], present: &[u8])
+    requires { ⌜ (total (now layout) ≤ 8 * length (now s)) × ((length (now layout) ≤ 96) × (T (rowTakes (now layout) (now values) (now present)))) ⌝ }
+    ensures { λ _. ⌜ now (s .exit) ≡ encodeInto (now (layout .entry)) (rowOf (now (values .entry)) (now (present .entry))) 0 (now (s .entry)) ⌝ }
+{
+    let mut at: usize = 0;
+    let mut i: usize = 0;
+    while i < layout.len() {
+        let e = layout[i];
+        write_entry(s, at, e, values[i], present[i]);
+        at += (e % 64) as usize;
+        i += 1;
+    }
 }
 
 // The first n bytes of out made zero.
@@ -167,62 +290,12 @@ fn clear(out: &mut [u8], n: usize)
 }
 
 // The bytes of a message in the first bytes of out.
-fn write_message(out: &mut [u8], layout: &[u64], values: &[i64], n: usize)
-    requires { ⌜ (n ≡ size (now layout)) × ((length (now layout) ≤ 96) × ((n ≤ length (now out)) × (T (allTake (now layout) (now values))))) ⌝ }
-    ensures { λ _. ⌜ now (out .exit) ≡ encodeAll (now (layout .entry)) (now (values .entry)) ++ drop n (now (out .entry)) ⌝ }
+fn write_message(out: &mut [u8], layout: &[u64], values: &[i64], present: &[u8], n: usize)
+    requires { ⌜ (n ≡ size (now layout)) × ((length (now layout) ≤ 96) × ((n ≤ length (now out)) × (T (rowTakes (now layout) (now values) (now present))))) ⌝ }
+    ensures { λ _. ⌜ now (out .exit) ≡ encodeAll (now (layout .entry)) (rowOf (now (values .entry)) (now (present .entry))) ++ drop n (now (out .entry)) ⌝ }
 {
     clear(out, n);
-    write_all(out, 0, layout, values);
-}
-
-// A message's values in wire order, and zeros behind them; all zero with a refusal.
-pub struct Row {
-    pub values: [i64; 96],
-    pub refusal: u8,
-}
-
-fn refused(refusal: u8) -> Row
-    ensures { λ r. ⌜ (r .refusal ≡ refusal) × (r .values ≡ padded []) ⌝ }
-{
-    Row {
-        refusal,
-        values: [0i64; 96],
-    }
-}
-
-// The values of the fields of a layout, and zeros up to 96.
-fn values_of(s: &[u8], layout: &[u64]) -> [i64; 96]
-    requires { ⌜ (total (now layout) ≤ 8 * length (now s)) × (length (now layout) ≤ 96) ⌝ }
-    ensures { λ r. ⌜ r ≡ padded (decodeAll (now (layout .entry)) 0 (now (s .entry))) ⌝ }
-{
-    let mut out = [0i64; 96];
-    read_all(s, 0, layout, &mut out);
-    out
-}
-
-// What s is by a layout: its values, or 3 LENGTH, 4 FILL, 5 RANGE.
-pub fn decode(s: &[u8], layout: &[u64]) -> Row
-    ensures { λ r. ⌜ r ≡ decoded (now (layout .entry)) (now (s .entry)) ⌝ }
-{
-    if 96 < layout.len() {
-        return refused(3);
-    }
-    let n = total_bits(layout);
-    if s.len() != (n + 7) / 8 {
-        return refused(3);
-    }
-    if !fill_is_zero(s, n) {
-        return refused(4);
-    }
-    let v = values_of(s, layout);
-    let k = layout.len();
-    if !all_take(layout, &v[..k]) {
-        return refused(5);
-    }
-    Row {
-        refusal: 0,
-        values: v,
-    }
+    write_all(out, layout, values, present);
 }
 
 // What a writer answers: the message's length, or 0 with a refusal.
@@ -232,10 +305,10 @@ pub struct Written {
     pub length: usize,
 }
 
-// The message of the values in the first bytes of out, or 5 RANGE, 6 ROOM.
-pub fn encode(layout: &[u64], values: &[i64], out: &mut [u8]) -> Written
-    ensures answer { λ r. ⌜ r ≡ answered (encodeRefusal (now (layout .entry)) (now (values .entry)) (length (now (out .entry)))) (encodeAll (now (layout .entry)) (now (values .entry))) ⌝ }
-    ensures output { λ r. ⌜ now (out .exit) ≡ stored (encodeRefusal (now (layout .entry)) (now (values .entry)) (length (now (out .entry)))) (encodeAll (now (layout .entry)) (now (values .entry))) (now (out .entry)) ⌝ }
+// The message of a row in the first bytes of out, or 5 RANGE, 6 ROOM.
+pub fn encode(layout: &[u64], values: &[i64], present: &[u8], out: &mut [u8]) -> Written
+    ensures answer { λ r. ⌜ r ≡ answered (encodeRefusal (now (layout .entry)) (now (values .entry)) (now (present .entry)) (length (now (out .entry)))) (encodeAll (now (layout .entry)) (rowOf (now (values .entry)) (now (present .entry)))) ⌝ }
+    ensures output { λ r. ⌜ now (out .exit) ≡ stored (encodeRefusal (now (layout .entry)) (now (values .entry)) (now (present .entry)) (length (now (out .entry)))) (encodeAll (now (layout .entry)) (rowOf (now (values .entry)) (now (present .entry)))) (now (out .entry)) ⌝ }
 {
     if 96 < layout.len() {
         return Written {
@@ -243,7 +316,7 @@ pub fn encode(layout: &[u64], values: &[i64], out: &mut [u8]) -> Written
             length: 0,
         };
     }
-    if !all_take(layout, values) {
+    if !row_taken(layout, values, present) {
         return Written {
             refusal: 5,
             length: 0,
@@ -256,7 +329,7 @@ pub fn encode(layout: &[u64], values: &[i64], out: &mut [u8]) -> Written
             length: 0,
         };
     }
-    write_message(out, layout, values, n);
+    write_message(out, layout, values, present, n);
     Written {
         refusal: 0,
         length: n,

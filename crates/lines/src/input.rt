@@ -3,7 +3,7 @@ use libc::STDIN_FILENO;
 
 pub type Chunk = [u8; 4096];
 
-pub type Line = [u8; 600];
+pub type Line = [u8; 900];
 
 // The bytes of a chunk that are not used up: those from `from` on, below `end`.
 pub struct Place {
@@ -11,7 +11,7 @@ pub struct Place {
     pub end: usize,
 }
 
-// A line's length without its newline, 601 for a longer one, and the place behind it; `ended` where there is no further line.
+// A line's length without its newline, 901 for a longer one, and the place behind it; `ended` where there is no further line.
 pub struct Got {
     pub ended: bool,
     pub length: usize,
@@ -45,7 +45,7 @@ fn byte_at(chunk: &Chunk, from: usize) -> u8 {
 
 // A byte of the line, or no store behind its room.
 fn keep(line: &mut Line, k: usize, b: u8) {
-    if k < 600 {
+    if k < 900 {
         line[k] = b;
     }
 }
@@ -82,7 +82,7 @@ fn behind(place: Place) -> Place {
 }
 
 fn taken(k: usize, ended: bool, place: Place) -> Got {
-    if k <= 600 {
+    if k <= 900 {
         return Got {
             ended,
             length: k,
@@ -91,7 +91,7 @@ fn taken(k: usize, ended: bool, place: Place) -> Got {
     }
     Got {
         ended,
-        length: 601,
+        length: 901,
         place,
     }
 }

@@ -122,3 +122,11 @@ fn glyph(n: u8) -> u8 {
     }
     b'?'
 }
+
+// REFUSAL LENGTH : BUFFER, what a writer answered and the whole buffer after it.
+pub fn put_written(out: &mut Out, at: usize, refusal: u8, length: usize, buffer: &[u8]) -> usize {
+    let to = put_field(out, at, refusal as u64);
+    let to = put_field(out, to, length as u64);
+    let to = put_all(out, to, b": ");
+    put_hex(out, to, buffer)
+}

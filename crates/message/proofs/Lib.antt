@@ -1,2 +1,3 @@
 pub mod RecordNumbers
+pub mod NamedRows
 pub mod RecordTrips

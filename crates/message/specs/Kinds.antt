@@ -3,7 +3,6 @@
 use Prim.Native.Nat.{ℕ}
 use mathlib.Core.Bool.{Bool, true, _&&_}
 use mathlib.Core.List.{List}
-use Rattle.arith.specs.Row.{at}
 use Rattle.transformation_records.specs.declared.Name.{Name}
 use Rattle.transformation_records.specs.declared.Helmert.{Helmert}
 use Rattle.transformation_records.specs.declared.MolodenskiBadekas.{MolodenskiBadekas}
@@ -14,6 +13,7 @@ use Rattle.projection_records.specs.declared.ObliqueMercator.{ObliqueMercator}
 use Rattle.transformation_records.specs.Transformations.{goodName, helmertOf, helmertRow, molodenskiBadekasOf, molodenskiBadekasRow}
 use Rattle.grid_records.specs.Grids.{gridOf, gridRow}
 use Rattle.projection_records.specs.Projections.{projectionOf, projectionRow, lambertOf, lambertRow, obliqueMercatorOf, obliqueMercatorRow}
+use Rattle.row.specs.Numbers.{says, valuesOf, presentOf}
 use Rattle.wire.specs.Message.{kindRefusal, kindRow, rowHeld, Outcome, writeKind}
 use Rattle.message.specs.declared.HelmertRead.{HelmertRead}
 use Rattle.message.specs.declared.MolodenskiBadekasRead.{MolodenskiBadekasRead}
@@ -22,25 +22,25 @@ use Rattle.message.specs.declared.ProjectionRead.{ProjectionRead}
 use Rattle.message.specs.declared.LambertRead.{LambertRead}
 use Rattle.message.specs.declared.ObliqueMercatorRead.{ObliqueMercatorRead}
 
--- ---- reading: with a refusal every field of the record is zero
+-- ---- reading: with a refusal every field of the record is zero, a signed one the value 0
 
 unfoldable pub readHelmert : List ℕ → HelmertRead
-readHelmert s = record { refusal = kindRefusal 1021 1021 s; value = helmertOf (at (kindRow 1021 1021 s)) }
+readHelmert s = record { refusal = kindRefusal 1021 1021 s; value = helmertOf (says (kindRow 1021 1021 s)) }
 
 unfoldable pub readMolodenskiBadekas : List ℕ → MolodenskiBadekasRead
-readMolodenskiBadekas s = record { refusal = kindRefusal 1022 1022 s; value = molodenskiBadekasOf (at (kindRow 1022 1022 s)) }
+readMolodenskiBadekas s = record { refusal = kindRefusal 1022 1022 s; value = molodenskiBadekasOf (says (kindRow 1022 1022 s)) }
 
 unfoldable pub readGrid : List ℕ → GridRead
-readGrid s = record { refusal = kindRefusal 1023 1024 s; value = gridOf (at (kindRow 1023 1024 s)) }
+readGrid s = record { refusal = kindRefusal 1023 1024 s; value = gridOf (says (kindRow 1023 1024 s)) }
 
 unfoldable pub readProjection : List ℕ → ProjectionRead
-readProjection s = record { refusal = kindRefusal 1025 1025 s; value = projectionOf (at (kindRow 1025 1025 s)) }
+readProjection s = record { refusal = kindRefusal 1025 1025 s; value = projectionOf (says (kindRow 1025 1025 s)) }
 
 unfoldable pub readLambert : List ℕ → LambertRead
-readLambert s = record { refusal = kindRefusal 1026 1026 s; value = lambertOf (at (kindRow 1026 1026 s)) }
+readLambert s = record { refusal = kindRefusal 1026 1026 s; value = lambertOf (says (kindRow 1026 1026 s)) }
 
 unfoldable pub readObliqueMercator : List ℕ → ObliqueMercatorRead
-readObliqueMercator s = record { refusal = kindRefusal 1027 1027 s; value = obliqueMercatorOf (at (kindRow 1027 1027 s)) }
+readObliqueMercator s = record { refusal = kindRefusal 1027 1027 s; value = obliqueMercatorOf (says (kindRow 1027 1027 s)) }
 
 -- ---- writing: what is answered, and the output afterwards
 
@@ -49,24 +49,24 @@ abbrev pub goodNames : Name → Name → Bool
 goodNames source target = goodName source && goodName target
 
 abbrev pub writeHelmert : Helmert → List ℕ → Outcome
-writeHelmert r out = writeKind 1021 1021 (goodNames (r .source) (r .target)) (helmertRow r) out
+writeHelmert r out = writeKind 1021 1021 (goodNames (r .source) (r .target)) (valuesOf (helmertRow r)) (presentOf (helmertRow r)) out
 
 abbrev pub writeMolodenskiBadekas : MolodenskiBadekas → List ℕ → Outcome
-writeMolodenskiBadekas r out = writeKind 1022 1022 (goodNames (r .source) (r .target)) (molodenskiBadekasRow r) out
+writeMolodenskiBadekas r out = writeKind 1022 1022 (goodNames (r .source) (r .target)) (valuesOf (molodenskiBadekasRow r)) (presentOf (molodenskiBadekasRow r)) out
 
 abbrev pub writeGrid : Grid → List ℕ → Outcome
-writeGrid r out = writeKind 1023 1024 true (gridRow r) out
+writeGrid r out = writeKind 1023 1024 true (valuesOf (gridRow r)) (presentOf (gridRow r)) out
 
 abbrev pub writeProjection : Projection → List ℕ → Outcome
-writeProjection r out = writeKind 1025 1025 true (projectionRow r) out
+writeProjection r out = writeKind 1025 1025 true (valuesOf (projectionRow r)) (presentOf (projectionRow r)) out
 
 abbrev pub writeLambert : Lambert → List ℕ → Outcome
-writeLambert r out = writeKind 1026 1026 true (lambertRow r) out
+writeLambert r out = writeKind 1026 1026 true (valuesOf (lambertRow r)) (presentOf (lambertRow r)) out
 
 abbrev pub writeObliqueMercator : ObliqueMercator → List ℕ → Outcome
-writeObliqueMercator r out = writeKind 1027 1027 true (obliqueMercatorRow r) out
+writeObliqueMercator r out = writeKind 1027 1027 true (valuesOf (obliqueMercatorRow r)) (presentOf (obliqueMercatorRow r)) out
 
 -- ---- a grid record that a message holds
 
 abbrev pub gridHeld : Grid → Bool
-gridHeld g = rowHeld 1023 1024 (gridRow g)
+gridHeld g = rowHeld 1023 1024 (valuesOf (gridRow g)) (presentOf (gridRow g))

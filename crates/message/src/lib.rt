@@ -1,7 +1,24 @@
 // Records of messages 1021 to 1027, read and written, one kind each.
 use layout::Written;
+use row::Numbers;
 ghost use mathlib.Core.Path.{_≡_};
+ghost use Prim.Native.Nat.{_≤_};
+ghost use lib.ListN.{length, take};
+ghost use Rattle.wire.specs.Message.{writeKind};
 ghost use Rattle.message.specs.Kinds.{readHelmert, writeHelmert, readMolodenskiBadekas, writeMolodenskiBadekas, readGrid, writeGrid, gridHeld, readProjection, writeProjection, readLambert, writeLambert, readObliqueMercator, writeObliqueMercator};
+
+// The message of a record's row, where it stands in the first places of both buffers.
+fn write_numbers(n: Numbers, lo: u64, hi: u64, out: &mut [u8]) -> Written
+    requires { ⌜ (n .count ≤ length (n .values)) × (n .count ≤ length (n .present)) ⌝ }
+    ensures answer { λ w. ⌜ w ≡ writeKind lo hi (n .good) (take (n .count) (n .values)) (take (n .count) (n .present)) (now (out .entry)) .answer ⌝ }
+    ensures output { λ w. ⌜ now (out .exit) ≡ writeKind lo hi (n .good) (take (n .count) (n .values)) (take (n .count) (n .present)) (now (out .entry)) .output ⌝ }
+{
+    let good = n.good;
+    let values = n.values;
+    let present = n.present;
+    let k = n.count;
+    wire::write_kind(good, &values[..k], &present[..k], lo, hi, out)
+}
 
 // A 1021 as a record; all zero with a refusal.
 pub struct HelmertRead {
@@ -12,12 +29,12 @@ pub struct HelmertRead {
 pub fn read_helmert(s: &[u8]) -> HelmertRead
     ensures { λ r. ⌜ r ≡ readHelmert (now (s .entry)) ⌝ }
 {
-    let r = wire::read_kind(s, 1021, 1021);
-    let refusal = r.refusal;
-    let values = r.values;
+    let mut values = [0i64; 96];
+    let mut present = [1u8; 96];
+    let refusal = wire::read_kind(s, 1021, 1021, &mut values, &mut present);
     HelmertRead {
         refusal,
-        value: transformation_records::helmert_of(&values),
+        value: transformation_records::helmert_of(&values, &present),
     }
 }
 
@@ -25,11 +42,8 @@ pub fn write_helmert(r: transformation_records::Helmert, out: &mut [u8]) -> Writ
     ensures answer { λ w. ⌜ w ≡ writeHelmert r (now (out .entry)) .answer ⌝ }
     ensures output { λ w. ⌜ now (out .exit) ≡ writeHelmert r (now (out .entry)) .output ⌝ }
 {
-    let n = transformation_records::helmert_row(r);
-    let good = n.good;
-    let values = n.values;
-    let k = n.count;
-    wire::write_kind(good, &values[..k], 1021, 1021, out)
+    let n = transformation_rows::helmert_row(r);
+    write_numbers(n, 1021, 1021, out)
 }
 
 // A 1022 as a record; all zero with a refusal.
@@ -41,12 +55,12 @@ pub struct MolodenskiBadekasRead {
 pub fn read_molodenski_badekas(s: &[u8]) -> MolodenskiBadekasRead
     ensures { λ r. ⌜ r ≡ readMolodenskiBadekas (now (s .entry)) ⌝ }
 {
-    let r = wire::read_kind(s, 1022, 1022);
-    let refusal = r.refusal;
-    let values = r.values;
+    let mut values = [0i64; 96];
+    let mut present = [1u8; 96];
+    let refusal = wire::read_kind(s, 1022, 1022, &mut values, &mut present);
     MolodenskiBadekasRead {
         refusal,
-        value: transformation_records::molodenski_badekas_of(&values),
+        value: transformation_records::molodenski_badekas_of(&values, &present),
     }
 }
 
@@ -57,11 +71,8 @@ pub fn write_molodenski_badekas(
     ensures answer { λ w. ⌜ w ≡ writeMolodenskiBadekas r (now (out .entry)) .answer ⌝ }
     ensures output { λ w. ⌜ now (out .exit) ≡ writeMolodenskiBadekas r (now (out .entry)) .output ⌝ }
 {
-    let n = transformation_records::molodenski_badekas_row(r);
-    let good = n.good;
-    let values = n.values;
-    let k = n.count;
-    wire::write_kind(good, &values[..k], 1022, 1022, out)
+    let n = transformation_rows::molodenski_badekas_row(r);
+    write_numbers(n, 1022, 1022, out)
 }
 
 // A 1023 or 1024 as a record; all zero with a refusal.
@@ -73,12 +84,12 @@ pub struct GridRead {
 pub fn read_grid(s: &[u8]) -> GridRead
     ensures { λ r. ⌜ r ≡ readGrid (now (s .entry)) ⌝ }
 {
-    let r = wire::read_kind(s, 1023, 1024);
-    let refusal = r.refusal;
-    let values = r.values;
+    let mut values = [0i64; 96];
+    let mut present = [1u8; 96];
+    let refusal = wire::read_kind(s, 1023, 1024, &mut values, &mut present);
     GridRead {
         refusal,
-        value: grid_records::grid_of(&values),
+        value: grid_records::grid_of(&values, &present),
     }
 }
 
@@ -87,10 +98,7 @@ pub fn write_grid(r: grid_records::Grid, out: &mut [u8]) -> Written
     ensures output { λ w. ⌜ now (out .exit) ≡ writeGrid r (now (out .entry)) .output ⌝ }
 {
     let n = grid_records::grid_row(r);
-    let good = n.good;
-    let values = n.values;
-    let k = n.count;
-    wire::write_kind(good, &values[..k], 1023, 1024, out)
+    write_numbers(n, 1023, 1024, out)
 }
 
 // Whether a message 1023 or 1024 holds the record.
@@ -99,8 +107,9 @@ pub fn grid_held(r: grid_records::Grid) -> bool
 {
     let n = grid_records::grid_row(r);
     let values = n.values;
+    let present = n.present;
     let k = n.count;
-    wire::row_held(&values[..k], 1023, 1024)
+    wire::row_held(&values[..k], &present[..k], 1023, 1024)
 }
 
 // A 1025 as a record; all zero with a refusal.
@@ -112,12 +121,12 @@ pub struct ProjectionRead {
 pub fn read_projection(s: &[u8]) -> ProjectionRead
     ensures { λ r. ⌜ r ≡ readProjection (now (s .entry)) ⌝ }
 {
-    let r = wire::read_kind(s, 1025, 1025);
-    let refusal = r.refusal;
-    let values = r.values;
+    let mut values = [0i64; 96];
+    let mut present = [1u8; 96];
+    let refusal = wire::read_kind(s, 1025, 1025, &mut values, &mut present);
     ProjectionRead {
         refusal,
-        value: projection_records::projection_of(&values),
+        value: projection_records::projection_of(&values, &present),
     }
 }
 
@@ -126,10 +135,7 @@ pub fn write_projection(r: projection_records::Projection, out: &mut [u8]) -> Wr
     ensures output { λ w. ⌜ now (out .exit) ≡ writeProjection r (now (out .entry)) .output ⌝ }
 {
     let n = projection_records::projection_row(r);
-    let good = n.good;
-    let values = n.values;
-    let k = n.count;
-    wire::write_kind(good, &values[..k], 1025, 1025, out)
+    write_numbers(n, 1025, 1025, out)
 }
 
 // A 1026 as a record; all zero with a refusal.
@@ -141,12 +147,12 @@ pub struct LambertRead {
 pub fn read_lambert(s: &[u8]) -> LambertRead
     ensures { λ r. ⌜ r ≡ readLambert (now (s .entry)) ⌝ }
 {
-    let r = wire::read_kind(s, 1026, 1026);
-    let refusal = r.refusal;
-    let values = r.values;
+    let mut values = [0i64; 96];
+    let mut present = [1u8; 96];
+    let refusal = wire::read_kind(s, 1026, 1026, &mut values, &mut present);
     LambertRead {
         refusal,
-        value: projection_records::lambert_of(&values),
+        value: projection_records::lambert_of(&values, &present),
     }
 }
 
@@ -155,10 +161,7 @@ pub fn write_lambert(r: projection_records::Lambert, out: &mut [u8]) -> Written
     ensures output { λ w. ⌜ now (out .exit) ≡ writeLambert r (now (out .entry)) .output ⌝ }
 {
     let n = projection_records::lambert_row(r);
-    let good = n.good;
-    let values = n.values;
-    let k = n.count;
-    wire::write_kind(good, &values[..k], 1026, 1026, out)
+    write_numbers(n, 1026, 1026, out)
 }
 
 // A 1027 as a record; all zero with a refusal.
@@ -170,12 +173,12 @@ pub struct ObliqueMercatorRead {
 pub fn read_oblique_mercator(s: &[u8]) -> ObliqueMercatorRead
     ensures { λ r. ⌜ r ≡ readObliqueMercator (now (s .entry)) ⌝ }
 {
-    let r = wire::read_kind(s, 1027, 1027);
-    let refusal = r.refusal;
-    let values = r.values;
+    let mut values = [0i64; 96];
+    let mut present = [1u8; 96];
+    let refusal = wire::read_kind(s, 1027, 1027, &mut values, &mut present);
     ObliqueMercatorRead {
         refusal,
-        value: projection_records::oblique_mercator_of(&values),
+        value: projection_records::oblique_mercator_of(&values, &present),
     }
 }
 
@@ -184,8 +187,5 @@ pub fn write_oblique_mercator(r: projection_records::ObliqueMercator, out: &mut 
     ensures output { λ w. ⌜ now (out .exit) ≡ writeObliqueMercator r (now (out .entry)) .output ⌝ }
 {
     let n = projection_records::oblique_mercator_row(r);
-    let good = n.good;
-    let values = n.values;
-    let k = n.count;
-    wire::write_kind(good, &values[..k], 1027, 1027, out)
+    write_numbers(n, 1027, 1027, out)
 }

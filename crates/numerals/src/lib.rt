@@ -20,6 +20,11 @@ pub type Bytes = [u8; 140];
 
 pub type Numbers = [i64; 100];
 
+// The two buffers of a row that a record is made from.
+pub type Values = [i64; 96];
+
+pub type Present = [u8; 96];
+
 // The value of a lower case hexadecimal digit, 16 for another byte.
 fn digit(b: u8) -> u8 {
     if b < b'0' {
@@ -195,4 +200,39 @@ pub fn first(row: &[i64], n: usize) -> &[i64] {
         return &row[0..n];
     }
     row
+}
+
+// A row that a line's words spell, its presence bytes and then its values, into the first places of both buffers: how many, of which the first 96 are stored.
+pub fn places(s: &[u8], values: &mut Values, present: &mut Present) -> Count {
+    let mut bytes = [0u8; 140];
+    let Count::Is(n) = hex(words::word(s), &mut bytes) else {
+        return Count::Bad;
+    };
+    let mut numbers = [0i64; 100];
+    let Count::Is(m) = row(words::rest(s), &mut numbers) else {
+        return Count::Bad;
+    };
+    if n != m {
+        return Count::Bad;
+    }
+    keep_places(&numbers, &bytes, n, values, present);
+    Count::Is(n)
+}
+
+// The first `n` places, at most 96.
+fn keep_places(
+    numbers: &Numbers,
+    bytes: &Bytes,
+    n: usize,
+    values: &mut Values,
+    present: &mut Present,
+) {
+    let mut k: usize = 0;
+    while k < 96 {
+        if k < n {
+            values[k] = numbers[k];
+            present[k] = bytes[k];
+        }
+        k += 1;
+    }
 }

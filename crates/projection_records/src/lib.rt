@@ -1,154 +1,201 @@
-// The records of messages 1025, 1026 and 1027, from a row of raw numbers in wire order and back.
+// The records of messages 1025, 1026 and 1027, from a row in wire order and back.
+use field::Reading;
 use row::Numbers;
 ghost use mathlib.Core.Path.{_≡_};
 ghost use mathlib.Core.Bool.{true};
-ghost use Rattle.arith.specs.Row.{at};
-ghost use Rattle.row.specs.Numbers.{numbers};
+ghost use Rattle.layout.specs.Layout.{rowOf};
+ghost use Rattle.row.specs.Numbers.{says, numbers};
 ghost use Rattle.projection_records.specs.Projections.{projectionOf, projectionRow, lambertOf, lambertRow, obliqueMercatorOf, obliqueMercatorRow};
 
 // 1025.
 pub struct Projection {
-    pub number: i64,
-    pub sin: i64,
-    pub projection: i64,
-    pub latitude: i64,
-    pub longitude: i64,
-    pub scale: i64,
-    pub easting: i64,
-    pub northing: i64,
+    pub number: i64, // DF002
+    pub sin: i64, // DF147
+    pub projection: i64, // DF170
+    pub latitude: Reading, // DF171
+    pub longitude: Reading, // DF172
+    pub scale: i64, // DF173
+    pub easting: i64, // DF174
+    pub northing: Reading, // DF175
 }
 
 // 1026.
 pub struct Lambert {
-    pub number: i64,
-    pub sin: i64,
-    pub projection: i64,
-    pub latitude: i64,
-    pub longitude: i64,
-    pub parallel1: i64,
-    pub parallel2: i64,
-    pub easting: i64,
-    pub northing: i64,
+    pub number: i64, // DF002
+    pub sin: i64, // DF147
+    pub projection: i64, // DF170
+    pub latitude: Reading, // DF176
+    pub longitude: Reading, // DF177
+    pub parallel1: Reading, // DF178
+    pub parallel2: Reading, // DF179
+    pub easting: i64, // DF180
+    pub northing: Reading, // DF181
 }
 
 // 1027.
 pub struct ObliqueMercator {
-    pub number: i64,
-    pub sin: i64,
-    pub projection: i64,
-    pub rectified: i64,
-    pub latitude: i64,
-    pub longitude: i64,
-    pub azimuth: i64,
-    pub difference: i64,
-    pub scale: i64,
-    pub easting: i64,
-    pub northing: i64,
+    pub number: i64, // DF002
+    pub sin: i64, // DF147
+    pub projection: i64, // DF170
+    pub rectified: i64, // DF182
+    pub latitude: Reading, // DF183
+    pub longitude: Reading, // DF184
+    pub azimuth: i64, // DF185
+    pub difference: Reading, // DF186
+    pub scale: i64, // DF187
+    pub easting: i64, // DF188
+    pub northing: Reading, // DF189
 }
 
-// 1025 from the numbers of a message.
-pub fn projection_of(v: &[i64; 96]) -> Projection
-    ensures { λ r. ⌜ r ≡ projectionOf (at (now (v .entry))) ⌝ }
+// 1025 from the row of a message.
+pub fn projection_of(values: &[i64; 96], present: &[u8; 96]) -> Projection
+    ensures { λ r. ⌜ r ≡ projectionOf (says (rowOf (now (values .entry)) (now (present .entry)))) ⌝ }
 {
     Projection {
-        number: row::number_at(v, 0),
-        sin: row::number_at(v, 1),
-        projection: row::number_at(v, 2),
-        latitude: row::number_at(v, 3),
-        longitude: row::number_at(v, 4),
-        scale: row::number_at(v, 5),
-        easting: row::number_at(v, 6),
-        northing: row::number_at(v, 7),
+        number: row::number_at(values, present, 0),
+        sin: row::number_at(values, present, 1),
+        projection: row::number_at(values, present, 2),
+        latitude: row::says_at(values, present, 3),
+        longitude: row::says_at(values, present, 4),
+        scale: row::number_at(values, present, 5),
+        easting: row::number_at(values, present, 6),
+        northing: row::says_at(values, present, 7),
     }
 }
 
-// 1026 from the numbers of a message.
-pub fn lambert_of(v: &[i64; 96]) -> Lambert
-    ensures { λ r. ⌜ r ≡ lambertOf (at (now (v .entry))) ⌝ }
+// 1026 from the row of a message.
+pub fn lambert_of(values: &[i64; 96], present: &[u8; 96]) -> Lambert
+    ensures { λ r. ⌜ r ≡ lambertOf (says (rowOf (now (values .entry)) (now (present .entry)))) ⌝ }
 {
     Lambert {
-        number: row::number_at(v, 0),
-        sin: row::number_at(v, 1),
-        projection: row::number_at(v, 2),
-        latitude: row::number_at(v, 3),
-        longitude: row::number_at(v, 4),
-        parallel1: row::number_at(v, 5),
-        parallel2: row::number_at(v, 6),
-        easting: row::number_at(v, 7),
-        northing: row::number_at(v, 8),
+        number: row::number_at(values, present, 0),
+        sin: row::number_at(values, present, 1),
+        projection: row::number_at(values, present, 2),
+        latitude: row::says_at(values, present, 3),
+        longitude: row::says_at(values, present, 4),
+        parallel1: row::says_at(values, present, 5),
+        parallel2: row::says_at(values, present, 6),
+        easting: row::number_at(values, present, 7),
+        northing: row::says_at(values, present, 8),
     }
 }
 
-// 1027 from the numbers of a message.
-pub fn oblique_mercator_of(v: &[i64; 96]) -> ObliqueMercator
-    ensures { λ r. ⌜ r ≡ obliqueMercatorOf (at (now (v .entry))) ⌝ }
+// 1027 from the row of a message.
+pub fn oblique_mercator_of(values: &[i64; 96], present: &[u8; 96]) -> ObliqueMercator
+    ensures { λ r. ⌜ r ≡ obliqueMercatorOf (says (rowOf (now (values .entry)) (now (present .entry)))) ⌝ }
 {
     ObliqueMercator {
-        number: row::number_at(v, 0),
-        sin: row::number_at(v, 1),
-        projection: row::number_at(v, 2),
-        rectified: row::number_at(v, 3),
-        latitude: row::number_at(v, 4),
-        longitude: row::number_at(v, 5),
-        azimuth: row::number_at(v, 6),
-        difference: row::number_at(v, 7),
-        scale: row::number_at(v, 8),
-        easting: row::number_at(v, 9),
-        northing: row::number_at(v, 10),
+        number: row::number_at(values, present, 0),
+        sin: row::number_at(values, present, 1),
+        projection: row::number_at(values, present, 2),
+        rectified: row::number_at(values, present, 3),
+        latitude: row::says_at(values, present, 4),
+        longitude: row::says_at(values, present, 5),
+        azimuth: row::number_at(values, present, 6),
+        difference: row::says_at(values, present, 7),
+        scale: row::number_at(values, present, 8),
+        easting: row::number_at(values, present, 9),
+        northing: row::says_at(values, present, 10),
     }
 }
 
-// The numbers of a 1025.
+// The row of a 1025.
 pub fn projection_row(r: Projection) -> Numbers
     ensures { λ n. ⌜ n ≡ numbers true (projectionRow r) ⌝ }
 {
-    let row = [
+    let latitude = r.latitude;
+    let longitude = r.longitude;
+    let northing = r.northing;
+    let values = [
         r.number,
         r.sin,
         r.projection,
-        r.latitude,
-        r.longitude,
+        layout::value_in(latitude),
+        layout::value_in(longitude),
         r.scale,
         r.easting,
-        r.northing,
+        layout::value_in(northing),
     ];
-    row::numbers_of(&row)
+    let present = [
+        1,
+        1,
+        1,
+        layout::present_in(latitude),
+        layout::present_in(longitude),
+        1,
+        1,
+        layout::present_in(northing),
+    ];
+    row::numbers_of(&values, &present)
 }
 
-// The numbers of a 1026.
+// The row of a 1026.
 pub fn lambert_row(r: Lambert) -> Numbers
     ensures { λ n. ⌜ n ≡ numbers true (lambertRow r) ⌝ }
 {
-    let row = [
+    let latitude = r.latitude;
+    let longitude = r.longitude;
+    let parallel1 = r.parallel1;
+    let parallel2 = r.parallel2;
+    let northing = r.northing;
+    let values = [
         r.number,
         r.sin,
         r.projection,
-        r.latitude,
-        r.longitude,
-        r.parallel1,
-        r.parallel2,
+        layout::value_in(latitude),
+        layout::value_in(longitude),
+        layout::value_in(parallel1),
+        layout::value_in(parallel2),
         r.easting,
-        r.northing,
+        layout::value_in(northing),
     ];
-    row::numbers_of(&row)
+    let present = [
+        1,
+        1,
+        1,
+        layout::present_in(latitude),
+        layout::present_in(longitude),
+        layout::present_in(parallel1),
+        layout::present_in(parallel2),
+        1,
+        layout::present_in(northing),
+    ];
+    row::numbers_of(&values, &present)
 }
 
-// The numbers of a 1027.
+// The row of a 1027.
 pub fn oblique_mercator_row(r: ObliqueMercator) -> Numbers
     ensures { λ n. ⌜ n ≡ numbers true (obliqueMercatorRow r) ⌝ }
 {
-    let row = [
+    let latitude = r.latitude;
+    let longitude = r.longitude;
+    let difference = r.difference;
+    let northing = r.northing;
+    let values = [
         r.number,
         r.sin,
         r.projection,
         r.rectified,
-        r.latitude,
-        r.longitude,
+        layout::value_in(latitude),
+        layout::value_in(longitude),
         r.azimuth,
-        r.difference,
+        layout::value_in(difference),
         r.scale,
         r.easting,
-        r.northing,
+        layout::value_in(northing),
     ];
-    row::numbers_of(&row)
+    let present = [
+        1,
+        1,
+        1,
+        1,
+        layout::present_in(latitude),
+        layout::present_in(longitude),
+        1,
+        layout::present_in(difference),
+        1,
+        1,
+        layout::present_in(northing),
+    ];
+    row::numbers_of(&values, &present)
 }

@@ -1,38 +1,73 @@
--- What the records of all messages share: v k is number k of a message in wire order, DF002 being number 0.
+-- What the records of all messages share: v k is what place k of a message's row says, DF002 standing at place 0.
 -- Assumes nothing.
-use Prim.Native.Nat.{ℕ, _+_}
+use Prim.Native.Nat.{ℕ, _+_, _-_}
 use mathlib.Core.Bool.{Bool, cond}
-use mathlib.Core.List.{List, [], _∷_}
+use mathlib.Core.List.{List, [], _∷_, _++_, map}
 use lib.Dec.{leb}
-use lib.ListN.{length}
+use lib.ListN.{length, getD, replicate}
 use lib.Seq.{paste}
-use lib.IntN.{ℤ}
+use lib.IntN.{ℤ, pos}
 use Rattle.arith.specs.Row.{padded}
 use Rattle.arith.specs.Whole.{natural}
+use Rattle.field.specs.declared.Reading.{Reading}
+use Rattle.field.specs.declared.Reading.the-variants.{Value}
+use Rattle.layout.specs.Layout.{valueIn, presentIn}
 use Rattle.row.specs.declared.Pair.{Pair}
 use Rattle.row.specs.declared.Numbers.{Numbers}
 
--- a name counter at number k, 0 where no counter has that value
-abbrev pub counterAt : (ℕ → ℤ) → ℕ → ℕ
-counterAt v k = cond (leb (natural (v k)) 31) (natural (v k)) 0
+-- ---- a row, and its two buffers
 
--- ---- a pair of indicators: from number k on, and as a row
+-- what place k of a row says: the value 0 behind its end
+abbrev pub says : List Reading → ℕ → Reading
+says v k = getD v k (Value (pos 0))
 
-unfoldable pub pairAt : (ℕ → ℤ) → ℕ → Pair
-pairAt v k = record { horizontal = v k; vertical = v (k + 1) }
+-- the values and the presence bytes of a row
+abbrev pub valuesOf : List Reading → List ℤ
+valuesOf v = map valueIn v
 
-unfoldable pub pairRow : Pair → List ℤ
-pairRow r = r .horizontal ∷ r .vertical ∷ []
+abbrev pub presentOf : List Reading → List ℕ
+presentOf v = map presentIn v
 
--- ---- the answer of a record's numbers: none of a bad name
+-- ---- unsigned fields
 
-unfoldable pub numbers : Bool → List ℤ → Numbers
-numbers good v = record { good = good; count = cond good (length v) 0; values = padded (cond good v []) }
+-- the number of an unsigned field at place k: its value
+abbrev pub numberAt : (ℕ → Reading) → ℕ → ℤ
+numberAt v k = valueIn (v k)
 
--- ---- the row s into the row d from place k on: the row then, as it was where there is no room, and the place behind s
+-- a name counter at place k, 0 where no counter has that value
+abbrev pub counterAt : (ℕ → Reading) → ℕ → ℕ
+counterAt v k = cond (leb (natural (numberAt v k)) 31) (natural (numberAt v k)) 0
 
-unfoldable pub appended : List ℤ → ℕ → List ℤ → List ℤ
+-- a pair of indicators: from place k on, and as a row
+unfoldable pub pairAt : (ℕ → Reading) → ℕ → Pair
+pairAt v k = record { horizontal = numberAt v k; vertical = numberAt v (k + 1) }
+
+unfoldable pub pairRow : Pair → List Reading
+pairRow r = Value (r .horizontal) ∷ Value (r .vertical) ∷ []
+
+-- ---- the answer of a record's row in both buffers: none of a bad name
+
+-- presence bytes, and ones up to 96 places: no message has more
+unfoldable pub marked : List ℕ → List ℕ
+marked b = b ++ replicate (96 - length b) 1
+
+-- values and presence bytes as the answer: none where they are not good
+unfoldable pub buffers : Bool → List ℤ → List ℕ → Numbers
+buffers good z b =
+    record {
+      good = good;
+      count = cond good (length z) 0;
+      values = padded (cond good z []);
+      present = marked (cond good b []);
+    }
+
+abbrev pub numbers : Bool → List Reading → Numbers
+numbers good v = buffers good (valuesOf v) (presentOf v)
+
+-- ---- the list s into the list d from place k on: the list then, as it was where there is no room, and the place behind s
+
+unfoldable pub appended : {A : Type 0} → List A → ℕ → List A → List A
 appended d k s = cond (leb (k + length s) (length d)) (paste d k s (length s)) d
 
-unfoldable pub placeBehind : List ℤ → ℕ → List ℤ → ℕ
+unfoldable pub placeBehind : {A : Type 0} → List A → ℕ → List A → ℕ
 placeBehind d k s = cond (leb (k + length s) (length d)) (k + length s) k

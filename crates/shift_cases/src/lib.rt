@@ -1,22 +1,12 @@
 // `NAME shift HEX COMPONENT NORTH EAST`: the shift from a grid message, and whether the one from its record is the same.
-use grid::Answer;
+// `NAME shiftof COMPONENT NORTH EAST PRESENT V1 .. Vn`: the shift from a record that is made from a row.
 use lines::output;
 use lines::output::Out;
-use numerals::Byte;
 use numerals::Bytes;
 use numerals::Count;
-use numerals::Integer;
-
-struct Place {
-    component: u8,
-    north: i64,
-    east: i64,
-}
-
-enum Asked {
-    Is(Place),
-    Bad,
-}
+use numerals::Present;
+use numerals::Values;
+use shift_texts::Asked;
 
 pub fn answer(given: &[u8], out: &mut Out, at: usize) -> usize {
     let mut bytes = [0u8; 140];
@@ -28,7 +18,12 @@ pub fn answer(given: &[u8], out: &mut Out, at: usize) -> usize {
 
 // All that is printed of the message in the first `n` bytes and of the component and the position that are given.
 fn put_case(bytes: &Bytes, n: usize, given: &[u8], out: &mut Out, at: usize) -> usize {
-    let Asked::Is(p) = place_of(given) else {
+    let rest = words::rest(given);
+    let Asked::Is(p) = shift_texts::place_of(
+        words::word(given),
+        words::word(rest),
+        words::rest(rest),
+    ) else {
         return output::put(out, at, b'?');
     };
     put_shift(
@@ -41,26 +36,41 @@ fn put_case(bytes: &Bytes, n: usize, given: &[u8], out: &mut Out, at: usize) -> 
     )
 }
 
-// The component and the position that are given.
-fn place_of(given: &[u8]) -> Asked {
-    let Byte::Is(component) = numerals::small(words::word(given)) else {
-        return Asked::Bad;
+// `NAME shiftof COMPONENT NORTH EAST PRESENT V1 .. Vn`
+pub fn answer_of(given: &[u8], out: &mut Out, at: usize) -> usize {
+    let rest = words::rest(given);
+    let behind = words::rest(rest);
+    let Asked::Is(p) = shift_texts::place_of(
+        words::word(given),
+        words::word(rest),
+        words::word(behind),
+    ) else {
+        return output::put(out, at, b'?');
     };
-    at_position(component, words::rest(given))
+    let mut values = [0i64; 96];
+    let mut present = [1u8; 96];
+    let Count::Is(_) = numerals::places(words::rest(behind), &mut values, &mut present) else {
+        return output::put(out, at, b'?');
+    };
+    put_record_shift(&values, &present, p.component, p.north, p.east, out, at)
 }
 
-fn at_position(component: u8, given: &[u8]) -> Asked {
-    let Integer::Is(north) = numerals::whole(words::word(given)) else {
-        return Asked::Bad;
-    };
-    let Integer::Is(east) = numerals::whole(words::rest(given)) else {
-        return Asked::Bad;
-    };
-    Asked::Is(Place {
-        component,
-        north,
-        east,
-    })
+// REFUSAL COUNT KIND VALUE from the record that is made from a row.
+fn put_record_shift(
+    values: &Values,
+    present: &Present,
+    component: u8,
+    north: i64,
+    east: i64,
+    out: &mut Out,
+    at: usize,
+) -> usize {
+    let g = grid_records::grid_of(values, present);
+    let r = grid::shift_of(g, component, north, east);
+    let refusal = r.refusal;
+    let count = r.count;
+    let kind = r.answer;
+    shift_texts::put_answer(refusal, count, kind, out, at)
 }
 
 // REFUSAL COUNT KIND VALUE, and whether the record's shift differs.
@@ -69,41 +79,11 @@ fn put_shift(s: &[u8], component: u8, north: i64, east: i64, out: &mut Out, at: 
     let refusal = r.refusal;
     let count = r.count;
     let kind = r.answer;
-    let to = put_answer(refusal, count, kind, out, at);
+    let to = shift_texts::put_answer(refusal, count, kind, out, at);
     if differs(s, component, north, east, refusal, count) {
         return output::put_all(out, to, b" differs");
     }
     to
-}
-
-// REFUSAL COUNT KIND VALUE
-fn put_answer(refusal: u8, count: i64, kind: Answer, out: &mut Out, at: usize) -> usize {
-    let to = output::put_field(out, at, refusal as u64);
-    let to = output::put_whole(out, to, count);
-    put_kind(kind, out, to)
-}
-
-// KIND and VALUE, with a space before each.
-fn put_kind(kind: Answer, out: &mut Out, at: usize) -> usize {
-    match kind {
-        Answer::Seconds(x) => put_float(b" seconds ", x, out, at),
-        Answer::Metres(x) => put_float(b" metres ", x, out, at),
-        Answer::Refused(n) => put_number(n, out, at),
-    }
-}
-
-fn put_number(n: u8, out: &mut Out, at: usize) -> usize {
-    let to = output::put_all(out, at, b" refused ");
-    output::put_small(out, to, n)
-}
-
-// A kind and the bits of its float as a whole number, `?` for a float that is no number.
-fn put_float(kind: &[u8], x: f64, out: &mut Out, at: usize) -> usize {
-    let to = output::put_all(out, at, kind);
-    if x != x {
-        return output::put(out, to, b'?');
-    }
-    output::put_natural(out, to, f64::to_bits(x))
 }
 
 // Whether the message has a record whose shift has another refusal or count.

@@ -1,4 +1,4 @@
 pub mod Natural
-pub mod Appends
+pub mod Parts
 pub mod Names
 pub mod Inverse

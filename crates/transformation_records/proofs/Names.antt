@@ -1,4 +1,4 @@
--- A name and the numbers that it is read from are each other's inverse.
+-- A name and the places that it is read from are each other's inverse.
 -- Assumes nothing.
 use Prim.Native.Nat.{ℕ, _+_, _-_, _%_, _≤_, _<_}
 use native.Mathlib.Nat.{add-zero}
@@ -9,25 +9,28 @@ use mathlib.Core.Bool.{Bool, true, false, _||_}
 use mathlib.Core.List.{List, _∷_, _++_}
 use borrow.Author.Tests.{le-ltb, ltb-false, le-leb, eq-eqb, eqb-true}
 use lib.Dec.{leb, ltb}
-use lib.IntN.{ℤ, pos}
+use lib.IntN.{pos}
 use lib.ListN.{length, getD, take, drop, replicate, length-drop, length-replicate, getD-replicate, take-append-drop, List·getD-append, List·getD-eq-default}
 use lib.Seq.{getD-take, getD-drop, ext-getD, length-take-le, getD-append-add}
-use Rattle.arith.specs.Row.{upTo, allBelow, at}
+use Rattle.arith.specs.Row.{upTo, allBelow}
 use Rattle.arith.specs.Whole.{natural}
 use Rattle.arith.proofs.Tests.{all-at, both-second}
 use Rattle.arith.proofs.Rows.{upTo-add, upTo-same, is-upTo, length-upTo, getD-upTo, getD-filled, all-true}
+use Rattle.field.specs.declared.Reading.{Reading}
+use Rattle.field.specs.declared.Reading.the-variants.{Value}
+use Rattle.layout.specs.Layout.{valueIn}
 use Rattle.transformation_records.specs.declared.Name.{Name}
-use Rattle.row.specs.Numbers.{counterAt}
+use Rattle.row.specs.Numbers.{says, numberAt, counterAt}
 use Rattle.transformation_records.specs.Transformations.{nameAt, nameRow, charAt, charGood, goodName}
 use Rattle.row.proofs.Rows.{counter-most}
-use Rattle.transformation_records.proofs.Appends.{good-length}
+use Rattle.transformation_records.proofs.Parts.{good-length}
 
 -- each used character is a byte
 abbrev pub Bytes : Name → Type 0
 Bytes n = (j : ℕ) → j < n .length → getD (n .chars) j 0 < 256
 
--- the numbers from place k on
-abbrev pub part : (ℕ → ℤ) → ℕ → ℕ → List ℤ
+-- the places from place k on
+abbrev pub part : (ℕ → Reading) → ℕ → ℕ → List Reading
 part v k n = upTo (λ j. v (k + j)) n
 
 -- ---- any name that is read is good
@@ -39,11 +42,11 @@ either : (a b : Bool) → (a ≡ false → b ≡ true) → (a || b) ≡ true
 either true b h = refl
 either false b h = h refl
 
-pub nameAt-good : (v : ℕ → ℤ) (k : ℕ) → goodName (nameAt v k) ≡ true
+pub nameAt-good : (v : ℕ → Reading) (k : ℕ) → goodName (nameAt v k) ≡ true
 unfolding goodName nameAt
 nameAt-good v k =
     let l = counterAt v k in
-    let f : ℕ → ℕ = λ j. natural (v (k + 1 + j)) % 256 in
+    let f : ℕ → ℕ = λ j. natural (numberAt v (k + 1 + j)) % 256 in
     let e = length-upTo f l in
     rw (le-leb l 31 (counter-most v k))
     (all-true (charGood (nameAt v k)) 31
@@ -51,10 +54,10 @@ nameAt-good v k =
     either (ltb j l) _
     (λ u. let m = ltb-false j l u in eq-eqb _ 0 (unused (upTo f l) (31 - l) j (omega arith)))))
 
--- ---- from a name to its numbers and back
+-- ---- from a name to its places and back
 
 -- a counter of 0 to 31
-pub counter-is : (v : ℕ → ℤ) (k n : ℕ) → v k ≡ pos n → n ≤ 31 → counterAt v k ≡ n
+pub counter-is : (v : ℕ → Reading) (k n : ℕ) → v k ≡ Value (pos n) → n ≤ 31 → counterAt v k ≡ n
 counter-is v k n e h = rw (e, le-leb n 31 h)
 
 good-zero : (n : Name) → goodName n ≡ true → (j : ℕ) → n .length ≤ j → j < 31 → getD (n .chars) j 0 ≡ 0
@@ -73,18 +76,18 @@ module _ (n : Name) (e : length (n .chars) ≡ 31) (b : Bytes n) (g : goodName n
       let l : j < 31 - n .length = omega arith in
       getD-replicate (31 - n .length) j 0 0 l ∙ sym (good-zero n g (n .length + j) (omega arith) (omega arith)) ∙ sym (getD-drop (n .length) (n .chars) j 0))
 
-  pub nameAt-is : (v : ℕ → ℤ) (k : ℕ) → v k ≡ pos (n .length) → ((j : ℕ) → j < n .length → v (k + 1 + j) ≡ charAt (n .chars) j) → nameAt v k ≡ n
+  pub nameAt-is : (v : ℕ → Reading) (k : ℕ) → v k ≡ Value (pos (n .length)) → ((j : ℕ) → j < n .length → v (k + 1 + j) ≡ charAt (n .chars) j) → nameAt v k ≡ n
   unfolding nameAt
   nameAt-is v k p h =
       let s = good-length n g in
       let c = counter-is v k (n .length) p s in
-      let f : ℕ → ℕ = λ j. natural (v (k + 1 + j)) % 256 in
+      let f : ℕ → ℕ = λ j. natural (numberAt v (k + 1 + j)) % 256 in
       let used : take (n .length) (n .chars) ≡ upTo f (n .length) =
       is-upTo f (n .length) 0 (take (n .length) (n .chars)) (length-take-le (n .length) (n .chars) (omega arith))
       (λ j l.
       let m = b j l in
       let t : getD (n .chars) j 0 ≡ getD (n .chars) j 0 % 256 = omega arith in
-      getD-take (n .length) (n .chars) j 0 l ∙ t ∙ ap (λ (z : ℤ). natural z % 256) (sym (h j l))) in
+      getD-take (n .length) (n .chars) j 0 l ∙ t ∙ ap (λ (r : Reading). natural (valueIn r) % 256) (sym (h j l))) in
       λ i. record {
         length = c i;
         chars =
@@ -95,40 +98,40 @@ module _ (n : Name) (e : length (n .chars) ≡ 31) (b : Bytes n) (g : goodName n
       }
 
   -- the name that stands in a row behind p
-  pub name-in : (p q v : List ℤ) (k : ℕ) → v ≡ p ++ (nameRow n ++ q) → length p ≡ k → nameAt (at v) k ≡ n
+  pub name-in : (p q v : List Reading) (k : ℕ) → v ≡ p ++ (nameRow n ++ q) → length p ≡ k → nameAt (says v) k ≡ n
   unfolding nameRow
   name-in p q v k d l =
       let r = upTo (charAt (n .chars)) (n .length) in
-      let row = pos (n .length) ∷ r ++ q in
-      let there : (j : ℕ) → at v (k + j) ≡ at row j =
-      λ j. ap (λ (x : List ℤ). at x (k + j)) d ∙ ap (λ (m : ℕ). at (p ++ row) (m + j)) (sym l) ∙ getD-append-add p row j (pos 0) in
-      nameAt-is (at v) k (ap (at v) (sym (add-zero k)) ∙ there 0)
+      let row = Value (pos (n .length)) ∷ r ++ q in
+      let there : (j : ℕ) → says v (k + j) ≡ says row j =
+      λ j. ap (λ (x : List Reading). says x (k + j)) d ∙ ap (λ (m : ℕ). says (p ++ row) (m + j)) (sym l) ∙ getD-append-add p row j (Value (pos 0)) in
+      nameAt-is (says v) k (ap (says v) (sym (add-zero k)) ∙ there 0)
       (λ j h.
       let a : k + 1 + j ≡ k + (1 + j) = omega arith in
       let o = length-upTo (charAt (n .chars)) (n .length) in
-      let c : at row (1 + j) ≡ at (r ++ q) j = ap (at row) (one-add j) in
-      ap (at v) a ∙ there (1 + j) ∙ c
-      ∙ List·getD-append r q (pos 0) j (omega arith) ∙ getD-upTo (charAt (n .chars)) (n .length) j (pos 0) h)
+      let c : says row (1 + j) ≡ says (r ++ q) j = ap (says row) (one-add j) in
+      ap (says v) a ∙ there (1 + j) ∙ c
+      ∙ List·getD-append r q (Value (pos 0)) j (omega arith) ∙ getD-upTo (charAt (n .chars)) (n .length) j (Value (pos 0)) h)
 
--- ---- from numbers to a name and back
+-- ---- from places to a name and back
 
-module _ (v : ℕ → ℤ) (k n : ℕ) (h : n ≤ 31) (e : v k ≡ pos n) (b : (j : ℕ) → j < n → pos (natural (v (k + 1 + j)) % 256) ≡ v (k + 1 + j)) where
+module _ (v : ℕ → Reading) (k n : ℕ) (h : n ≤ 31) (e : v k ≡ Value (pos n)) (b : (j : ℕ) → j < n → Value (pos (natural (numberAt v (k + 1 + j)) % 256)) ≡ v (k + 1 + j)) where
   pub nameRow-is : nameRow (nameAt v k) ≡ part v k (1 + n)
   unfolding nameRow nameAt
   nameRow-is =
       let c = counter-is v k n e h in
-      let f : ℕ → ℕ = λ j. natural (v (k + 1 + j)) % 256 in
+      let f : ℕ → ℕ = λ j. natural (numberAt v (k + 1 + j)) % 256 in
       let chars : ℕ → List ℕ = λ l. upTo f l ++ replicate (31 - l) 0 in
       let o = length-upTo f n in
-      ap (λ (l : ℕ). pos l ∷ upTo (charAt (chars l)) l) c
+      ap (λ (l : ℕ). Value (pos l) ∷ upTo (charAt (chars l)) l) c
       ∙ (λ i. (sym e ∙ ap v (sym (add-zero k))) i ∷
       upTo-same (charAt (chars n)) (λ j. v (k + (1 + j))) n
       (λ j l.
       let a : k + 1 + j ≡ k + (1 + j) = omega arith in
-      ap pos (List·getD-append (upTo f n) (replicate (31 - n) 0) 0 j (omega arith) ∙ getD-upTo f n j 0 l) ∙ b j l ∙ ap v a) i)
+      ap (λ (x : ℕ). Value (pos x)) (List·getD-append (upTo f n) (replicate (31 - n) 0) 0 j (omega arith) ∙ getD-upTo f n j 0 l) ∙ b j l ∙ ap v a) i)
       ∙ sym (upTo-add (λ j. v (k + j)) 1 n)
 
--- t behind s, as numbers of a row
-pub grow : (v : ℕ → ℤ) (s t : List ℤ) (a c k l : ℕ) → s ≡ upTo v a → t ≡ part v k c → k ≡ a → a + c ≡ l → s ++ t ≡ upTo v l
+-- t behind s, as places of a row
+pub grow : (v : ℕ → Reading) (s t : List Reading) (a c k l : ℕ) → s ≡ upTo v a → t ≡ part v k c → k ≡ a → a + c ≡ l → s ++ t ≡ upTo v l
 grow v s t a c k l p q f g =
     (λ i. p i ++ q i) ∙ ap (λ (m : ℕ). upTo v a ++ part v m c) f ∙ sym (upTo-add v a c) ∙ ap (upTo v) g

@@ -1,1 +1,2 @@
 pub mod Transformations
+pub mod Parts

@@ -2,7 +2,7 @@
 -- Assumes nothing.
 use Prim.Native.Nat.{ℕ, _+_, _*_, _≤_, _<_}
 use native.Mathlib.Omega.{arith}
-use mathlib.Core.Path.{_≡_, refl, sym, _∙_}
+use mathlib.Core.Path.{_≡_, refl, sym, ap, _∙_}
 use mathlib.Core.Bool.{Bool, true, false, not, cond, _&&_, _||_}
 use mathlib.Core.List.{List, []}
 use lib.Dec.{eqb, leb, ltb}
@@ -16,7 +16,8 @@ use Rattle.field.specs.Field.{fieldAt}
 use Rattle.layout.specs.Layout.{decodeAll, refusalOf, readTests}
 use Rattle.field.proofs.Bit.{field-lt}
 use Rattle.field.proofs.Place.{field-inside}
-use Rattle.wire.specs.Layouts.{known, named, layoutOf}
+use Rattle.layouts.specs.Layouts.{known, named, layoutBy}
+use Rattle.layouts.proofs.Length.{length-layout, unnamed-layout, layout-by}
 use Rattle.wire.specs.Message.{numberOf, sourceCount, targetCount, counterCut, headTests, layout, refusal, row}
 
 -- ---- what the code reads
@@ -87,10 +88,28 @@ head-passes s h = by (decLe (numberOf s) 1022)
           lt-leb (numberOf s) 1022 (omega arith),
         )
 
--- the counters matter to 1021 and 1022 alone
-pub unnamed-layout : (k n m n′ m′ : ℕ) → 1022 < k → layoutOf k n m ≡ layoutOf k n′ m′
-unfolding layoutOf
-unnamed-layout k n m n′ m′ h = rw (ne-eqb k 1021 (λ e. omega arith), ne-eqb k 1022 (λ e. omega arith))
+-- ---- the layout that a message calls for
+
+pub layout-most : (s : List ℕ) → length (layout s) ≤ 90
+unfolding layout
+layout-most s = length-layout _ _ _ (omega (arith, source-lt s)) (omega (arith, target-lt s))
+
+-- of a number without names, and of one with names
+pub read-unnamed : (s : List ℕ) {k : ℕ} → first (headTests s) ≡ 0 → k ≡ fieldAt s 0 12 → 1022 < k → layoutBy k 0 0 ≡ layout s
+unfolding layout
+read-unnamed s {k} h e l =
+    let a : k ≡ numberOf s = e ∙ number-read s (head-of s h .long) in
+    layout-by k 0 0 (omega arith) (omega arith) ∙ unnamed-layout k 0 0 (sourceCount s) (targetCount s) l ∙ rw a
+
+pub read-named : (s : List ℕ) {k n m : ℕ} → first (headTests s) ≡ 0 → k ≡ fieldAt s 0 12 → k ≤ 1022 → n ≡ fieldAt s 12 5 → m ≡ fieldAt s (17 + 8 * n) 5
+    → layoutBy k n m ≡ layout s
+unfolding layout
+read-named s {k} {n} {m} h e l f g =
+    let a : k ≡ numberOf s = e ∙ number-read s (head-of s h .long) in
+    let c = head-of s h .counted (omega arith) in
+    let b : n ≡ sourceCount s = f ∙ source-read s (c .0) in
+    let d : m ≡ targetCount s = g ∙ ap (λ (x : ℕ). fieldAt s (17 + 8 * x) 5) b ∙ target-read s (c .1) in
+    layout-by k n m (omega (arith, source-lt s)) (omega (arith, target-lt s)) ∙ rw (a, b, d)
 
 -- ---- refusals
 

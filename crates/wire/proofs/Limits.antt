@@ -1,6 +1,6 @@
 -- What a table of messages needs of the reader's definitions: an accepted message's length, number and SIN, and tests behind the reader's own.
 -- Assumes nothing.
-use Prim.Native.Nat.{ℕ, _+_, _≤_, _<_}
+use Prim.Native.Nat.{ℕ, _≤_, _<_}
 use native.Mathlib.Omega.{arith}
 use mathlib.Core.Path.{_≡_, sym, _∙_}
 use mathlib.Core.Bool.{cond}
@@ -12,24 +12,25 @@ use Rattle.arith.proofs.First.{first-append}
 use Rattle.layout.specs.Layout.{total}
 use Rattle.field.proofs.Bit.{field-lt}
 use Rattle.layout.proofs.Round.{accepted}
-use Rattle.wire.specs.Layouts.{layout1023, layout1024, layout1025, layout1026, layout1027, layoutOf}
+use Rattle.layouts.specs.Layouts.{layoutOf}
 use Rattle.wire.specs.Message.{numberOf, sourceCount, targetCount, layout, tests, refusal, sinBit, sinOf}
 use Rattle.wire.proofs.Head.{head-of, head-passed, accepted-head, source-lt, target-lt}
-use Rattle.wire.proofs.Length.{by-number, total-1021, total-1022}
+use Rattle.layouts.proofs.Length.{by-number, total-1021, total-1022, total-1023, total-1024, total-1025, total-1026, total-1027}
 
 -- the longest layout is that of 1022 with names of 31 characters
 abbrev Most : ℕ → ℕ → ℕ → Type 0
 Most n m k = total (layoutOf k n m) ≤ 1013
 
 total-limit : (s : List ℕ) → 1021 ≤ numberOf s → numberOf s ≤ 1027 → total (layout s) ≤ 1013
-unfolding layout layoutOf layout1023 layout1024 layout1025 layout1026 layout1027 total
+unfolding layout layoutOf
 total-limit s lo hi =
     let n : ℕ = sourceCount s in
     let m : ℕ = targetCount s in
     let a : n < 32 = source-lt s in
     let b : m < 32 = target-lt s in
     by-number (Most n m) (numberOf s) lo hi
-    (omega (arith, total-1021 n m)) (omega (arith, total-1022 n m)) (omega arith) (omega arith) (omega arith) (omega arith) (omega arith)
+    (omega (arith, total-1021 n m)) (omega (arith, total-1022 n m))
+    (omega (arith, total-1023)) (omega (arith, total-1024)) (omega (arith, total-1025)) (omega (arith, total-1026)) (omega (arith, total-1027))
 
 pub accepted-size : (m : List ℕ) → refusal m ≡ 0 → (2 ≤ length m) × (length m ≤ 127)
 accepted-size m e =

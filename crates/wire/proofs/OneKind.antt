@@ -1,21 +1,25 @@
 -- The ways out of reading and writing one kind of record.
 -- Assumes nothing.
-use Prim.Native.Nat.{ℕ, zero, suc, _≤_, _<_}
+use Prim.Native.Nat.{ℕ, zero, suc, _-_, _≤_, _<_}
 use native.Mathlib.Nat.{lt-irrefl}
+use native.Mathlib.Numerals.{unary-clauses}
 use native.Mathlib.Omega.{arith}
 use mathlib.Core.Path.{_≡_, refl, sym, _∙_, ap}
 use mathlib.Core.Bool.{Bool, true, false, not, cond, _&&_}
-use mathlib.Core.List.{List, [], _∷_}
+use mathlib.Core.List.{List, [], _∷_, _++_}
 use lib.Dec.{leb, eqb, eqb·suc-zero}
-use lib.IntN.{ℤ}
-use borrow.Author.Tests.{leb-true, lt-leb, le-leb, ne-eqb}
-use Rattle.arith.specs.Row.{at, padded}
-use lib.ListN.{length}
+use lib.IntN.{ℤ, pos}
+use lib.ListN.{length, drop, replicate}
+use borrow.Author.Tests.{leb-true, lt-leb, le-leb, le-ltb, ne-eqb}
+use Rattle.arith.specs.First.{first}
 use Rattle.arith.specs.Whole.{natural}
-use Rattle.arith.proofs.First.{first-append}
-use Rattle.wire.specs.declared.Read.{Read}
-use Rattle.wire.specs.Message.{numberOf, tests, refusal, row, kindRefusal, kindRow, kindRead, writeRefusal}
-use Rattle.wire.specs.Message.{kindWriteRefusal}
+use Rattle.arith.proofs.First.{first-append, goes-on}
+use Rattle.field.specs.declared.Reading.{Reading}
+use Rattle.layout.specs.Layout.{rowOf, stored}
+use Rattle.row.specs.Numbers.{says, numberAt, valuesOf, presentOf}
+use Rattle.row.proofs.Rows.{says-filled}
+use Rattle.wire.specs.Message.{numberOf, layout, tests, refusal, row, roomTests, rowRefusal, valuesRead, presentRead, kindTests, kindRefusal, kindRow, kindRoomRefusal, writeRefusal, kindWriteRefusal}
+use Rattle.wire.proofs.Head.{layout-most}
 
 -- ---- reading
 
@@ -42,11 +46,6 @@ module _ (lo hi : ℕ) (s : List ℕ) where
       unfolding kindRow
       kind-read h = rw (kind-refusal-is, e, le-leb lo (numberOf s) low, le-leb (numberOf s) hi h) (refl, refl)
 
--- what was read, from its parts
-pub read-is : (lo hi : ℕ) (s : List ℕ) {r : Read} {v : List ℤ} → (r .refusal ≡ kindRefusal lo hi s) × (v ≡ kindRow lo hi s) → r .count ≡ length v → r .values ≡ padded v → r ≡ kindRead lo hi s
-unfolding kindRead
-read-is lo hi s d n z = λ i. record { refusal = d .0 i; count = (n ∙ ap length (d .1)) i; values = (z ∙ ap padded (d .1)) i }
-
 -- what an answer of 0 says
 pub record Kind (lo hi : ℕ) (s : List ℕ) : Type 0 where
   pub accepted : refusal s ≡ 0
@@ -62,23 +61,69 @@ kind-of lo hi s e = by (refusal s) (leb lo (numberOf s)) (leb (numberOf s) hi) r
     by zero false b p q t h = absurd (lt-irrefl 0 (omega arith))
     by (suc r) a b p q t h = absurd (lt-irrefl 0 (let z : suc r ≡ 0 = rw (eqb·suc-zero r) at h in omega arith))
 
+-- ---- reading into buffers
+
+module _ (lo hi : ℕ) (s : List ℕ) where
+  module _ (m n : ℕ) where
+    kind-room-is : kindRoomRefusal lo hi s m n ≡ cond (eqb (kindRefusal lo hi s) 0) (first (roomTests s m n)) (kindRefusal lo hi s)
+    unfolding kindRoomRefusal kindRefusal
+    kind-room-is = first-append (kindTests lo hi s) (roomTests s m n) tt
+
+    -- a refusal of the message or its kind
+    pub kind-kept : (r : ℕ) → r ≡ kindRefusal lo hi s → (r ≡ 0 → ⊥) → kindRoomRefusal lo hi s m n ≡ r
+    kind-kept r e f = rw (kind-room-is, ← e, ne-eqb r 0 f)
+
+    -- else that of any row
+    pub kind-row : kindRefusal lo hi s ≡ 0 → rowRefusal s m n ≡ kindRoomRefusal lo hi s m n
+    unfolding rowRefusal refusal
+    kind-row e = sym (goes-on (tests s) (roomTests s m n) tt (kind-of lo hi s e .accepted)) ∙ sym (rw (kind-room-is, e))
+
+  -- 96 places are room for any message
+  pub kind-room : kindRoomRefusal lo hi s 96 96 ≡ kindRefusal lo hi s
+  kind-room = kind-room-is 96 96 ∙ rw (le-ltb 96 (length (layout s)) (omega (arith, layout-most s))) (by (kindRefusal lo hi s))
+    where
+      by : (r : ℕ) → cond (eqb r 0) 0 r ≡ r
+      by zero = refl
+      by (suc r) = rw (eqb·suc-zero r)
+
+drop-same : {A : Type 0} (x : A) (j n : ℕ) → drop j (replicate n x) ≡ replicate (n - j) x
+drop-same x zero n = simp unary-clauses
+drop-same x (suc j) zero = let e : 0 ≡ 0 - suc j = omega arith in ap (λ (k : ℕ). replicate k x) e
+drop-same x (suc j) (suc n) = simp unary-clauses (drop-same x j n)
+
+-- what a row or none says, stored in buffers that say the value 0 at each place
+stored-says : (t : Bool) (v : List Reading) (m n k : ℕ) → let z : List ℤ = replicate m (pos 0) in
+    let b : List ℕ = replicate n 1 in
+    says (rowOf (cond t (valuesOf v ++ drop (length (valuesOf v)) z) z) (cond t (presentOf v ++ drop (length (presentOf v)) b) b)) k ≡ says (cond t v []) k
+stored-says true v m n k = rw (drop-same (pos 0) (length (valuesOf v)) m, drop-same {A = ℕ} 1 (length (presentOf v)) n) (says-filled v (m - length (valuesOf v)) (n - length (presentOf v)) k)
+stored-says false v m n k = says-filled [] m n k
+
+-- what the buffers say that one kind was read to
+pub kind-says : (lo hi : ℕ) (s : List ℕ) (k : ℕ) → let r : ℕ = kindRoomRefusal lo hi s 96 96 in
+    says (rowOf (valuesRead r s (replicate 96 (pos 0))) (presentRead r s (replicate 96 1))) k ≡ says (kindRow lo hi s) k
+unfolding stored kindRow
+kind-says lo hi s k = rw (kind-room lo hi s) (stored-says (eqb (kindRefusal lo hi s) 0) (row s) 96 96 k)
+
 -- ---- writing
 
-module _ (lo hi : ℕ) (v : List ℤ) (n : ℕ) where
-  pub record-bad : (good : Bool) → good ≡ false → kindWriteRefusal lo hi good v n ≡ 5
+module _ (lo hi : ℕ) (z : List ℤ) (b : List ℕ) (n : ℕ) where
+  abbrev number : ℕ
+  number = natural (numberAt (says (rowOf z b)) 0)
+
+  pub record-bad : (good : Bool) → good ≡ false → kindWriteRefusal lo hi good z b n ≡ 5
   unfolding kindWriteRefusal
   record-bad good e = rw e
 
   module _ (good : Bool) (g : good ≡ true) where
-    pub record-low : natural (at v 0) < lo → kindWriteRefusal lo hi good v n ≡ 5
+    pub record-low : number < lo → kindWriteRefusal lo hi good z b n ≡ 5
     unfolding kindWriteRefusal
-    record-low h = rw (g, lt-leb lo (natural (at v 0)) h)
+    record-low h = rw (g, lt-leb lo number h)
 
-    module _ (low : lo ≤ natural (at v 0)) where
-      pub record-high : hi < natural (at v 0) → kindWriteRefusal lo hi good v n ≡ 5
+    module _ (low : lo ≤ number) where
+      pub record-high : hi < number → kindWriteRefusal lo hi good z b n ≡ 5
       unfolding kindWriteRefusal
-      record-high h = rw (g, le-leb lo (natural (at v 0)) low, lt-leb (natural (at v 0)) hi h)
+      record-high h = rw (g, le-leb lo number low, lt-leb number hi h)
 
-      pub record-row : natural (at v 0) ≤ hi → writeRefusal v n ≡ kindWriteRefusal lo hi good v n
+      pub record-row : number ≤ hi → writeRefusal z b n ≡ kindWriteRefusal lo hi good z b n
       unfolding kindWriteRefusal writeRefusal
-      record-row h = rw (g, le-leb lo (natural (at v 0)) low, le-leb (natural (at v 0)) hi h)
+      record-row h = rw (g, le-leb lo number low, le-leb number hi h)

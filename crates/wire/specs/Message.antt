@@ -1,21 +1,20 @@
--- Reading a message as a row of raw numbers and writing a row as a message: refusals 1 to 7 (document 01, "Refusal numbers").
+-- Reading a message as a row and writing a row as a message: refusals 1 to 7 (document 01, "Refusal numbers").
 -- Assumes nothing.
 use Prim.Native.Nat.{ℕ, _+_, _*_}
 use mathlib.Core.Bool.{Bool, not, cond, _&&_, _||_}
 use mathlib.Core.List.{List, [], _∷_, _++_}
 use lib.Dec.{eqb, leb, ltb}
-use lib.ListN.{length, drop}
+use lib.ListN.{length}
 use lib.IntN.{ℤ}
 use Rattle.arith.specs.First.{Test, first}
-use Rattle.arith.specs.Row.{at, padded}
 use Rattle.arith.specs.Whole.{natural}
 use Rattle.field.specs.Field.{field}
-use Rattle.row.specs.Numbers.{counterAt}
-use Rattle.layout.specs.Layout.{allTake, decodeAll, encodeAll, readTests, encodeTests, answered, stored}
+use Rattle.field.specs.declared.Reading.{Reading}
+use Rattle.row.specs.Numbers.{says, numberAt, counterAt, valuesOf, presentOf}
+use Rattle.layout.specs.Layout.{rowOf, rowTakes, decodeAll, encodeAll, readTests, encodeTests, answered, stored}
 use Rattle.layout.specs.declared.Written.{Written}
-use Rattle.wire.specs.Layouts.{known, named, layoutOf}
+use Rattle.layouts.specs.Layouts.{known, named, layoutOf}
 use Rattle.wire.specs.declared.Header.{Header}
-use Rattle.wire.specs.declared.Read.{Read}
 
 -- ---- what the bytes of a message call for
 
@@ -50,8 +49,8 @@ tests s = headTests s ++ readTests (layout s) s
 unfoldable pub refusal : List ℕ → ℕ
 refusal s = first (tests s)
 
--- the raw numbers of an accepted message in wire order; none with a refusal
-unfoldable pub row : List ℕ → List ℤ
+-- the row of an accepted message: what each field says, in wire order; none with a refusal
+unfoldable pub row : List ℕ → List Reading
 row s = cond (eqb (refusal s) 0) (decodeAll (layout s) 0 s) []
 
 -- DF147 stands behind DF002, in 1021 and 1022 behind both names
@@ -71,39 +70,49 @@ header s =
       length = cond (eqb (refusal s) 0) (length s) 0;
     }
 
--- into a row with room for n numbers: then 6 ROOM
-unfoldable pub rowRefusal : List ℕ → ℕ → ℕ
-rowRefusal s n = first (tests s ++ ((6, ltb n (length (layout s))) ∷ []))
+-- into buffers of m values and n presence bytes: then 6 ROOM, where either is shorter than the message's fields
+abbrev pub roomTests : List ℕ → ℕ → ℕ → List Test
+roomTests s m n = (6, ltb m (length (layout s))) ∷ (6, ltb n (length (layout s))) ∷ []
 
--- the caller's row after the call: the numbers in its first places, or as it was
-unfoldable pub rowRead : List ℕ → List ℤ → List ℤ
-rowRead s out = cond (eqb (rowRefusal s (length out)) 0) (row s ++ drop (length (row s)) out) out
+unfoldable pub rowRefusal : List ℕ → ℕ → ℕ → ℕ
+rowRefusal s m n = first (tests s ++ roomTests s m n)
 
--- ---- reading one kind of record, whose numbers are lo to hi: then 7 KIND
+-- the caller's buffers after a call that answered r: the row in their first places, or as they were
+abbrev pub valuesRead : ℕ → List ℕ → List ℤ → List ℤ
+valuesRead r s z = stored r (valuesOf (row s)) z
+
+abbrev pub presentRead : ℕ → List ℕ → List ℕ → List ℕ
+presentRead r s b = stored r (presentOf (row s)) b
+
+-- ---- reading one kind of record, whose numbers are lo to hi: then 7 KIND, and into buffers 6 ROOM
+
+abbrev pub kindTests : ℕ → ℕ → List ℕ → List Test
+kindTests lo hi s = tests s ++ ((7, not (leb lo (numberOf s) && leb (numberOf s) hi)) ∷ [])
 
 unfoldable pub kindRefusal : ℕ → ℕ → List ℕ → ℕ
-kindRefusal lo hi s = first (tests s ++ ((7, not (leb lo (numberOf s) && leb (numberOf s) hi)) ∷ []))
+kindRefusal lo hi s = first (kindTests lo hi s)
 
-unfoldable pub kindRow : ℕ → ℕ → List ℕ → List ℤ
+unfoldable pub kindRow : ℕ → ℕ → List ℕ → List Reading
 kindRow lo hi s = cond (eqb (kindRefusal lo hi s) 0) (row s) []
 
-unfoldable pub kindRead : ℕ → ℕ → List ℕ → Read
-kindRead lo hi s =
-    record { refusal = kindRefusal lo hi s; count = length (kindRow lo hi s); values = padded (kindRow lo hi s) }
+unfoldable pub kindRoomRefusal : ℕ → ℕ → List ℕ → ℕ → ℕ → ℕ
+kindRoomRefusal lo hi s m n = first (kindTests lo hi s ++ roomTests s m n)
 
--- ---- writing
+-- ---- writing: z and b are the values and the presence bytes of a row
 
-unfoldable pub rowLayout : List ℤ → List ℕ
-rowLayout v = layoutOf (natural (at v 0)) (counterAt (at v) 1) (counterAt (at v) (2 + counterAt (at v) 1))
+unfoldable pub rowLayout : List Reading → List ℕ
+rowLayout v =
+    layoutOf (natural (numberAt (says v) 0)) (counterAt (says v) 1) (counterAt (says v) (2 + counterAt (says v) 1))
 
--- 5 RANGE: not the numbers of a message; 6 ROOM
-abbrev pub rowTests : List ℤ → ℕ → List Test
-rowTests v n = (5, not (known (natural (at v 0)))) ∷ encodeTests (rowLayout v) v n
+-- 5 RANGE: not the row of a message; 6 ROOM
+abbrev pub rowTests : List ℤ → List ℕ → ℕ → List Test
+rowTests z b n =
+    (5, not (known (natural (numberAt (says (rowOf z b)) 0)))) ∷ encodeTests (rowLayout (rowOf z b)) z b n
 
-unfoldable pub writeRefusal : List ℤ → ℕ → ℕ
-writeRefusal v n = first (rowTests v n)
+unfoldable pub writeRefusal : List ℤ → List ℕ → ℕ → ℕ
+writeRefusal z b n = first (rowTests z b n)
 
-unfoldable pub message : List ℤ → List ℕ
+unfoldable pub message : List Reading → List ℕ
 message v = encodeAll (rowLayout v) v
 
 -- what a writer answers, and the output afterwards
@@ -115,19 +124,23 @@ pub record Outcome : Type 0 where
 abbrev pub outcomeOf : ℕ → List ℕ → List ℕ → Outcome
 outcomeOf n m out = record { answer = answered n m; output = stored n m out }
 
-abbrev pub writeRow : List ℤ → List ℕ → Outcome
-writeRow v out = outcomeOf (writeRefusal v (length out)) (message v) out
+abbrev pub writeRow : List ℤ → List ℕ → List ℕ → Outcome
+writeRow z b out = outcomeOf (writeRefusal z b (length out)) (message (rowOf z b)) out
 
--- ---- writing the numbers v of a record whose kind has the message numbers lo to hi; good: its names are
+-- ---- writing the row of a record whose kind has the message numbers lo to hi; good: its names are
+
+-- the number is one of the kind
+abbrev pub ofKind : ℕ → ℕ → List Reading → Bool
+ofKind lo hi v = leb lo (natural (numberAt (says v) 0)) && leb (natural (numberAt (says v) 0)) hi
 
 -- 5 RANGE: "a field outside its range or width, a number not of the record's kind, or a bad name"; 6 ROOM
-unfoldable pub kindWriteRefusal : ℕ → ℕ → Bool → List ℤ → ℕ → ℕ
-kindWriteRefusal lo hi good v n = first ((5, not good) ∷ (5, not (leb lo (natural (at v 0)) && leb (natural (at v 0)) hi)) ∷ rowTests v n)
+unfoldable pub kindWriteRefusal : ℕ → ℕ → Bool → List ℤ → List ℕ → ℕ → ℕ
+kindWriteRefusal lo hi good z b n = first ((5, not good) ∷ (5, not (ofKind lo hi (rowOf z b))) ∷ rowTests z b n)
 
-abbrev pub writeKind : ℕ → ℕ → Bool → List ℤ → List ℕ → Outcome
-writeKind lo hi good v out = outcomeOf (kindWriteRefusal lo hi good v (length out)) (message v) out
+abbrev pub writeKind : ℕ → ℕ → Bool → List ℤ → List ℕ → List ℕ → Outcome
+writeKind lo hi good z b out = outcomeOf (kindWriteRefusal lo hi good z b (length out)) (message (rowOf z b)) out
 
--- ---- the numbers v of a record that a message of its kind holds: its number is of the kind, and each field takes its value
+-- ---- the row of a record that a message of its kind holds: its number is of the kind, and each field takes its own
 
-unfoldable pub rowHeld : ℕ → ℕ → List ℤ → Bool
-rowHeld lo hi v = (leb lo (natural (at v 0)) && leb (natural (at v 0)) hi) && allTake (rowLayout v) v
+unfoldable pub rowHeld : ℕ → ℕ → List ℤ → List ℕ → Bool
+rowHeld lo hi z b = ofKind lo hi (rowOf z b) && rowTakes (rowLayout (rowOf z b)) z b

@@ -1,15 +1,9 @@
-// Messages 1021 to 1027 on the wire: the seven layouts, the header, and rows of raw numbers of any kind or of one.
-mod layouts;
-
+// Messages 1021 to 1027 on the wire: the header, and rows of any kind or of one. A row is two buffers side by side, values and presence bytes.
 use layout::Written;
-use layouts::Plan;
 ghost use mathlib.Core.Path.{_≡_};
-ghost use mathlib.Core.List.{[]};
-ghost use lib.ListN.{length, take};
+ghost use lib.ListN.{length};
 ghost use Rattle.arith.specs.First.{first};
-ghost use Rattle.arith.specs.Row.{at, padded};
-ghost use Rattle.arith.specs.Whole.{natural};
-ghost use Rattle.wire.specs.Message.{headTests, layout, refusal, row, sinBit, header, rowRefusal, rowRead, rowLayout, writeRow, kindRead, writeKind, rowHeld};
+ghost use Rattle.wire.specs.Message.{headTests, refusal, sinBit, header, rowRefusal, valuesRead, presentRead, kindRefusal, kindRoomRefusal, writeRow, writeKind, rowHeld};
 
 // SHORT, NUMBER, or LENGTH where a name counter can't be read; else 0.
 fn head_refusal(s: &[u8]) -> u8
@@ -38,58 +32,39 @@ fn head_refusal(s: &[u8]) -> u8
     0
 }
 
-// The layout that a message calls for by its number and name counters.
-fn layout_plan(s: &[u8]) -> Plan
-    requires { ⌜ first (headTests (now s)) ≡ 0 ⌝ }
-    ensures { λ r. ⌜ (r .count ≡ length (layout (now (s .entry)))) × ((length (r .entries) ≡ 96) × (take (r .count) (r .entries) ≡ layout (now (s .entry)))) ⌝ }
-{
-    let number = field::field_at(s, 0, 12);
-    if 1022 < number {
-        return layouts::plan_of(number, 0, 0);
-    }
-    let n = field::field_at(s, 12, 5) as usize;
-    let m = field::field_at(s, 17 + 8 * n, 5) as usize;
-    layouts::plan_of(number, n, m)
-}
-
-// A message's numbers in wire order: how many, and zeros behind them. None with a refusal.
-pub struct Read {
-    pub values: [i64; 96],
-    pub count: usize,
-    pub refusal: u8,
-}
-
-fn refused(refusal: u8) -> Read
-    ensures { λ r. ⌜ (r .refusal ≡ refusal) × ((r .count ≡ 0) × (r .values ≡ padded [])) ⌝ }
-{
-    Read {
-        refusal,
-        count: 0,
-        values: [0i64; 96],
-    }
-}
-
-fn read_message(s: &[u8]) -> Read
-    ensures { λ r. ⌜ (r .refusal ≡ refusal (now (s .entry))) × ((r .count ≡ length (row (now (s .entry)))) × (r .values ≡ padded (row (now (s .entry))))) ⌝ }
+// Refusals 1 to 5 of a message; or 0. No value is stored.
+pub fn check_message(s: &[u8]) -> u8
+    ensures { λ r. ⌜ r ≡ refusal (now (s .entry)) ⌝ }
 {
     let h = head_refusal(s);
     if h != 0 {
-        return refused(h);
+        return h;
     }
-    let p = layout_plan(s);
-    let e = p.entries;
-    let k = p.count;
-    let d = layout::decode(s, &e[..k]);
-    let r = d.refusal;
+    let number = field::field_at(s, 0, 12);
+    if 1022 < number {
+        return layouts::check_by(s, number, 0, 0);
+    }
+    let n = field::field_at(s, 12, 5) as usize;
+    let m = field::field_at(s, 17 + 8 * n, 5) as usize;
+    layouts::check_by(s, number, n, m)
+}
+
+// The same, then KIND where its number is not lo to hi.
+pub fn check_kind(s: &[u8], lo: u64, hi: u64) -> u8
+    ensures { λ r. ⌜ r ≡ kindRefusal lo hi (now (s .entry)) ⌝ }
+{
+    let r = check_message(s);
     if r != 0 {
-        return refused(r);
+        return r;
     }
-    let values = d.values;
-    Read {
-        refusal: 0,
-        count: k,
-        values,
+    let number = field::field_at(s, 0, 12);
+    if number < lo {
+        return 7;
     }
+    if hi < number {
+        return 7;
+    }
+    0
 }
 
 // What a message is; zeros with a refusal.
@@ -118,8 +93,7 @@ fn sin_bit(s: &[u8]) -> usize
 pub fn read_header(s: &[u8]) -> Header
     ensures { λ r. ⌜ r ≡ header (now (s .entry)) ⌝ }
 {
-    let r = read_message(s);
-    let refusal = r.refusal;
+    let refusal = check_message(s);
     if refusal != 0 {
         return Header {
             refusal,
@@ -137,41 +111,44 @@ pub fn read_header(s: &[u8]) -> Header
     }
 }
 
-// The raw numbers of a message in wire order into the first places of a row: refusals 1 to 5, then ROOM.
-pub fn read_row(s: &[u8], row: &mut [i64]) -> u8
-    ensures answer { λ r. ⌜ r ≡ rowRefusal (now (s .entry)) (length (now (row .entry))) ⌝ }
-    ensures output { λ r. ⌜ now (row .exit) ≡ rowRead (now (s .entry)) (now (row .entry)) ⌝ }
+// The row of a message into the first places of both buffers: refusals 1 to 5, then ROOM.
+pub fn read_row(s: &[u8], values: &mut [i64], present: &mut [u8]) -> u8
+    ensures answer { λ r. ⌜ r ≡ rowRefusal (now (s .entry)) (length (now (values .entry))) (length (now (present .entry))) ⌝ }
+    ensures values { λ r. ⌜ now (values .exit) ≡ valuesRead (rowRefusal (now (s .entry)) (length (now (values .entry))) (length (now (present .entry)))) (now (s .entry)) (now (values .entry)) ⌝ }
+    ensures present { λ r. ⌜ now (present .exit) ≡ presentRead (rowRefusal (now (s .entry)) (length (now (values .entry))) (length (now (present .entry)))) (now (s .entry)) (now (present .entry)) ⌝ }
 {
-    let r = read_message(s);
-    let refusal = r.refusal;
-    if refusal != 0 {
-        return refusal;
+    let h = head_refusal(s);
+    if h != 0 {
+        return h;
     }
-    let k = r.count;
-    if row.len() < k {
-        return 6;
+    let number = field::field_at(s, 0, 12);
+    if 1022 < number {
+        return layouts::decode_by(s, number, 0, 0, values, present);
     }
-    let values = r.values;
-    row::append(row, 0, &values[..k]);
-    0
+    let n = field::field_at(s, 12, 5) as usize;
+    let m = field::field_at(s, 17 + 8 * n, 5) as usize;
+    layouts::decode_by(s, number, n, m, values, present)
 }
 
-// The layout that a row calls for by its number and name counters.
-fn row_plan(row: &[i64], number: u64) -> Plan
-    requires { ⌜ number ≡ natural (at (now row) 0) ⌝ }
-    ensures { λ r. ⌜ (r .count ≡ length (rowLayout (now (row .entry)))) × ((length (r .entries) ≡ 96) × (take (r .count) (r .entries) ≡ rowLayout (now (row .entry)))) ⌝ }
+// The row of a message of one kind, whose numbers are lo to hi: refusals 1 to 5, KIND, then ROOM.
+pub fn read_kind(s: &[u8], lo: u64, hi: u64, values: &mut [i64], present: &mut [u8]) -> u8
+    ensures answer { λ r. ⌜ r ≡ kindRoomRefusal lo hi (now (s .entry)) (length (now (values .entry))) (length (now (present .entry))) ⌝ }
+    ensures values { λ r. ⌜ now (values .exit) ≡ valuesRead (kindRoomRefusal lo hi (now (s .entry)) (length (now (values .entry))) (length (now (present .entry)))) (now (s .entry)) (now (values .entry)) ⌝ }
+    ensures present { λ r. ⌜ now (present .exit) ≡ presentRead (kindRoomRefusal lo hi (now (s .entry)) (length (now (values .entry))) (length (now (present .entry)))) (now (s .entry)) (now (present .entry)) ⌝ }
 {
-    let n = row::counter_at(row, 1);
-    let m = row::counter_at(row, 2 + n);
-    layouts::plan_of(number, n, m)
+    let k = check_kind(s, lo, hi);
+    if k != 0 {
+        return k;
+    }
+    read_row(s, values, present)
 }
 
-// The message of a row of raw numbers in the first bytes of out: RANGE, then ROOM.
-pub fn write_row(row: &[i64], out: &mut [u8]) -> Written
-    ensures answer { λ r. ⌜ r ≡ writeRow (now (row .entry)) (now (out .entry)) .answer ⌝ }
-    ensures output { λ r. ⌜ now (out .exit) ≡ writeRow (now (row .entry)) (now (out .entry)) .output ⌝ }
+// The message of a row in the first bytes of out: RANGE, then ROOM.
+pub fn write_row(values: &[i64], present: &[u8], out: &mut [u8]) -> Written
+    ensures answer { λ r. ⌜ r ≡ writeRow (now (values .entry)) (now (present .entry)) (now (out .entry)) .answer ⌝ }
+    ensures output { λ r. ⌜ now (out .exit) ≡ writeRow (now (values .entry)) (now (present .entry)) (now (out .entry)) .output ⌝ }
 {
-    let number = row::natural_at(row, 0);
+    let number = row::natural_at(values, present, 0);
     if number < 1021 {
         return Written {
             refusal: 5,
@@ -184,35 +161,22 @@ pub fn write_row(row: &[i64], out: &mut [u8]) -> Written
             length: 0,
         };
     }
-    let p = row_plan(row, number);
-    let e = p.entries;
-    let k = p.count;
-    layout::encode(&e[..k], row, out)
+    let n = row::counter_at(values, present, 1);
+    let m = row::counter_at(values, present, 2 + n);
+    layouts::encode_by(number, n, m, values, present, out)
 }
 
-// A message of one kind, whose numbers are lo to hi: refusals 1 to 5, then KIND.
-pub fn read_kind(s: &[u8], lo: u64, hi: u64) -> Read
-    ensures { λ r. ⌜ r ≡ kindRead lo hi (now (s .entry)) ⌝ }
-{
-    let r = read_message(s);
-    let refusal = r.refusal;
-    if refusal != 0 {
-        return refused(refusal);
-    }
-    let number = field::field_at(s, 0, 12);
-    if number < lo {
-        return refused(7);
-    }
-    if hi < number {
-        return refused(7);
-    }
-    r
-}
-
-// The message of a record's numbers in the first bytes of out: RANGE also for a bad name and a number not of the kind.
-pub fn write_kind(good: bool, row: &[i64], lo: u64, hi: u64, out: &mut [u8]) -> Written
-    ensures answer { λ r. ⌜ r ≡ writeKind lo hi good (now (row .entry)) (now (out .entry)) .answer ⌝ }
-    ensures output { λ r. ⌜ now (out .exit) ≡ writeKind lo hi good (now (row .entry)) (now (out .entry)) .output ⌝ }
+// The message of a record's row in the first bytes of out: RANGE also for a bad name and a number not of the kind.
+pub fn write_kind(
+    good: bool,
+    values: &[i64],
+    present: &[u8],
+    lo: u64,
+    hi: u64,
+    out: &mut [u8],
+) -> Written
+    ensures answer { λ r. ⌜ r ≡ writeKind lo hi good (now (values .entry)) (now (present .entry)) (now (out .entry)) .answer ⌝ }
+    ensures output { λ r. ⌜ now (out .exit) ≡ writeKind lo hi good (now (values .entry)) (now (present .entry)) (now (out .entry)) .output ⌝ }
 {
     if !good {
         return Written {
@@ -220,7 +184,7 @@ pub fn write_kind(good: bool, row: &[i64], lo: u64, hi: u64, out: &mut [u8]) -> 
             length: 0,
         };
     }
-    let number = row::natural_at(row, 0);
+    let number = row::natural_at(values, present, 0);
     if number < lo {
         return Written {
             refusal: 5,
@@ -233,22 +197,21 @@ pub fn write_kind(good: bool, row: &[i64], lo: u64, hi: u64, out: &mut [u8]) -> 
             length: 0,
         };
     }
-    write_row(row, out)
+    write_row(values, present, out)
 }
 
-// Whether a message holds the numbers of a record of a kind whose numbers are lo to hi.
-pub fn row_held(row: &[i64], lo: u64, hi: u64) -> bool
-    ensures { λ r. ⌜ r ≡ rowHeld lo hi (now (row .entry)) ⌝ }
+// Whether a message holds the row of a record of a kind whose numbers are lo to hi.
+pub fn row_held(values: &[i64], present: &[u8], lo: u64, hi: u64) -> bool
+    ensures { λ r. ⌜ r ≡ rowHeld lo hi (now (values .entry)) (now (present .entry)) ⌝ }
 {
-    let number = row::natural_at(row, 0);
+    let number = row::natural_at(values, present, 0);
     if number < lo {
         return false;
     }
     if hi < number {
         return false;
     }
-    let p = row_plan(row, number);
-    let e = p.entries;
-    let k = p.count;
-    layout::all_take(&e[..k], row)
+    let n = row::counter_at(values, present, 1);
+    let m = row::counter_at(values, present, 2 + n);
+    layouts::taken_by(number, n, m, values, present)
 }

@@ -1,6 +1,7 @@
-// `NAME write ROOM V1 .. Vn`: a row written into ROOM bytes of a5.
+// `NAME write ROOM PRESENT V1 .. Vn`: a row written into ROOM bytes of a5. The presence bytes and the values may differ in number.
 use lines::output;
 use lines::output::Out;
+use numerals::Bytes;
 use numerals::Count;
 use numerals::Numbers;
 
@@ -8,27 +9,53 @@ pub fn answer(given: &[u8], out: &mut Out, at: usize) -> usize {
     let Count::Is(room) = numerals::natural(words::word(given)) else {
         return output::put(out, at, b'?');
     };
-    let mut numbers = [0i64; 100];
-    let Count::Is(n) = numerals::row(words::rest(given), &mut numbers) else {
-        return output::put(out, at, b'?');
-    };
-    put_numbers(&numbers, n, room, out, at)
+    put_row(room, words::rest(given), out, at)
 }
 
-// What is printed of the first `n` numbers, written into `room` bytes.
-fn put_numbers(numbers: &Numbers, n: usize, room: usize, out: &mut Out, at: usize) -> usize {
+// The row that is given, written into `room` bytes.
+fn put_row(room: usize, given: &[u8], out: &mut Out, at: usize) -> usize {
+    let mut bytes = [0u8; 140];
+    let Count::Is(n) = numerals::hex(words::word(given), &mut bytes) else {
+        return output::put(out, at, b'?');
+    };
+    let mut numbers = [0i64; 100];
+    let Count::Is(m) = numerals::row(words::rest(given), &mut numbers) else {
+        return output::put(out, at, b'?');
+    };
+    put_places(room, &numbers, m, &bytes, n, out, at)
+}
+
+// The first `m` values and the first `n` presence bytes, written into `room` bytes.
+fn put_places(
+    room: usize,
+    numbers: &Numbers,
+    m: usize,
+    bytes: &Bytes,
+    n: usize,
+    out: &mut Out,
+    at: usize,
+) -> usize {
     if 160 < room {
         return output::put(out, at, b'?');
     }
     let mut buffer = [0xa5u8; 160];
-    put_written(numerals::first(numbers, n), &mut buffer[0..room], out, at)
+    put_written(
+        numerals::first(numbers, m),
+        words::before(bytes, n),
+        &mut buffer[0..room],
+        out,
+        at,
+    )
 }
 
 // REFUSAL LENGTH : BUFFER
-fn put_written(row: &[i64], buffer: &mut [u8], out: &mut Out, at: usize) -> usize {
-    let w = wire::write_row(row, buffer);
-    let to = output::put_field(out, at, w.refusal as u64);
-    let to = output::put_field(out, to, w.length as u64);
-    let to = output::put_all(out, to, b": ");
-    output::put_hex(out, to, buffer)
+fn put_written(
+    values: &[i64],
+    present: &[u8],
+    buffer: &mut [u8],
+    out: &mut Out,
+    at: usize,
+) -> usize {
+    let w = wire::write_row(values, present, buffer);
+    output::put_written(out, at, w.refusal, w.length, buffer)
 }

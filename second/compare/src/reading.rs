@@ -2,14 +2,14 @@
 
 use crate::{messages, same, Compared};
 use second::hex::hex;
-use second::message::read;
+use second::message::{read, Row};
 use second::random::Random;
 use second::refusal::{number_of, Refusal};
 use tarnoklej::ffi;
 
-/// The most places of a row that is read into, some more than the longest row has.
+/// The most places of a buffer that is read into, some more than the longest row has.
 const MOST_ROOM: usize = 96;
-/// The places behind a row that must stay as they were.
+/// The places behind a buffer that must stay as they were.
 const BEHIND: usize = 4;
 
 /// Compares the header of one message.
@@ -24,30 +24,45 @@ pub fn compare_header(random: &mut Random, turn: u64) -> Compared {
     same(second.refusal, library, second, || hex(&bytes))
 }
 
-/// The second program's row of a message for a room of places.
-fn row_of(bytes: &[u8], room: usize) -> Result<Vec<i64>, Refusal> {
+/// The second program's row of a message for rooms of places in the two buffers.
+fn row_of(bytes: &[u8], rooms: [usize; 2]) -> Result<Row, Refusal> {
     let row = read(bytes)?.row();
-    if row.len() > room {
+    if rooms.into_iter().any(|room| row.values.len() > room) {
         Err(Refusal::Room)
     } else {
         Ok(row)
     }
 }
 
-/// Compares the row of one message, what was in the row before being random.
+/// Compares the row of one message, what was in both buffers before being random.
 pub fn compare_row(random: &mut Random, turn: u64) -> Compared {
     let bytes = messages::of_kind(random, turn);
     let needed = read(&bytes).map_or(8, |message| message.fields.len());
-    let room = messages::any_room(random, needed, MOST_ROOM);
-    let before: Vec<i64> = (0..room + BEHIND).map(|_| random.bits() as i64).collect();
-    let answer = row_of(&bytes, room);
+    let rooms = any_rooms(random, needed);
+    let values: Vec<i64> = (0..rooms[0] + BEHIND).map(|_| random.bits() as i64).collect();
+    let before = Row { values, present: random.bytes(rooms[1] + BEHIND) };
+    let answer = row_of(&bytes, rooms);
     let mut second = before.clone();
     if let Ok(row) = &answer {
-        second[..row.len()].copy_from_slice(row);
+        second.values[..row.values.len()].copy_from_slice(&row.values);
+        second.present[..row.present.len()].copy_from_slice(&row.present);
     }
     let mut library = before;
+    let (values, present) = (library.values.as_mut_ptr(), library.present.as_mut_ptr());
     // SAFETY: the pointers are those of slices that do not overlap, and the lengths are at most theirs.
-    let refusal = unsafe { ffi::tarnoklej_read_fields(bytes.as_ptr(), bytes.len(), library.as_mut_ptr(), room) };
+    let refusal =
+        unsafe { ffi::tarnoklej_read_fields(bytes.as_ptr(), bytes.len(), values, rooms[0], present, rooms[1]) };
     let expected = number_of(&answer);
-    same(expected, (refusal, library), (expected, second), || format!("{} room {room}", hex(&bytes)))
+    same(expected, (refusal, library), (expected, second), || format!("{} rooms {rooms:?}", hex(&bytes)))
+}
+
+/// The rooms of the two buffers, which are often the same or one of which is often just enough.
+fn any_rooms(random: &mut Random, needed: usize) -> [usize; 2] {
+    let room = messages::any_room(random, needed, MOST_ROOM);
+    match random.below(4) {
+        0 => [room, needed],
+        1 => [needed, room],
+        2 => [room, messages::any_room(random, needed, MOST_ROOM)],
+        _ => [room, room],
+    }
 }

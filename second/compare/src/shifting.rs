@@ -50,16 +50,15 @@ fn of_kind(random: &mut Random, grid: Grid, kind: u64) -> Grid {
     }
 }
 
-/// The grid with an origin field at its most negative pattern, where it is signed.
+/// The grid with an origin field that has no value, or is 0 where it is unsigned.
 fn without_origin(random: &mut Random, grid: &Grid) -> Grid {
     let df = grid.origin_fields()[random.below(2) as usize];
-    grid.set(df, by_df(df).width_least())
+    grid.set(df, by_df(df).reading(by_df(df).width_least()))
 }
 
-/// The grid with a mean that is not available.
+/// The grid with a mean that has no value.
 fn without_mean(random: &mut Random, grid: &Grid) -> Grid {
-    let df = grid.mean_field(random.below(3) as usize);
-    grid.set(df, by_df(df).width_least())
+    grid.set(grid.mean_field(random.below(3) as usize), None)
 }
 
 /// A grid with origin, spacings, means and nodes at the ends of their ranges.

@@ -1,6 +1,6 @@
 //! Cases of grids across 180 degrees, where longitudes change their sign (document 02, A2).
 
-use super::shifts::{case, lines_and_corners, middles, nodes, random_grid, random_position, refusals, word, Call};
+use super::shifts::{case, lines_and_corners, middles, nodes, random_grid, random_position, refusal_cases, word, Call};
 use super::Case;
 use crate::gridsamples::{Grid, HALF_TURN};
 use crate::random::Random;
@@ -27,7 +27,7 @@ pub fn cases() -> Vec<Case> {
     for component in 0..3 {
         let grid = grid_at(RAW_HALF_TURN, 720);
         let position = [grid.origin()[0], 1_000 - HALF_TURN];
-        cases.extend(refusals("antimeridian", || Call { grid: grid.clone(), component, position }));
+        cases.extend(refusal_cases("antimeridian", &Call { grid, component, position }));
     }
     cases.extend(random_grids());
     cases.extend(plane());
@@ -122,7 +122,7 @@ fn absent_nodes() -> Vec<Case> {
     let wide = grid.spacing()[1];
     let mut cases = Vec::new();
     for node in [3, 7, 11, 15] {
-        let bytes = grid.set_node(1, node, -256).bytes();
+        let bytes = grid.set_node(1, node, None).bytes();
         let north = grid.at_node(node)[0];
         let around = [
             ("plus", HALF_TURN),
@@ -186,7 +186,7 @@ fn random_grids() -> Vec<Case> {
 /// A random grid of 1023 that has the meridian of 180 degrees on or within its outer rectangle.
 pub fn random_grid_across(random: &mut Random) -> Grid {
     let grid = random_grid(random, 1023);
-    let wide = grid.sample.row[grid.sample.place(195)];
+    let wide = grid.sample.value(195);
     let beyond = random.within(-3 * wide / 2, 3 * wide / 2);
     let east_of_greenwich = beyond < 0 || (beyond == 0 && random.below(2) == 0);
     grid.set(193, if east_of_greenwich { RAW_HALF_TURN + beyond } else { -RAW_HALF_TURN + beyond })

@@ -2,15 +2,20 @@
 
 pub mod antimeridian;
 mod reads;
+mod record_shifts;
+mod records;
 pub mod shifts;
 mod tables;
 mod writes;
 
+use crate::hex::hex;
+use crate::message::Row;
+use crate::refusal::{number_of, Refusal};
 use std::collections::HashSet;
 use std::path::Path;
 
 /// The longest line of the standard input.
-const LONGEST_LINE: usize = 600;
+const LONGEST_LINE: usize = 900;
 /// The longest name of a case.
 const LONGEST_NAME: usize = 40;
 
@@ -45,12 +50,32 @@ pub struct Wanted {
     pub table: bool,
 }
 
+/// What every byte of a buffer holds before a call.
+const BEFORE: u8 = 0xa5;
+
+/// The presence bytes of a row and then its values, as they stand behind a command.
+fn row_words(row: &Row) -> String {
+    let values: String = row.values.iter().map(|value| format!(" {value}")).collect();
+    format!("{}{values}", hex(&row.present))
+}
+
+/// What is printed of a call that writes a message into a buffer.
+fn buffer_after(written: Result<Vec<u8>, Refusal>, room: usize) -> String {
+    let mut buffer = vec![BEFORE; room];
+    let refusal = number_of(&written);
+    let bytes = written.unwrap_or_default();
+    buffer[..bytes.len()].copy_from_slice(&bytes);
+    format!("{refusal} {} : {}", bytes.len(), hex(&buffer))
+}
+
 /// All cases wanted, in order.
 pub fn cases(wanted: Wanted) -> Vec<Case> {
     let mut cases = reads::cases();
     cases.extend(writes::cases());
+    cases.extend(records::cases());
     if wanted.shift {
         cases.extend(shifts::cases());
+        cases.extend(record_shifts::cases());
     }
     if wanted.table {
         cases.extend(tables::cases());

@@ -53,7 +53,7 @@ fn answer(bytes: &[u8]) -> String {
     let refusal = number_of(&message);
     match message {
         Ok(m) => format!("{} {} : {}", header(refusal, &m), kinds.join(" "), parts(&m)),
-        Err(_) => format!("{refusal} 0 0 0 {} : - : - : -", kinds.join(" ")),
+        Err(_) => format!("{refusal} 0 0 0 {} : - : - : - : -", kinds.join(" ")),
     }
 }
 
@@ -62,13 +62,13 @@ fn header(refusal: u8, message: &Message) -> String {
     format!("{} {} {} {}", refusal, message.number, message.length, message.sin())
 }
 
-/// The row, the bytes written from the row, and the bytes written from the record.
+/// The values and presence bytes of the row, the bytes written from the row, and the bytes written from the record.
 fn parts(message: &Message) -> String {
     let row = message.row();
-    let numbers: Vec<String> = row.iter().map(i64::to_string).collect();
+    let values: Vec<String> = row.values.iter().map(i64::to_string).collect();
     let from_row = write_row(&row, ROOM).expect("an accepted row is written");
     let from_record = write_record(&record_of(message), ROOM).expect("an accepted record is written");
-    format!("{} : {} : {}", numbers.join(" "), hex(&from_row), hex(&from_record))
+    format!("{} : {} : {} : {}", values.join(" "), hex(&row.present), hex(&from_row), hex(&from_record))
 }
 
 /// The cases that document 01 works out or names.
@@ -83,7 +83,7 @@ fn worked() -> Vec<Case> {
         case("p12-53".into(), &[&bytes[..], &[0]].concat()),
         case("run-fill".into(), &with_fill),
         case("run-df152-162000".into(), &p12.with(152, 162_000).bytes()),
-        case("run-df152-not-available".into(), &p12.with(152, -262_144).bytes()),
+        case("run-df152-not-available".into(), &p12.with(152, None).bytes()),
         case("run-df152-162001".into(), &p12.with(152, 162_001).bytes()),
         case("run-df152-minus-162000".into(), &p12.with(152, -162_000).bytes()),
         case("run-df152-minus-162001".into(), &p12.with(152, -162_001).bytes()),
@@ -121,8 +121,8 @@ fn short_and_unknown() -> Vec<Case> {
 
 /// Messages all of whose fields are at one end, zero, minus one or not available.
 fn whole_rows(number: u16) -> Vec<Case> {
-    let all = |name: &str, value: fn(&crate::fields::Field) -> i64| {
-        case(format!("{number}-all-{name}"), &Sample::new(number, [b"\xff", b"\x00"], value).bytes())
+    let all = |name: &str, number_of: fn(&crate::fields::Field) -> i64| {
+        case(format!("{number}-all-{name}"), &Sample::new(number, [b"\xff", b"\x00"], number_of).bytes())
     };
     vec![
         case(format!("{number}-usual"), &Sample::usual(number).bytes()),
@@ -158,9 +158,10 @@ fn field_ends(number: u16) -> Vec<Case> {
     let mut cases = Vec::new();
     for place in plain_places(&usual) {
         let field = by_df(usual.dfs[place]);
-        for (word, value) in taken(field).into_iter().chain(refused(field)) {
+        let outside = refused(field).into_iter().map(|(word, value)| (word, Some(value)));
+        for (word, reading) in taken(field).into_iter().chain(outside) {
             let name = format!("{}-{word}", label(&usual, place));
-            cases.push(case(name, &usual.with_at(place, value).bytes()));
+            cases.push(case(name, &usual.with_at(place, reading).bytes()));
         }
     }
     cases
@@ -238,7 +239,7 @@ fn fill_bits(number: u16) -> Vec<Case> {
 }
 
 /// A field of the message that does not take all its width holds, if there is one.
-fn narrow_field(number: u16) -> Option<(u16, i64)> {
+pub fn narrow_field(number: u16) -> Option<(u16, i64)> {
     match number {
         1021 | 1022 => Some((153, 324_001)),
         1023 => Some((193, -1_296_001)),
@@ -279,7 +280,7 @@ fn name_lengths(number: u16) -> Vec<Case> {
     for source in [0, 1, 30, 31] {
         for target in [0, 1, 30, 31] {
             let names = [random.bytes(source), random.bytes(target)];
-            let sample = Sample::new(number, [&names[0], &names[1]], |f| crate::samples::any_value(&mut random, f));
+            let sample = Sample::new(number, [&names[0], &names[1]], |f| crate::samples::any_reading(&mut random, f));
             cases.push(case(format!("{number}-names-{source}-{target}"), &sample.bytes()));
         }
     }

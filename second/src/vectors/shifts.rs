@@ -6,13 +6,13 @@ use crate::gridsamples::Grid;
 use crate::hex::hex;
 use crate::message::read;
 use crate::random::Random;
-use crate::refusal::number_of;
+use crate::refusal::{number_of, Refusal};
 use crate::samples::Sample;
 use crate::services::services;
 
 /// All cases of the shift.
 pub fn cases() -> Vec<Case> {
-    let mut cases = worked();
+    let mut cases = on_messages(worked());
     cases.extend(nodes("k", &Grid::k(), &[2]));
     cases.extend(middles("k", &Grid::k(), &[2]));
     for (name, grid) in named_grids() {
@@ -24,10 +24,10 @@ pub fn cases() -> Vec<Case> {
     cases.extend(lines_and_corners("plane", &steep(1024), 1));
     for number in [1023, 1024] {
         cases.extend(halves(number));
-        cases.extend(absent_nodes(number));
-        cases.extend(absent_means(number));
+        cases.extend(on_messages(absent_nodes(number)));
+        cases.extend(on_messages(absent_means(number)));
         cases.extend(mean_factors(number));
-        cases.extend(pairs(number));
+        cases.extend(on_messages(pairs(number)));
         cases.extend(limits(number));
         cases.extend(widest(number));
         cases.extend(random_grids(number));
@@ -40,18 +40,21 @@ pub fn cases() -> Vec<Case> {
 
 /// A case of the shift on any bytes.
 pub(super) fn case(name: String, bytes: &[u8], component: u8, [north, east]: [i64; 2]) -> Case {
-    let given = shift(bytes, component, north, east);
-    let (kind, value) = match answer(bytes, component, north, east) {
+    Case {
+        name,
+        call: format!("shift {} {component} {north} {east}", hex(bytes)),
+        answer: both_answers(shift(bytes, component, north, east), answer(bytes, component, north, east)),
+    }
+}
+
+/// What is printed of a shift: refusal and count, and the answer a second time.
+pub(super) fn both_answers(count: Result<i64, Refusal>, answer: Answer) -> String {
+    let (kind, value) = match answer {
         Answer::Seconds(value) => ("seconds", value.to_bits()),
         Answer::Metres(value) => ("metres", value.to_bits()),
         Answer::Refused(number) => ("refused", u64::from(number)),
     };
-    let refusal = number_of(&given);
-    Case {
-        name,
-        call: format!("shift {} {component} {north} {east}", hex(bytes)),
-        answer: format!("{refusal} {} {kind} {value}", given.unwrap_or(0)),
-    }
+    format!("{} {} {kind} {value}", number_of(&count), count.unwrap_or(0))
 }
 
 /// A signed number as a word for a name.
@@ -59,32 +62,51 @@ pub(super) fn word(number: i64) -> String {
     number.to_string().replace('-', "m")
 }
 
+/// A call: a grid, a component and a position.
+#[derive(Clone)]
+pub(super) struct Call {
+    /// The grid of the message or the record.
+    pub grid: Grid,
+    /// The component asked for.
+    pub component: u8,
+    /// The position asked for.
+    pub position: [i64; 2],
+}
+
+/// The cases of named calls on messages.
+fn on_messages(calls: Vec<(String, Call)>) -> Vec<Case> {
+    calls.into_iter().map(|(name, call)| case(name, &call.grid.bytes(), call.component, call.position)).collect()
+}
+
 /// P1 to P11.
-fn worked() -> Vec<Case> {
+pub(super) fn worked() -> Vec<(String, Call)> {
     let k = Grid::k();
     let middle = k.origin();
     let six = k.at_node(6);
-    let negated = k.set_nodes(|component, node| -k.node(component, node));
-    let absent = k.set_node(2, 7, -256);
+    let negated = k.negated();
+    let absent = k.set_node(2, 7, None);
     let east_of = |[north, east]: [i64; 2], steps: i64| [north, east + steps];
     let north_of = |[north, east]: [i64; 2], steps: i64| [north + steps, east];
+    let call = |name: &str, grid: &Grid, component: u8, position: [i64; 2]| {
+        (name.to_string(), Call { grid: grid.clone(), component, position })
+    };
     vec![
-        case("p1".into(), &k.bytes(), 2, middle),
-        case("p2".into(), &k.bytes(), 2, k.at_node(1)),
-        case("p3".into(), &k.bytes(), 2, north_of(k.at_node(1), 1)),
-        case("p4".into(), &k.bytes(), 2, k.at_node(16)),
-        case("p5".into(), &k.bytes(), 2, east_of(six, 180_000)),
-        case("p6".into(), &k.bytes(), 2, east_of(six, 179_999)),
-        case("p7".into(), &negated.bytes(), 2, east_of(six, 180_000)),
-        case("p7-one-step-less".into(), &negated.bytes(), 2, east_of(six, 179_999)),
-        case("p7-one-step-more".into(), &negated.bytes(), 2, east_of(six, 180_001)),
-        case("p8".into(), &absent.bytes(), 2, six),
-        case("p9".into(), &absent.bytes(), 2, east_of(six, 1)),
-        case("p10".into(), &k.bytes(), 0, middle),
-        case("p10-east".into(), &k.bytes(), 1, middle),
-        case("p11-north".into(), &k.set(194, 0).bytes(), 2, middle),
-        case("p11-east".into(), &k.set(195, 0).bytes(), 2, middle),
-        case("p11-both".into(), &k.set(194, 0).set(195, 0).bytes(), 2, middle),
+        call("p1", &k, 2, middle),
+        call("p2", &k, 2, k.at_node(1)),
+        call("p3", &k, 2, north_of(k.at_node(1), 1)),
+        call("p4", &k, 2, k.at_node(16)),
+        call("p5", &k, 2, east_of(six, 180_000)),
+        call("p6", &k, 2, east_of(six, 179_999)),
+        call("p7", &negated, 2, east_of(six, 180_000)),
+        call("p7-one-step-less", &negated, 2, east_of(six, 179_999)),
+        call("p7-one-step-more", &negated, 2, east_of(six, 180_001)),
+        call("p8", &absent, 2, six),
+        call("p9", &absent, 2, east_of(six, 1)),
+        call("p10", &k, 0, middle),
+        call("p10-east", &k, 1, middle),
+        call("p11-north", &k.set(194, 0), 2, middle),
+        call("p11-east", &k.set(195, 0), 2, middle),
+        call("p11-both", &k.set(194, 0).set(195, 0), 2, middle),
     ]
 }
 
@@ -193,13 +215,16 @@ fn halves_across_zero(number: u16) -> Vec<Case> {
 }
 
 /// Each node not available, asked for at the node, beside it, and at its neighbours.
-fn absent_nodes(number: u16) -> Vec<Case> {
+pub(super) fn absent_nodes(number: u16) -> Vec<(String, Call)> {
     let grid = Grid::of(number, [100, 200], [6, 8], [1, 2, 3], |component, node| 10 * component as i64 - node as i64);
     let [high, wide] = grid.spacing();
-    let mut cases = Vec::new();
+    let mut calls = Vec::new();
     for node in 1..=16 {
         let component = (node % 3) as u8;
-        let bytes = grid.set_node(component as usize, node, -256).bytes();
+        let absent = grid.set_node(component as usize, node, None);
+        let mut call = |word: &str, component: u8, position: [i64; 2]| {
+            calls.push((format!("{number}-absent-{node}-{word}"), Call { grid: absent.clone(), component, position }));
+        };
         let [north, east] = grid.at_node(node);
         let around = [
             ("at", [0, 0]),
@@ -217,27 +242,24 @@ fn absent_nodes(number: u16) -> Vec<Case> {
             ("edge", [-high, wide / 2]),
         ];
         for (word, [y, x]) in around {
-            cases.push(case(format!("{number}-absent-{node}-{word}"), &bytes, component, [north + y, east + x]));
+            call(word, component, [north + y, east + x]);
         }
-        let other = (component + 1) % 3;
-        cases.push(case(format!("{number}-absent-{node}-other"), &bytes, other, [north, east]));
+        call("other", (component + 1) % 3, [north, east]);
     }
-    cases
+    calls
 }
 
 /// Each mean not available, asked for in every component.
-fn absent_means(number: u16) -> Vec<Case> {
-    let grid = steep(number);
-    let mut cases = Vec::new();
+pub(super) fn absent_means(number: u16) -> Vec<(String, Call)> {
+    let mut calls = Vec::new();
     for mean in 0..3 {
-        let df = grid.mean_field(mean);
-        let pattern = crate::fields::by_df(df).width_least();
         for component in 0..3 {
-            let bytes = grid.set(df, pattern).bytes();
-            cases.push(case(format!("{number}-absent-mean-{mean}-c{component}"), &bytes, component, grid.origin()));
+            let mut call = good_call(number, component);
+            call.grid = call.grid.set(call.grid.mean_field(mean), None);
+            calls.push((format!("{number}-absent-mean-{mean}-c{component}"), call));
         }
     }
-    cases
+    calls
 }
 
 /// Each mean at its ends and at plus and minus one, nodes being zero, so that the mean's factor shows.
@@ -260,16 +282,6 @@ fn mean_factors(number: u16) -> Vec<Case> {
     cases
 }
 
-/// A call with some reasons to be refused.
-pub(super) struct Call {
-    /// The grid of the message.
-    pub grid: Grid,
-    /// The component asked for.
-    pub component: u8,
-    /// The position asked for.
-    pub position: [i64; 2],
-}
-
 /// Gives a call one more reason to be refused, by the refusal's number.
 fn with_reason(mut call: Call, refusal: u8) -> Call {
     let vertical = call.component == 2;
@@ -279,82 +291,82 @@ fn with_reason(mut call: Call, refusal: u8) -> Call {
         9 => call.position[0] = far + 1,
         10 => call.grid = call.grid.set(if vertical { 191 } else { 190 }, 0),
         11 => call.grid = call.grid.set(if vertical { 213 } else { 212 }, 1),
-        12 => {
-            let df = call.grid.origin_fields()[0];
-            call.grid = call.grid.set(df, crate::fields::by_df(df).width_least());
-        }
+        12 => call.grid = call.grid.set(call.grid.origin_fields()[0], None),
         13 => call.grid = call.grid.set(call.grid.spacing_fields()[1], 0),
         14 => call.position[1] = far,
         _ => {
             let df = call.grid.mean_field(call.component.min(2) as usize);
-            call.grid = call.grid.set(df, crate::fields::by_df(df).width_least());
+            call.grid = call.grid.set(df, None);
         }
     }
     call
 }
 
 /// A call that is answered.
-fn good_call(number: u16, component: u8) -> Call {
+pub(super) fn good_call(number: u16, component: u8) -> Call {
     let grid = steep(number);
     Call { component, position: grid.origin(), grid }
 }
 
-/// The refusals of a component, and single fields of the message.
-fn pairs(number: u16) -> Vec<Case> {
-    let mut cases = Vec::new();
+/// The refusals of a component, and single fields of the grid.
+pub(super) fn pairs(number: u16) -> Vec<(String, Call)> {
+    let mut calls = Vec::new();
     for component in 0..3 {
-        cases.extend(refusals(&number.to_string(), || good_call(number, component)));
-        cases.extend(single_fields(number, component));
+        let good = good_call(number, component);
+        calls.extend(refusals(&number.to_string(), &good));
+        calls.extend(single_fields(number, &good));
     }
-    cases
+    calls
 }
 
 /// Each of refusals 8 to 15 alone and every pair of them, the later one being put in first, on a call that is answered.
-pub(super) fn refusals(name: &str, good: impl Fn() -> Call) -> Vec<Case> {
-    let mut cases = Vec::new();
-    let component = good().component;
+fn refusals(name: &str, good: &Call) -> Vec<(String, Call)> {
+    let component = good.component;
+    let mut calls = Vec::new();
     for first in 8..=15 {
-        let call = with_reason(good(), first);
-        let alone = format!("{name}-refusal-{first}-c{component}");
-        cases.push(case(alone, &call.grid.bytes(), call.component, call.position));
+        calls.push((format!("{name}-refusal-{first}-c{component}"), with_reason(good.clone(), first)));
         for second in first + 1..=15 {
-            let call = with_reason(with_reason(good(), second), first);
-            let pair = format!("{name}-refusals-{first}-{second}-c{component}");
-            cases.push(case(pair, &call.grid.bytes(), call.component, call.position));
+            let call = with_reason(with_reason(good.clone(), second), first);
+            calls.push((format!("{name}-refusals-{first}-{second}-c{component}"), call));
         }
     }
-    cases
+    calls
+}
+
+/// The cases of a message's refusals 8 to 15, alone and in pairs.
+pub(super) fn refusal_cases(name: &str, good: &Call) -> Vec<Case> {
+    on_messages(refusals(name, good))
 }
 
 /// Indicators, methods, origins and spacings one by one, those of the other components included.
-fn single_fields(number: u16, component: u8) -> Vec<Case> {
-    let call = good_call(number, component);
-    let [north, east] = call.grid.origin_fields();
-    let [high, wide] = call.grid.spacing_fields();
-    let east_pattern = if number == 1023 { -2_097_152 } else { 67_108_863 };
+fn single_fields(number: u16, good: &Call) -> Vec<(String, Call)> {
+    let [north, east] = good.grid.origin_fields();
+    let [high, wide] = good.grid.spacing_fields();
+    let last_east = if number == 1023 { None } else { Some(67_108_863) };
     let edits = [
-        (190, 0),
-        (191, 0),
-        (212, 1),
-        (212, 2),
-        (212, 3),
-        (213, 1),
-        (213, 2),
-        (213, 3),
-        (north, crate::fields::by_df(north).width_least()),
-        (east, east_pattern),
-        (high, 0),
-        (wide, 0),
-        (216, 7),
-        (217, 7),
-        (51, 65_535),
-        (147, 255),
+        (190, Some(0)),
+        (191, Some(0)),
+        (212, Some(1)),
+        (212, Some(2)),
+        (212, Some(3)),
+        (213, Some(1)),
+        (213, Some(2)),
+        (213, Some(3)),
+        (north, None),
+        (east, last_east),
+        (high, Some(0)),
+        (wide, Some(0)),
+        (216, Some(7)),
+        (217, Some(7)),
+        (51, Some(65_535)),
+        (147, Some(255)),
     ];
     edits
         .iter()
-        .map(|&(df, value)| {
-            let name = format!("{number}-c{component}-df{df}-{}", word(value));
-            case(name, &call.grid.set(df, value).bytes(), component, call.position)
+        .map(|&(df, reading)| {
+            let to = reading.map_or("none".to_string(), word);
+            let name = format!("{number}-c{}-df{df}-{to}", good.component);
+            (name, Call { grid: good.grid.set(df, reading), ..good.clone() })
         })
         .collect()
 }
@@ -474,19 +486,13 @@ pub fn random_grid(random: &mut Random, number: u16) -> Grid {
     let mean =
         [random.within(-mean_most, mean_most), random.within(-mean_most, mean_most), random.within(-16_383, 16_383)];
     let gaps = random.below(4) == 0;
-    Grid::of(
-        number,
-        origin,
-        spacing,
-        mean,
-        |_, _| {
-            if gaps && random.below(6) == 0 {
-                -256
-            } else {
-                random.within(-255, 255)
-            }
-        },
-    )
+    Grid::of(number, origin, spacing, mean, |_, _| {
+        if gaps && random.below(6) == 0 {
+            None
+        } else {
+            Some(random.within(-255, 255))
+        }
+    })
 }
 
 /// Messages of other numbers, refused messages, and both together with bad components and positions.
@@ -545,7 +551,7 @@ fn service_grids() -> Vec<Case> {
 fn grid_of(bytes: &[u8]) -> Grid {
     let message = read(bytes).expect("a sound message");
     let dfs = message.fields.iter().map(|f| f.0).collect();
-    Grid { sample: Sample { number: message.number, dfs, row: message.row() } }
+    Grid { sample: Sample { number: message.number, dfs, readings: message.all_readings() } }
 }
 
 /// Sixteen nodes and random positions of one service's grid.

@@ -1,17 +1,12 @@
-//! Cases of writing a row: sound rows, rooms, numbers outside their field, and wrong counts of fields.
+//! Cases of writing a row: sound rows, rooms, values outside their field, and buffers that are no row of a message.
 
 use super::reads::{label, plain_places};
-use super::Case;
+use super::{buffer_after, row_words, Case};
 use crate::fields::by_df;
-use crate::hex::hex;
 use crate::layouts::NUMBERS;
-use crate::message::write_row;
+use crate::message::{write_row, Row};
 use crate::random::Random;
-use crate::refusal::number_of;
-use crate::samples::{refused, taken, too_wide, Sample};
-
-/// What every byte of the buffer holds before the call.
-const BEFORE: u8 = 0xa5;
+use crate::samples::{end_by_turns, not_taken, taken, Sample};
 
 /// All cases of writing.
 pub fn cases() -> Vec<Case> {
@@ -19,9 +14,11 @@ pub fn cases() -> Vec<Case> {
     cases.extend(no_message());
     for number in NUMBERS {
         cases.extend(rooms(number));
-        cases.extend(taken_numbers(number));
-        cases.extend(refused_numbers(number));
+        cases.extend(taken_readings(number));
+        cases.extend(refused_values(number));
         cases.extend(wrong_counts(number));
+        cases.extend(different_counts(number));
+        cases.extend(no_places(number));
         cases.extend(extremes(number));
         cases.extend(random_rows(number));
         cases.extend(range_before_room(number));
@@ -33,19 +30,13 @@ pub fn cases() -> Vec<Case> {
 }
 
 /// A case of writing a row into a buffer.
-fn case(name: String, row: &[i64], room: usize) -> Case {
-    let numbers: String = row.iter().map(|v| format!(" {v}")).collect();
-    Case { name, call: format!("write {room}{numbers}"), answer: answer(row, room) }
+fn case(name: String, row: &Row, room: usize) -> Case {
+    Case { name, call: format!("write {room} {}", row_words(row)), answer: buffer_after(write_row(row, room), room) }
 }
 
-/// What is printed of a row that is written.
-fn answer(row: &[i64], room: usize) -> String {
-    let written = write_row(row, room);
-    let mut buffer = vec![BEFORE; room];
-    let refusal = number_of(&written);
-    let bytes = written.unwrap_or_default();
-    buffer[..bytes.len()].copy_from_slice(&bytes);
-    format!("{refusal} {} : {}", bytes.len(), hex(&buffer))
+/// A row of values that are all present.
+fn present(values: &[i64]) -> Row {
+    Row { values: values.to_vec(), present: vec![1; values.len()] }
 }
 
 /// A number as a word for a name.
@@ -59,13 +50,17 @@ fn word(number: i64) -> String {
 
 /// Rows that begin no message.
 fn no_message() -> Vec<Case> {
-    let mut cases = vec![case("write-empty".into(), &[], 0), case("write-empty-room".into(), &[], 8)];
+    let empty = present(&[]);
+    let mut cases = vec![case("write-empty".into(), &empty, 0), case("write-empty-room".into(), &empty, 8)];
     for number in [0, 1, -1, -1025, 1020, 1028, 4095, 4096, 4096 + 1025, 65536 + 1025, i64::MIN, i64::MAX] {
-        let mut row = Sample::zeros(1025).row;
-        row[0] = number;
+        let row = Sample::zeros(1025).with_at(0, number).row();
         cases.push(case(format!("write-number-{}", word(number)), &row, 33));
-        cases.push(case(format!("write-number-{}-alone", word(number)), &[number], 33));
+        cases.push(case(format!("write-number-{}-alone", word(number)), &present(&[number]), 33));
     }
+    cases.push(case("write-present-alone".into(), &Row { values: vec![], present: vec![1] }, 33));
+    cases.push(case("write-none-alone".into(), &Row { values: vec![0], present: vec![0] }, 33));
+    cases.push(case("write-most-values".into(), &Row { values: vec![1; 100], present: vec![] }, 33));
+    cases.push(case("write-most-present".into(), &Row { values: vec![1; 100], present: vec![1; 140] }, 33));
     cases
 }
 
@@ -74,18 +69,18 @@ fn rooms(number: u16) -> Vec<Case> {
     let sample = Sample::usual(number);
     let length = sample.bytes().len();
     let rooms = [0, 1, 2, length / 2, length - 2, length - 1, length, length + 1, length + 2, length + 17, 160];
-    rooms.iter().map(|&room| case(format!("write-{number}-room-{room}"), &sample.row, room)).collect()
+    rooms.iter().map(|&room| case(format!("write-{number}-room-{room}"), &sample.row(), room)).collect()
 }
 
-/// Every field at numbers it takes, at exact room, and by turns one byte short or with room to spare.
-fn taken_numbers(number: u16) -> Vec<Case> {
+/// Every field at readings it can have, at exact room, and by turns one byte short or with room to spare.
+fn taken_readings(number: u16) -> Vec<Case> {
     let usual = Sample::usual(number);
     let length = usual.bytes().len();
     let mut cases = Vec::new();
     for place in plain_places(&usual) {
-        for (i, (word, value)) in taken(by_df(usual.dfs[place])).into_iter().enumerate() {
+        for (i, (word, reading)) in taken(by_df(usual.dfs[place])).into_iter().enumerate() {
             let name = format!("write-{}-{word}", label(&usual, place));
-            let row = &usual.with_at(place, value).row;
+            let row = &usual.with_at(place, reading).row();
             let node = usual.dfs.iter().filter(|&&df| df == usual.dfs[place]).count() > 1;
             match i {
                 _ if node => {}
@@ -99,60 +94,110 @@ fn taken_numbers(number: u16) -> Vec<Case> {
     cases
 }
 
-/// Every field at numbers outside its range or its width, which would fit if cut to the width.
-fn refused_numbers(number: u16) -> Vec<Case> {
+/// Every field at values outside its range or its width, which would fit if cut to the width, and at its pattern.
+fn refused_values(number: u16) -> Vec<Case> {
     let usual = Sample::usual(number);
     let length = usual.bytes().len();
     let mut cases = Vec::new();
     for place in plain_places(&usual) {
-        let field = by_df(usual.dfs[place]);
-        for (word, value) in refused(field).into_iter().chain(too_wide(field)) {
+        for (word, value) in not_taken(by_df(usual.dfs[place])) {
             let name = format!("write-{}-{word}", label(&usual, place));
-            cases.push(case(name, &usual.with_at(place, value).row, length));
+            cases.push(case(name, &usual.with_at(place, value).row(), length));
         }
     }
     cases
 }
 
-/// Rows of one field fewer, one more, the first field alone, and twice the row.
+/// Rows of one field fewer, one more, the first field alone, and without it.
 fn wrong_counts(number: u16) -> Vec<Case> {
-    let row = Sample::usual(number).row;
-    let more = [&row[..], &[0]].concat();
-    let mut without_first = row.clone();
-    without_first.remove(0);
+    let values = Sample::usual(number).row().values;
+    let more = [&values[..], &[0]].concat();
+    let counted = |word: &str, values: &[i64]| case(format!("write-{number}-{word}"), &present(values), 160);
     vec![
-        case(format!("write-{number}-one-fewer"), &row[..row.len() - 1], 160),
-        case(format!("write-{number}-two-fewer"), &row[..row.len() - 2], 160),
-        case(format!("write-{number}-half"), &row[..row.len() / 2], 160),
-        case(format!("write-{number}-first-alone"), &row[..1], 160),
-        case(format!("write-{number}-two-fields"), &row[..2], 160),
-        case(format!("write-{number}-one-more"), &more, 160),
-        case(format!("write-{number}-two-more"), &[&more[..], &[0]].concat(), 160),
-        case(format!("write-{number}-without-first"), &without_first, 160),
+        counted("one-fewer", &values[..values.len() - 1]),
+        counted("two-fewer", &values[..values.len() - 2]),
+        counted("half", &values[..values.len() / 2]),
+        counted("first-alone", &values[..1]),
+        counted("two-fields", &values[..2]),
+        counted("one-more", &more),
+        counted("two-more", &[&more[..], &[0]].concat()),
+        counted("without-first", &values[1..]),
     ]
+}
+
+/// Buffers of different counts, of which one has the message's count of fields or both have another.
+fn different_counts(number: u16) -> Vec<Case> {
+    let values = Sample::usual(number).row().values;
+    let count = values.len();
+    let mut cases = Vec::new();
+    for presents in [0, 1, count / 2, count - 1, count + 1, count + 2, 140] {
+        let row = Row { values: values.clone(), present: vec![1; presents] };
+        cases.push(case(format!("write-{number}-present-bytes-{presents}"), &row, 160));
+        cases.push(case(format!("write-{number}-present-bytes-{presents}-short"), &row, 0));
+    }
+    for (word, more) in [("value", [1, 0]), ("present", [0, 1])] {
+        let extended =
+            |by: [usize; 2]| Row { values: [&values[..], &vec![0; by[0]]].concat(), present: vec![1; count + by[1]] };
+        cases.push(case(format!("write-{number}-{word}-more"), &extended(more), 160));
+        cases.push(case(format!("write-{number}-{word}-more-than-one-more"), &extended(more.map(|n| n + 1)), 160));
+    }
+    let fewer = Row { values: values[..count - 1].to_vec(), present: vec![1; count] };
+    cases.push(case(format!("write-{number}-value-fewer"), &fewer, 160));
+    cases
+}
+
+/// Every place with two numbers that it cannot have: a none with a value, a none in an unsigned field, a presence byte
+/// other than 0 and 1.
+fn no_places(number: u16) -> Vec<Case> {
+    let usual = Sample::usual(number);
+    let length = usual.bytes().len();
+    let mut random = Random::new(9_000 + number as u64);
+    let mut cases = Vec::new();
+    for place in 0..usual.dfs.len() {
+        let unsigned = !by_df(usual.dfs[place]).signed();
+        let mut changed = |word: &str, value: i64, present: u8| {
+            let mut row = usual.row();
+            (row.values[place], row.present[place]) = (value, present);
+            cases.push(case(format!("write-{number}-place-{place}-{word}"), &row, length));
+        };
+        let value = usual.readings[place].expect("usual fields have values");
+        if unsigned {
+            changed("none", 0, 0);
+        }
+        let any_not_zero = [1, -1, value, i64::MIN, i64::MAX][place % 5];
+        changed("none-with-value", if any_not_zero == 0 { 1 } else { any_not_zero }, 0);
+        changed("present-2", value, 2);
+        changed("present-above-1", value, random.within(2, 255) as u8);
+        if place % 4 == 0 {
+            changed("present-255", 0, 255);
+        }
+    }
+    cases
 }
 
 /// The ends of 64-bit numbers at every place, by turns.
 fn extremes(number: u16) -> Vec<Case> {
     let usual = Sample::usual(number);
     let mut cases = Vec::new();
-    for place in 1..usual.row.len() {
-        let (word, value) = if place % 2 == 0 { ("least", i64::MIN) } else { ("greatest", i64::MAX) };
-        cases.push(case(format!("write-{number}-place-{place}-{word}"), &usual.with_at(place, value).row, 12));
+    for place in 1..usual.readings.len() {
+        let (word, value) = end_by_turns(place);
+        cases.push(case(format!("write-{number}-place-{place}-{word}"), &usual.with_at(place, value).row(), 12));
     }
     cases
 }
 
-/// Random sound rows at exact room and at any room.
+/// Random sound rows at exact room and at any room, and all that can be none being none.
 fn random_rows(number: u16) -> Vec<Case> {
     let mut random = Random::new(7_000 + number as u64);
     let mut cases = Vec::new();
     for i in 0..12 {
         let sample = Sample::any(&mut random, number);
-        cases.push(case(format!("write-{number}-random-{i}"), &sample.row, sample.bytes().len()));
+        cases.push(case(format!("write-{number}-random-{i}"), &sample.row(), sample.bytes().len()));
         let room = random.below(161) as usize;
-        cases.push(case(format!("write-{number}-random-any-room-{i}"), &sample.row, room));
+        cases.push(case(format!("write-{number}-random-any-room-{i}"), &sample.row(), room));
     }
+    let none = Sample::new(number, [b"n", b"one"], |field| (!field.signed()).then(|| field.greatest()));
+    cases.push(case(format!("write-{number}-all-not-available"), &none.row(), none.bytes().len()));
     cases
 }
 
@@ -160,11 +205,16 @@ fn random_rows(number: u16) -> Vec<Case> {
 fn range_before_room(number: u16) -> Vec<Case> {
     let usual = Sample::usual(number);
     let length = usual.bytes().len();
-    let bad = usual.with(147, 256);
+    let bad = usual.with(147, 256).row();
+    let fewer = Row::of(&usual.readings[..usual.readings.len() - 1]);
+    let mut none_with_value = usual.row();
+    none_with_value.values[1] = 1;
+    none_with_value.present[1] = 0;
     vec![
-        case(format!("write-{number}-order-range-room"), &bad.row, length - 1),
-        case(format!("write-{number}-order-range-no-room"), &bad.row, 0),
-        case(format!("write-{number}-order-count-no-room"), &usual.row[..usual.row.len() - 1], 0),
+        case(format!("write-{number}-order-range-room"), &bad, length - 1),
+        case(format!("write-{number}-order-range-no-room"), &bad, 0),
+        case(format!("write-{number}-order-count-no-room"), &fewer, 0),
+        case(format!("write-{number}-order-none-no-room"), &none_with_value, length - 1),
     ]
 }
 
@@ -178,10 +228,12 @@ fn names(number: u16) -> Vec<Case> {
             let sample = Sample::new(number, [&names[0], &names[1]], |f| random.within(0, f.greatest().min(99_999)));
             let length = sample.bytes().len();
             let name = format!("write-{number}-names-{source}-{target}");
-            cases.push(case(format!("{name}-short"), &sample.row, length - 1));
-            cases.push(case(name, &sample.row, length));
+            cases.push(case(format!("{name}-short"), &sample.row(), length - 1));
+            cases.push(case(name, &sample.row(), length));
         }
     }
+    let longest = Sample::new(number, [&[255; 31], &[254; 31]], |field| field.least());
+    cases.push(case(format!("write-{number}-longest"), &longest.row(), longest.bytes().len()));
     cases.extend(characters(number));
     cases.extend(counters(number));
     cases
@@ -194,7 +246,7 @@ fn characters(number: u16) -> Vec<Case> {
     let mut cases = Vec::new();
     for place in [2, 3, 5, 6] {
         for (word, value) in [("0", 0), ("255", 255), ("256", 256), ("minus-1", -1), ("minus-256", -256)] {
-            let row = sample.with_at(place, value).row;
+            let row = sample.with_at(place, value).row();
             cases.push(case(format!("write-{number}-character-{place}-{word}"), &row, length));
         }
     }
@@ -207,7 +259,7 @@ fn counters(number: u16) -> Vec<Case> {
     let mut cases = Vec::new();
     for (df, which) in [(143, "source"), (145, "target")] {
         for value in (-1..=33).chain([255, 256 + 3, 32 + 3, 32 + 4, i64::MIN, i64::MAX]) {
-            let row = sample.with(df, value).row;
+            let row = sample.with(df, value).row();
             cases.push(case(format!("write-{number}-{which}-counter-{}", word(value)), &row, 80));
         }
     }

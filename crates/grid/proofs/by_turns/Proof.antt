@@ -1,13 +1,12 @@
 -- `grid::by_turns` meets its contract: what it answers differs by whole turns and lies in the half-open turn, so it is the only such number.
 -- Assumes nothing.
-use mathlib.Core.Path.{_≡_, refl, sym, ap, _∙_}
+use mathlib.Core.Path.{_∙_}
 use native.Mathlib.Omega.{arith}
-use lib.IntN.{ℤ, pos, negsuc, negℤ, _+ℤ_, _-ℤ_, _*ℤ_}
+use lib.IntN.{ℤ, pos, negsuc, negℤ, _+ℤ_, _-ℤ_}
 use Rattle.arith.proofs.Int.{at, nat, minus, _⊞_, _⊟_, _⊠_, ring, order, order-lt, known, known-lt, within-abs}
 use Rattle.arith.proofs.Machine.{Num, arg, lit, add, sub, fits, less, not-less}
 use Rattle.grid.specs.Shift.{turn, halfTurn}
 use Rattle.grid.proofs.Antimeridian.{turned-only}
-use borrow.Author.Needs.{needs}
 use Rattle.grid.proofs.by_turns.Statement.{statement}
 use Rattle.grid.proofs.by_turns.Tie as tie
 

@@ -1,120 +1,239 @@
--- `grid::cell_shift` meets its contract.
+-- `grid::cell_shift` meets its contract: the mean, then one node after the other.
 -- Assumes nothing.
-use mathlib.Core.Path.{_≡_, sym, ap, _∙_, subst}
-use mathlib.Core.Bool.{Bool, not}
-use Prim.Native.Nat.{_*_, _-_, _≤_, ℕ}
-use lib.IntN.{ℤ, pos, natAbs, _+ℤ_, _*ℤ_}
+use mathlib.Core.Path.{_≡_, sym, ap, _∙_, subst₂}
+use mathlib.Core.Bool.{true, false}
+use Prim.Native.Nat.{ℕ, _*_, _-_}
+use lib.IntN.{ℤ}
+use borrow.Author.Needs.{needs}
 use mir.Syntax.{w64}
 use mir.Val.{toZ, ofZ}
 use Rattle.arith.proofs.Back.{held}
-use Rattle.bilinear.specs.Bilinear.{nearestWhole, absentIn}
-use Rattle.cell.specs.Cell.{sumOf, countIn}
-use Rattle.grid.specs.Shift.{part, meanWidth, meanFactor, nodeFactor, surface, outcome}
+use Rattle.arith.proofs.Machine.{is-back}
+use Rattle.layout.specs.Layout.{valueIn}
+use Rattle.bilinear.specs.Bilinear.{lacks}
+use Rattle.cell.specs.declared.Corners.{Corners}
+use Rattle.cell.proofs.Sum.{southwest, southeast, northwest, northeast, fits-weight}
 use Rattle.grid_refusals.specs.Refusals.{available}
-use Rattle.grid.specs.Private.{cornersOf, nodesLack}
-use Rattle.grid.proofs.Parts.{absent-is, absent-out, present-out, value-is, value-most}
-use borrow.Author.Needs.{needs}
+use Rattle.grid.specs.Private.{Bounded, asked, valuesIn}
+use Rattle.grid.specs.declared.Nodes.{Nodes}
+use Rattle.grid.specs.declared.Located.{Located}
+use Rattle.grid.proofs.Parts.{missing, given, mean-out, sw-out, se-out, nw-out, ne-out, all-in}
 use Rattle.grid.proofs.cell_shift.Statement.{statement}
 use Rattle.grid.proofs.cell_shift.Tie as tie
 
-module _ (k : tie.After-mean-lacks) where
-  abbrev s : tie.Start
-  s = k .before .before .before .before .before
+-- the arguments and the weights
+module _ (s : tie.Start) where
+  abbrev n : Nodes
+  n = s .args .n
 
-  abbrev y : ℕ
-  y = s .args .y - s .args .k * s .args .h
+  abbrev p : Located
+  p = s .args .p
 
-  abbrev x : ℕ
-  x = s .args .x - s .args .l * s .args .w
+  abbrev u : ℕ
+  u = p .width - p .east
 
-  number : toZ w64 (ofZ w64 (s .args .g .number)) ≡ s .args .g .number
-  number = held (s .args .g .number) (k .before .before .before .before .struct-told .given .0 .1)
+  abbrev v : ℕ
+  v = p .height - p .north
 
-  mean : toZ w64 (ofZ w64 (k .before .before .before .part-of .result)) ≡ part (s .args .component) (s .args .g .mean)
-  mean = let r = k .before .before .before .part-of in held (r .result) (r .ok) ∙ r .ensures
-
-  corners : k .before .corners-of .result ≡ cornersOf (s .args .g .nodes) (s .args .component) (s .args .k) (s .args .l)
-  corners = k .before .corners-of .ensures
-
-  lacks-mean : k .mean-lacks .result ≡ not (available (meanWidth (s .args .g .number) (s .args .component)) (part (s .args .component) (s .args .g .mean)))
-  lacks-mean = k .mean-lacks .ensures ∙ (λ i. not (available (meanWidth (number i) (s .args .component)) (mean i)))
-
-  absent : Bool
-  absent = absentIn (surface (s .args .g) (s .args .component)) (s .args .k) (s .args .l) (s .args .y) (s .args .x)
+-- ---- the mean
 
 returns : tie.Need-returns
 returns c =
-    let k = c .before .before in
-    absent-out (s k .pre) (c .refused .result) (absent-is (s k .pre) ∙ rw (sym (lacks-mean k) ∙ c .before .if1 .taken)) (c .refused .ensures)
+    let s = c .before .before .before in
+    mean-out (s .args .number) (s .args .component) (s .args .mean) (n s) (p s) (c .refused .result) (ap available (c .before .enum-told .given .1)) (c .refused .ensures)
 
-module _ (l : tie.After-nodes-lack) where
-  abbrev k : tie.After-mean-lacks
-  k = l .before .before
+module _ (t : tie.After-known-told) where
+  abbrev s : tie.Start
+  s = t .before .before .before
 
-  lacks-node : l .nodes-lack .result ≡ nodesLack (s k .args .h) (s k .args .w) (y k) (x k) (cornersOf (s k .args .g .nodes) (s k .args .component) (s k .args .k) (s k .args .l))
-  lacks-node = l .nodes-lack .ensures ∙ ap (nodesLack (s k .args .h) (s k .args .w) (y k) (x k)) (corners k)
+  mean-has : available (s .args .mean) ≡ true
+  mean-has = ap available (t .before .mean .given .1)
 
-  absent-nodes : {b : Bool} → l .nodes-lack .result ≡ b → absentIn (surface (s k .args .g) (s k .args .component)) (s k .args .k) (s k .args .l) (s k .args .y) (s k .args .x) ≡ b
-  absent-nodes e = absent-is (s k .pre) ∙ rw (sym (lacks-mean k) ∙ l .before .if1 .left) (sym lacks-node ∙ e)
+  mean-is : toZ w64 (ofZ w64 (t .before .mean .given .0 .0)) ≡ valueIn (s .args .mean)
+  mean-is = held _ (t .known-told .given .0 .1) ∙ sym (ap valueIn (t .before .mean .given .1))
+
+-- ---- the south-western node
+
+module _ (k : tie.After-weighted) where
+  abbrev s1 : tie.Start
+  s1 = k .before .before .before .before .before .before
+
+  sw-says : k .weighted .result ≡ asked (u s1 * v s1) (n s1 .sw)
+  sw-says = k .weighted .ensures
 
 returns-2 : tie.Need-returns-2
 returns-2 c =
-    let l = c .before .before in
-    absent-out (s (k l) .pre) (c .refused2 .result) (absent-nodes l (c .before .if2 .taken)) (c .refused2 .ensures)
+    let k = c .before .before .before in
+    let s = s1 k in
+    sw-out (s .args .number) (s .args .component) (s .args .mean) (n s) (p s) (c .refused2 .result)
+    (mean-has (k .before .before .before)) (missing (u s * v s) (n s .sw) (sw-says k) (c .before .enum-told2 .given .1))
+    (c .refused2 .ensures)
 
-mean-counts-requires : tie.Need-mean-counts-requires
-mean-counts-requires c κs =
-    let a = c .before .before .before in
-    subst (λ (z : ℤ). natAbs z ≤ 16384) (sym (mean a)) (s a .pre .fields .mean (s a .args .component))
+module _ (t : tie.After-known-told2) where
+  abbrev k1 : tie.After-weighted
+  k1 = t .before .before .before
 
-module _ (n : tie.After-count-in) where
-  abbrev a : tie.After-mean-lacks
-  a = n .before .before .before .before .before .before
+  sw-has : lacks (u (s1 k1) * v (s1 k1)) (available (n (s1 k1) .sw)) ≡ false
+  sw-has = given (u (s1 k1) * v (s1 k1)) (n (s1 k1) .sw) (sw-says k1) (t .before .sw .given .1) .0
 
-  factor : n .before .factor-of .result ≡ nodeFactor (s a .args .g .number) (s a .args .component)
-  factor = n .before .factor-of .ensures ∙ ap (λ (z : ℤ). nodeFactor z (s a .args .component)) (number a)
+  sw-is : toZ w64 (ofZ w64 (t .before .sw .given .0 .0)) ≡ valueIn (n (s1 k1) .sw)
+  sw-is =
+      held _ (t .known-told2 .given .0 .1)
+      ∙ given (u (s1 k1) * v (s1 k1)) (n (s1 k1) .sw) (sw-says k1) (t .before .sw .given .1) .1
 
-  in-counts : toZ w64 (ofZ w64 (n .before .before .mean-counts .result)) ≡ pos meanFactor *ℤ part (s a .args .component) (s a .args .g .mean)
-  in-counts =
-      let r = n .before .before .mean-counts in held (r .result) (r .ok) ∙ r .ensures ∙ ap (λ (z : ℤ). pos meanFactor *ℤ z) (mean a)
+-- ---- the south-eastern node
 
-  count : toZ w64 (ofZ w64 (n .count-in .result))
-      ≡ pos meanFactor *ℤ part (s a .args .component) (s a .args .g .mean)
-      +ℤ nearestWhole (sumOf (nodeFactor (s a .args .g .number) (s a .args .component)) (s a .args .h) (s a .args .w) (y a) (x a) (cornersOf (s a .args .g .nodes) (s a .args .component) (s a .args .k) (s a .args .l))) (s a .args .h * s a .args .w)
-  count =
-      held (n .count-in .result) (n .count-in .ok)
-      ∙ n .count-in .ensures
-      ∙ (λ i. countIn (in-counts i) (factor i) (corners a i) (s a .args .h) (s a .args .w) (y a) (x a))
-      ∙ value-is (s a .pre)
+module _ (k : tie.After-weighted2) where
+  abbrev s2 : tie.Start
+  s2 = k .before .before .before .before .before .before .before .before .before .before
 
-done-requires : tie.Need-done-requires
-done-requires n κs = subst (λ (z : ℤ). natAbs z ≤ 9007199254740992) (sym (count n)) (value-most (s (a n) .pre))
+  se-says : k .weighted2 .result ≡ asked (p s2 .east * v s2) (n s2 .se)
+  se-says = k .weighted2 .ensures
 
 returns-3 : tie.Need-returns-3
 returns-3 c =
-    let n = c .before in
-    let l = n .before .before .before .before in
-    present-out (s (a n) .pre) (c .done .result) (absent-nodes l (n .before .before .before .if2 .left))
-    (c .done .ensures ∙ (λ i. outcome (number (a n) i) (s (a n) .args .component) 0 (count n i)))
+    let k = c .before .before .before in
+    let s = s2 k in
+    se-out (s .args .number) (s .args .component) (s .args .mean) (n s) (p s) (c .refused3 .result)
+    (mean-has (k .before .before .before .before .before .before .before)) (sw-has (k .before)) (missing (p s .east * v s) (n s .se) (se-says k) (c .before .enum-told3 .given .1))
+    (c .refused3 .ensures)
+
+module _ (t : tie.After-known-told3) where
+  abbrev k2 : tie.After-weighted2
+  k2 = t .before .before .before
+
+  se-has : lacks (p (s2 k2) .east * v (s2 k2)) (available (n (s2 k2) .se)) ≡ false
+  se-has = given (p (s2 k2) .east * v (s2 k2)) (n (s2 k2) .se) (se-says k2) (t .before .se .given .1) .0
+
+  se-is : toZ w64 (ofZ w64 (t .before .se .given .0 .0)) ≡ valueIn (n (s2 k2) .se)
+  se-is =
+      held _ (t .known-told3 .given .0 .1)
+      ∙ given (p (s2 k2) .east * v (s2 k2)) (n (s2 k2) .se) (se-says k2) (t .before .se .given .1) .1
+
+-- ---- the north-western node
+
+module _ (k : tie.After-weighted3) where
+  abbrev s3 : tie.Start
+  s3 = k .before .before .before .before .before .before .before .before .before .before .before .before .before .before
+
+  nw-says : k .weighted3 .result ≡ asked (u s3 * p s3 .north) (n s3 .nw)
+  nw-says = k .weighted3 .ensures
+
+returns-4 : tie.Need-returns-4
+returns-4 c =
+    let k = c .before .before .before in
+    let s = s3 k in
+    nw-out (s .args .number) (s .args .component) (s .args .mean) (n s) (p s) (c .refused4 .result)
+    (mean-has (k .before .before .before .before .before .before .before .before .before .before .before)) (sw-has (k .before .before .before .before .before)) (se-has (k .before)) (missing (u s * p s .north) (n s .nw) (nw-says k) (c .before .enum-told4 .given .1))
+    (c .refused4 .ensures)
+
+module _ (t : tie.After-known-told4) where
+  abbrev k3 : tie.After-weighted3
+  k3 = t .before .before .before
+
+  nw-has : lacks (u (s3 k3) * p (s3 k3) .north) (available (n (s3 k3) .nw)) ≡ false
+  nw-has = given (u (s3 k3) * p (s3 k3) .north) (n (s3 k3) .nw) (nw-says k3) (t .before .nw .given .1) .0
+
+  nw-is : toZ w64 (ofZ w64 (t .before .nw .given .0 .0)) ≡ valueIn (n (s3 k3) .nw)
+  nw-is =
+      held _ (t .known-told4 .given .0 .1)
+      ∙ given (u (s3 k3) * p (s3 k3) .north) (n (s3 k3) .nw) (nw-says k3) (t .before .nw .given .1) .1
+
+-- ---- the north-eastern node
+
+module _ (k : tie.After-weighted4) where
+  abbrev s4 : tie.Start
+  s4 = k .before .before .before .before .before .before .before .before .before .before .before .before .before .before .before .before .before .before
+
+  ne-says : k .weighted4 .result ≡ asked (p s4 .east * p s4 .north) (n s4 .ne)
+  ne-says = k .weighted4 .ensures
+
+returns-5 : tie.Need-returns-5
+returns-5 c =
+    let k = c .before .before .before in
+    let s = s4 k in
+    ne-out (s .args .number) (s .args .component) (s .args .mean) (n s) (p s) (c .refused5 .result)
+    (mean-has (k .before .before .before .before .before .before .before .before .before .before .before .before .before .before .before)) (sw-has (k .before .before .before .before .before .before .before .before .before)) (se-has (k .before .before .before .before .before)) (nw-has (k .before)) (missing (p s .east * p s .north) (n s .ne) (ne-says k) (c .before .enum-told5 .given .1))
+    (c .refused5 .ensures)
+
+module _ (t : tie.After-known-told5) where
+  abbrev k4 : tie.After-weighted4
+  k4 = t .before .before .before
+
+  ne-has : lacks (p (s4 k4) .east * p (s4 k4) .north) (available (n (s4 k4) .ne)) ≡ false
+  ne-has = given (p (s4 k4) .east * p (s4 k4) .north) (n (s4 k4) .ne) (ne-says k4) (t .before .ne .given .1) .0
+
+  ne-is : toZ w64 (ofZ w64 (t .before .ne .given .0 .0)) ≡ valueIn (n (s4 k4) .ne)
+  ne-is =
+      held _ (t .known-told5 .given .0 .1)
+      ∙ given (p (s4 k4) .east * p (s4 k4) .north) (n (s4 k4) .ne) (ne-says k4) (t .before .ne .given .1) .1
+
+-- ---- the count
+
+module _ (t : tie.After-known-told5) where
+  abbrev b : tie.After-known-told
+  b = t .before .before .before .before .before .before .before .before .before .before .before .before .before .before .before .before .before .before
+
+  values : _≡_ {A = Corners}
+      (record {
+        sw = toZ w64 (ofZ w64 (t .before .before .before .before .before .before .before .before .before .before .before .before .before .sw .given .0 .0));
+        se = toZ w64 (ofZ w64 (t .before .before .before .before .before .before .before .before .before .se .given .0 .0));
+        nw = toZ w64 (ofZ w64 (t .before .before .before .before .before .nw .given .0 .0));
+        ne = toZ w64 (ofZ w64 (t .before .ne .given .0 .0));
+      })
+      (valuesIn (n (s b)))
+  values i =
+      record {
+        sw = sw-is (t .before .before .before .before .before .before .before .before .before .before .before .before) i;
+        se = se-is (t .before .before .before .before .before .before .before .before) i;
+        nw = nw-is (t .before .before .before .before) i;
+        ne = ne-is t i;
+      }
+
+count-shift-requires : tie.Need-count-shift-requires
+count-shift-requires t κs = subst₂ (λ (m : ℤ) (c : Corners). Bounded m c (p (s (b t)))) (sym (mean-is (b t))) (sym (values t)) (s (b t) .pre)
+
+returns-6 : tie.Need-returns-6
+returns-6 c =
+    let t = c .before in
+    let a = s (b t) .args in
+    all-in (a .number) (a .component) (a .mean) (a .n) (a .p) (c .count-shift .result)
+    (mean-has (b t)) (sw-has (t .before .before .before .before .before .before .before .before .before .before .before .before)) (se-has (t .before .before .before .before .before .before .before .before)) (nw-has (t .before .before .before .before)) (ne-has t)
+    (c .count-shift .ensures) (is-back (s (b t) .fits .number)) (mean-is (b t)) (values t)
 
 pub cell-shift-spec : {M : Type 1} → statement M
 cell-shift-spec =
     tie.close
     (tie.spec
-    (λ c κs. tt)
-    (λ c κs. let s = c .before .before .before in (s .pre .row .0, s .pre .column .0))
     (λ c. search needs)
     (λ c. search needs)
-    (λ c. search needs)
-    (λ c. search needs)
-    (λ c κs. tt)
-    (λ c κs. tt)
+    (λ c κs. search needs)
     returns
-    (λ c κs. s (c .before) .pre .within)
-    (λ c κs. tt)
+    (λ c. search needs)
+    (λ c. search needs)
+    (λ c. fits-weight (southwest (c .before .before .before .before .before .pre .within)))
+    (λ c κs. search needs)
+    (λ c. search needs)
+    (λ c. search needs)
+    (λ c κs. search needs)
     returns-2
-    mean-counts-requires
-    (λ c κs. tt)
-    (λ c κs. tt)
-    done-requires
-    returns-3)
+    (λ c. fits-weight (southeast (c .before .before .before .before .before .before .before .before .before .pre .within)))
+    (λ c κs. search needs)
+    (λ c. search needs)
+    (λ c. search needs)
+    (λ c κs. search needs)
+    returns-3
+    (λ c. fits-weight (northwest (c .before .before .before .before .before .before .before .before .before .before .before .before .before .pre .within)))
+    (λ c κs. search needs)
+    (λ c. search needs)
+    (λ c. search needs)
+    (λ c κs. search needs)
+    returns-4
+    (λ c. fits-weight (northeast (c .before .before .before .before .before .before .before .before .before .before .before .before .before .before .before .before .before .pre .within)))
+    (λ c κs. search needs)
+    (λ c. search needs)
+    (λ c. search needs)
+    (λ c κs. search needs)
+    returns-5
+    count-shift-requires
+    returns-6)

@@ -1,14 +1,31 @@
--- `grid_records::append_shifts` meets its contract.
+-- `grid_records::append_shifts` meets its contract: the same place in both buffers.
 -- Assumes nothing.
+use Rattle.grid_records.specs.Grids.{shiftsRow}
 use Rattle.row.proofs.Appends.{same-row}
 use borrow.Author.Needs.{needs}
 use Rattle.grid_records.proofs.append_shifts.Statement.{statement}
 use Rattle.grid_records.proofs.append_shifts.Tie as tie
 
 returns : tie.Need-returns
-returns c = same-row (c .before .before .before .before .shifts-row .ensures) (c .before .append .ensures)
+unfolding shiftsRow
+returns c =
+    let b = c .before .before in
+    let s = b .before .before .before in
+    let a = s .before .before in
+    let p = same-row (a .before .before .before .shifts-values .ensures) (a .append .ensures) in
+    let q = same-row (s .shifts-present .ensures) (b .append-bytes .ensures) in
+    (record { room = p .room; place = q .place; stored = p .stored }, q)
 
 pub append-shifts-spec : {M : Type 1} → statement M
 append-shifts-spec =
     tie.close
-    (tie.spec (λ c κs. search needs) (λ c. search needs) (λ c κs. search needs) (λ c. search needs) returns)
+    (tie.spec
+    (λ c κs. search needs)
+    (λ c. search needs)
+    (λ c κs. search needs)
+    (λ c κs. search needs)
+    (λ c. search needs)
+    (λ c κs. search needs)
+    (λ c. search needs)
+    (λ c. search needs)
+    returns)

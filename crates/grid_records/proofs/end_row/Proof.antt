@@ -11,8 +11,8 @@ unfolding pairRow
 returns c =
     let s = c .before .before in
     let a = s .args in
-    λ i. backs (pairRow (a .methods)) _ (c .before .struct-told .given) i
-    ++ backs (pairRow (a .quality)) _ (c .struct-told2 .given) i
+    λ i. backs (a .methods .horizontal ∷ a .methods .vertical ∷ []) _ (c .before .struct-told .given) i
+    ++ backs (a .quality .horizontal ∷ a .quality .vertical ∷ []) _ (c .struct-told2 .given) i
     ++ (held (a .day) (s .fits .day .sfits) i ∷ [])
 
 pub end-row-spec : {M : Type 1} → statement M

@@ -10,16 +10,25 @@ use Rattle.grid_records.proofs.grid_of.Tie as tie
 returns : tie.Need-returns
 unfolding gridOf
 returns c =
+    let quality = c .before .before .before in
+    let methods = quality .before .before .before in
+    let nodes = methods .before .before .before in
+    let mean = nodes .before in
+    let spacing = mean .before in
+    let origin = spacing .before in
+    let indicators = origin .before in
+    let sin = indicators .before .before .before in
+    let number = sin .before .before .before in
     λ i. record {
-      number = (held _ (c .before .before .before .before .before .before .before .before .before .before .before .before .number-at .ok) ∙ c .before .before .before .before .before .before .before .before .before .before .before .before .number-at .ensures) i;
-      sin = (held _ (c .before .before .before .before .before .before .before .before .before .before .before .number-at2 .ok) ∙ c .before .before .before .before .before .before .before .before .before .before .before .number-at2 .ensures) i;
-      indicators = c .before .before .before .before .before .before .before .before .before .pair-at .ensures i;
-      origin = c .before .before .before .before .before .before .before .before .place-at .ensures i;
-      spacing = c .before .before .before .before .before .before .before .place-at2 .ensures i;
-      mean = c .before .before .before .before .before .before .shifts-at .ensures i;
-      nodes = c .before .before .before .before .before .nodes-at .ensures i;
-      methods = c .before .before .before .pair-at2 .ensures i;
-      quality = c .before .pair-at3 .ensures i;
+      number = (held _ (number .number-at .ok) ∙ number .number-at .ensures) i;
+      sin = (held _ (sin .number-at2 .ok) ∙ sin .number-at2 .ensures) i;
+      indicators = indicators .pair-at .ensures i;
+      origin = origin .origin-at .ensures i;
+      spacing = spacing .spacing-at .ensures i;
+      mean = mean .shifts-at .ensures i;
+      nodes = nodes .nodes-at .ensures i;
+      methods = methods .pair-at2 .ensures i;
+      quality = quality .pair-at3 .ensures i;
       day = (held _ (c .number-at3 .ok) ∙ c .number-at3 .ensures) i;
     }
 

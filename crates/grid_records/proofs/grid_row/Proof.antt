@@ -1,11 +1,13 @@
 -- `grid_records::grid_row` meets its contract: its parts are those of the definition.
 -- Assumes nothing.
-use mathlib.Core.Path.{ap, _∙_}
+use mathlib.Core.Path.{_∙_}
 use mathlib.Core.Bool.{true}
-use mathlib.Core.List.{[], _∷_, _++_}
+use mathlib.Core.List.{_++_}
+use lib.ListN.{length, replicate}
 use Rattle.arith.proofs.Back.{held}
-use Rattle.row.specs.Numbers.{numbers, pairRow}
-use Rattle.grid_records.specs.Grids.{placeRow, shiftsRow, nodesRow}
+use Rattle.row.specs.Numbers.{valuesOf, presentOf, buffers}
+use Rattle.grid_records.specs.Grids.{nodesRow}
+use Rattle.grid_records.specs.Private.{startRow, endRow}
 use Rattle.grid_records.proofs.Appends.{grid-parts}
 use borrow.Author.Needs.{needs}
 use Rattle.grid_records.proofs.grid_row.Statement.{statement}
@@ -13,14 +15,20 @@ use Rattle.grid_records.proofs.grid_row.Tie as tie
 
 returns : tie.Need-returns
 returns c =
-    let r = c .before .before .before .before .before .before .before .before .before .before .before .before .before .before .before .args .r in
+    let d = c .before .before .before .before in
+    let p = d .before .before in
+    let a = p .before in
+    let t = a .before in
+    let r = t .before .before .before .before .before .before .before .before .before .args .r in
     let start =
-    c .before .before .before .before .before .start-row .ensures
-    ∙ (λ i. (held (r .number) (c .before .before .before .before .before .before .before .struct-told .given .0 .1) i ∷ held (r .sin) (c .before .before .before .before .before .before .struct-told2 .given .1 .0 .1) i ∷ []) ++ pairRow (r .indicators) ++ placeRow (r .origin) ++ placeRow (r .spacing) ++ shiftsRow (r .mean)) in
+    a .start-row .ensures
+    ∙ (λ i. valuesOf (startRow (held (r .number) (t .before .struct-told .given .0 .1) i) (held (r .sin) (t .struct-told2 .given .1 .0 .1) i) (r .indicators) (r .origin) (r .spacing) (r .mean))) in
     let end =
-    c .before .before .before .end-row .ensures
-    ∙ (λ i. pairRow (r .methods) ++ pairRow (r .quality) ++ (held (r .day) (c .before .before .before .before .struct-told3 .given .1 .1 .1 .1 .1 .1 .1 .1 .1 .0 .1) i ∷ [])) in
-    c .numbers-around .ensures ∙ ap (numbers true) ((λ i. start i ++ nodesRow (r .nodes) ++ end i) ∙ grid-parts r)
+    d .end-row .ensures
+    ∙ (λ i. valuesOf (endRow (r .methods) (r .quality) (held (r .day) (d .before .struct-told3 .given .1 .1 .1 .1 .1 .1 .1 .1 .1 .0 .1) i))) in
+    c .numbers-around .ensures
+    ∙ (λ i. buffers true (start i ++ valuesOf (nodesRow (r .nodes)) ++ end i) (p .start-present .ensures i ++ presentOf (nodesRow (r .nodes)) ++ replicate (length (end i)) 1))
+    ∙ grid-parts r
 
 pub grid-row-spec : {M : Type 1} → statement M
 grid-row-spec =
@@ -28,6 +36,8 @@ grid-row-spec =
     (tie.spec
     (λ c κs. search needs)
     (λ c κs. search needs)
+    (λ c κs. search needs)
+    (λ c. search needs)
     (λ c. search needs)
     (λ c. search needs)
     (λ c κs. search needs)

@@ -20,18 +20,18 @@ module _ (k : tie.After-position-refusal) where
   abbrev s : tie.Start
   s = k .before .before
 
-  number : toZ w64 (ofZ w64 (s .args .g .number)) ≡ s .args .g .number
-  number = held (s .args .g .number) (k .before .struct-told .given .0 .1)
+  number : toZ w64 (ofZ w64 (s .args .f .number)) ≡ s .args .f .number
+  number = held (s .args .f .number) (k .before .struct-told .given .0 .1)
 
   abbrev before : List Test
-  before = (8, ltb 2 (s .args .component)) ∷ (9, beyond (s .args .g .number) (s .args .north) (s .args .east)) ∷ []
+  before = (8, ltb 2 (s .args .component)) ∷ (9, beyond (s .args .f .number) (s .args .north) (s .args .east)) ∷ []
 
   abbrev behind : List Test
   behind =
-      (10, sameZ (side (s .args .component) (s .args .g .indicators)) (pos 0))
-      ∷ (11, not (sameZ (side (s .args .component) (s .args .g .methods)) (pos 0)))
-      ∷ (12, not (originAvailable (s .args .g .number) (s .args .g .origin .north) (s .args .g .origin .east)))
-      ∷ (13, sameZ (s .args .g .spacing .north) (pos 0) || sameZ (s .args .g .spacing .east) (pos 0))
+      (10, sameZ (side (s .args .component) (s .args .f .indicators)) (pos 0))
+      ∷ (11, not (sameZ (side (s .args .component) (s .args .f .methods)) (pos 0)))
+      ∷ (12, not (originAvailable (s .args .f .origin)))
+      ∷ (13, sameZ (s .args .f .spacing .north) (pos 0) || sameZ (s .args .f .spacing .east) (pos 0))
       ∷ []
 
   told : k .position-refusal .result ≡ first before
@@ -43,28 +43,29 @@ returns : tie.Need-returns
 returns c = let k = c .before in stops (before k) (behind k) tt (told k) (c .if1 .taken)
 
 module _ (c : tie.After-field-refusal) where
+  abbrev l : tie.Else1
+  l = c .before .before .before .before .before .before .before
+
   abbrev k : tie.After-position-refusal
-  k = c .before .before .before .before .before .before .before .before .before .before
+  k = l .before
 
-  shown : toZ w64 (ofZ w64 (c .before .before .before .before .before .before .before .before .side-of .result)) ≡ side (s k .args .component) (s k .args .g .indicators)
-  shown = let r = c .before .before .before .before .before .before .before .before .side-of in held (r .result) (r .ok) ∙ r .ensures
+  shown : toZ w64 (ofZ w64 (c .before .before .before .before .before .before .side-of .result)) ≡ side (s k .args .component) (s k .args .f .indicators)
+  shown = let r = c .before .before .before .before .before .before .side-of in held (r .result) (r .ok) ∙ r .ensures
 
-  method : toZ w64 (ofZ w64 (c .before .before .before .before .before .before .before .side-of2 .result)) ≡ side (s k .args .component) (s k .args .g .methods)
-  method = let r = c .before .before .before .before .before .before .before .side-of2 in held (r .result) (r .ok) ∙ r .ensures
+  method : toZ w64 (ofZ w64 (c .before .before .before .before .before .side-of2 .result)) ≡ side (s k .args .component) (s k .args .f .methods)
+  method = let r = c .before .before .before .before .before .side-of2 in held (r .result) (r .ok) ∙ r .ensures
 
   fields : c .field-refusal .result ≡ first (behind k)
   fields =
       c .field-refusal .ensures
       ∙ (λ i. first ((10, sameZ (shown i) (pos 0))
       ∷ (11, not (sameZ (method i) (pos 0)))
-      ∷ (12, not (originAvailable (number k i) (held (s k .args .g .origin .north) (c .before .before .before .before .struct-told2 .given .0 .1) i) (held (s k .args .g .origin .east) (c .before .before .before .struct-told3 .given .1 .0 .1) i)))
-      ∷ (13, sameZ (held (s k .args .g .spacing .north) (c .before .before .struct-told4 .given .0 .1) i) (pos 0) || sameZ (held (s k .args .g .spacing .east) (c .before .struct-told5 .given .1 .0 .1) i) (pos 0))
+      ∷ (12, not (originAvailable (s k .args .f .origin)))
+      ∷ (13, sameZ (held (s k .args .f .spacing .north) (c .before .before .struct-told2 .given .0 .1) i) (pos 0) || sameZ (held (s k .args .f .spacing .east) (c .before .struct-told3 .given .1 .0 .1) i) (pos 0))
       ∷ []))
 
 returns-2 : tie.Need-returns-2
-returns-2 c =
-    let l = c .before .before .before .before .before .before .before .before .before in
-    fields c ∙ goes-on (before (k c)) (behind (k c)) tt (sym (told (k c)) ∙ l .if1 .left)
+returns-2 c = fields c ∙ goes-on (before (k c)) (behind (k c)) tt (sym (told (k c)) ∙ l c .if1 .left)
 
 pub early-refusal-spec : {M : Type 1} → statement M
 early-refusal-spec = tie.close (tie.spec (λ c κs. tt) returns (λ c κs. tt) (λ c κs. tt) (λ c κs. tt) returns-2)

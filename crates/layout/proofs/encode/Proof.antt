@@ -4,57 +4,54 @@ use Prim.Native.Nat.{_+_, _/_}
 use mathlib.Core.Path.{sym, _∙_}
 use native.Mathlib.Omega.{arith}
 use borrow.Author.Tests.{not-true, not-false}
-use Rattle.layout.specs.Layout.{encodeAll}
+use lib.ListN.{length}
+use Rattle.layout.specs.Layout.{encodeAll, rowOf}
+use Rattle.layout.proofs.Says.{of-true}
 use Rattle.layout.proofs.Loop.{total-most}
-use Rattle.layout.proofs.Round.{of-true, length-encodeAll}
+use Rattle.layout.proofs.Round.{length-encodeAll}
 use Rattle.layout.proofs.Answer.{write-many, write-range, write-room, write-none, refused-write, done-write}
 use borrow.Author.Needs.{needs}
 use Rattle.layout.proofs.encode.Statement.{statement}
 use Rattle.layout.proofs.encode.Tie as tie
 
 returns : tie.Need-returns
-returns c = let a = c .before .before .before .args in refused-write _ 4 (encodeAll (a .layout .now) (a .values .now)) (a .out .now) (write-many (a .layout .now) (a .values .now) (a .out .now) (c .if1 .taken))
+returns c =
+    let a = c .before .before .before .before .args in
+    refused-write _ 4 (encodeAll (a .layout .now) (rowOf (a .values .now) (a .present .now))) (a .out .now)
+    (write-many (a .layout .now) (a .values .now) (a .present .now) (length (a .out .now)) (c .if1 .taken))
 
 returns-2 : tie.Need-returns-2
 returns-2 c =
-    let a = c .before .before .before .before .before .args in
-    refused-write _ 4 (encodeAll (a .layout .now) (a .values .now)) (a .out .now)
-    (write-range (a .layout .now) (a .values .now) (a .out .now) (c .before .before .if1 .left) (sym (c .before .all-take .ensures) ∙ not-true _ (c .if2 .taken)))
+    let a = c .before .before .before .before .before .before .args in
+    refused-write _ 4 (encodeAll (a .layout .now) (rowOf (a .values .now) (a .present .now))) (a .out .now)
+    (write-range (a .layout .now) (a .values .now) (a .present .now) (length (a .out .now)) (c .before .before .if1 .left) (sym (c .before .row-taken .ensures) ∙ not-true _ (c .if2 .taken)))
 
 add-n : tie.Need-add-n
-add-n c = omega (arith, total-most (c .before .before .before .before .before .before .args .layout .now), c .total-bits .ensures)
+add-n c = omega (arith, total-most (c .before .before .before .before .before .before .before .args .layout .now), c .total-bits .ensures)
 
 returns-3 : tie.Need-returns-3
 returns-3 c =
-    let a = c .before .before .before .before .before .before .before .args in
-    refused-write _ 5 (encodeAll (a .layout .now) (a .values .now)) (a .out .now)
-    (write-room (a .layout .now) (a .values .now) (a .out .now) (c .before .before .before .before .if1 .left) (sym (c .before .before .before .all-take .ensures) ∙ not-false _ (c .before .before .if2 .left))
+    let a = c .before .before .before .before .before .before .before .before .args in
+    refused-write _ 5 (encodeAll (a .layout .now) (rowOf (a .values .now) (a .present .now))) (a .out .now)
+    (write-room (a .layout .now) (a .values .now) (a .present .now) (length (a .out .now)) (c .before .before .before .before .if1 .left) (sym (c .before .before .before .row-taken .ensures) ∙ not-false _ (c .before .before .if2 .left))
     (rw (c .before .total-bits .ensures) at (c .if3 .taken)))
 
 write-message-requires : tie.Need-write-message-requires
 write-message-requires c κs =
     let n = c .before .before .total-bits .ensures in
-    (rw n, (c .before .before .before .before .before .if1 .left, (c .before .if3 .left, of-true (sym (c .before .before .before .before .all-take .ensures) ∙ not-false _ (c .before .before .before .if2 .left)))))
+    (rw n, (c .before .before .before .before .before .if1 .left, (c .before .if3 .left, of-true (sym (c .before .before .before .before .row-taken .ensures) ∙ not-false _ (c .before .before .before .if2 .left)))))
 
 returns-4 : tie.Need-returns-4
 returns-4 c =
-    let a = c .before .before .before .before .before .before .before .before .before .before .before .args in
+    let a = c .before .before .before .before .before .before .before .before .before .before .before .before .args in
     let n = c .before .before .before .before .before .total-bits .ensures in
-    let d = done-write _ ((c .before .before .before .before .before .total-bits .result + 7) / 8) (encodeAll (a .layout .now) (a .values .now)) (a .out .now)
-    (write-none (a .layout .now) (a .values .now) (a .out .now) (c .before .before .before .before .before .before .before .before .if1 .left) (sym (c .before .before .before .before .before .before .before .all-take .ensures) ∙ not-false _ (c .before .before .before .before .before .before .if2 .left)) (rw n at (c .before .before .before .before .if3 .left)))
-    (rw n (sym (length-encodeAll (a .layout .now) (a .values .now)))) in
+    let rs = rowOf (a .values .now) (a .present .now) in
+    let d = done-write _ ((c .before .before .before .before .before .total-bits .result + 7) / 8) (encodeAll (a .layout .now) rs) (a .out .now)
+    (write-none (a .layout .now) (a .values .now) (a .present .now) (length (a .out .now)) (c .before .before .before .before .before .before .before .before .if1 .left) (sym (c .before .before .before .before .before .before .before .row-taken .ensures) ∙ not-false _ (c .before .before .before .before .before .before .if2 .left)) (rw n at (c .before .before .before .before .if3 .left)))
+    (rw n (sym (length-encodeAll (a .layout .now) rs))) in
     (d .0, c .before .before .write-message .ensures ∙ d .1)
 
 pub encode-spec : {M : Type 1} → statement M
 encode-spec =
     tie.close
-    (tie.spec
-    returns
-    (λ c κs. search needs)
-    returns-2
-    (λ c κs. search needs)
-    add-n
-    returns-3
-    write-message-requires
-    (λ c. search needs)
-    returns-4)
+    (tie.spec returns (λ c κs. search needs) returns-2 (λ c κs. search needs) add-n returns-3 write-message-requires (λ c. search needs) returns-4)

@@ -1,55 +1,58 @@
 -- `layout::write_all` meets its contract.
 -- Assumes nothing.
-use mathlib.Core.Path.{_∙_}
-use Prim.Native.Nat.{_-_, _<_}
+use mathlib.Core.Path.{_≡_, _∙_}
+use Prim.Native.Nat.{_-_}
 use native.Mathlib.Omega.{arith}
 use lib.IntN.{pos}
 use lib.ListN.{length, getD}
-use borrow.Author.Needs.{needs}
-use Rattle.layout.proofs.Loop.{Writing, writing-starts, entry-written, writing-goes-on, writing-ends, take-length}
 use Rattle.field.proofs.Sign.{bits-z}
+use Rattle.layout.specs.Layout.{rowTakes}
+use Rattle.layout.proofs.Says.{from-T, of-true}
+use Rattle.layout.proofs.Loop.{Writing, writing-starts, writing-goes-on, writing-ends, entry-taken, row-lengths, at-fits, total-most}
+use borrow.Author.Needs.{needs}
 use Rattle.layout.proofs.write_all.Statement.{statement}
 use Rattle.layout.proofs.write_all.Tie as tie
 
 abbrev Inv-loop : tie.InvT-loop
-Inv-loop s₀ p layout values at₀ i₀ s at i = Writing s₀ p layout values s at i
+Inv-loop s₀ layout values present at₀ i₀ s at i = Writing s₀ layout values present s at i × ((length layout ≡ length values) × (length layout ≡ length present))
 
 abbrev μ-loop : tie.MeasureT-loop
-μ-loop s₀ p layout values at₀ i₀ s at i = length layout - i
+μ-loop s₀ layout values present at₀ i₀ s at i = length layout - i
 
 loop-holds : tie.Need-loop-holds Inv-loop μ-loop
-loop-holds c = let a = c .before .before .args in writing-starts (a .s .now) (a .p) (a .layout .now) (a .values .now) (c .before .before .pre .1 .1)
+loop-holds c =
+    let a = c .before .before .before .args in
+    let t = from-T (rowTakes (a .layout .now) (a .values .now) (a .present .now)) (c .before .before .before .pre .1 .1) in
+    (writing-starts (a .s .now) (a .layout .now) (a .values .now) (a .present .now) t, row-lengths (a .layout .now) (a .values .now) (a .present .now) t)
 
-shared-slice-copy-out-write-value : tie.Need-shared-slice-copy-out-write-value Inv-loop μ-loop
-shared-slice-copy-out-write-value c =
-    let a = c .before .before .before .before .before .before .args in
-    omega (arith, take-length (a .layout .now) (a .values .now) (c .before .before .before .before .before .before .pre .1 .1))
+write-entry-requires : tie.Need-write-entry-requires Inv-loop μ-loop
+write-entry-requires c κs =
+    let a = c .before .before .before .before .before .before .before .before .before .args in
+    let l = c .before .before .before .before .before .loop in
+    let m = total-most (a .layout .now) in
+    let f = at-fits (a .layout .now) 0 (l .at) (l .i) (l .inv .0 .place) (omega arith) in
+    let n = l .inv .0 .sized in
+    let t = entry-taken (a .s .now) (a .layout .now) (a .values .now) (a .present .now) (l .s) (l .at) (l .i) (l .inv .0) (omega arith) (omega arith) (omega arith) in
+    (omega arith, (omega arith, rw (bits-z (getD (a .values .now) (l .i) (pos 0)) (record { sfits = c .before .write-entry-arg2 .given })) (of-true t)))
 
-write-value-requires : tie.Need-write-value-requires Inv-loop μ-loop
-write-value-requires c κs =
-    let a = c .before .before .before .before .before .before .before .args in
-    let l = c .before .before .before .before .loop in
-    let n : l .i < length (a .values .now) = omega (arith, take-length (a .layout .now) (a .values .now) (c .before .before .before .before .before .before .before .pre .1 .1)) in
-    let f = entry-written (a .s .now) (a .p) (a .layout .now) (a .values .now) (l .s) (l .at) (l .i) (l .inv) (omega arith) n in
-    (omega arith, (omega arith, rw (bits-z (getD (a .values .now) (l .i) (pos 0)) (record { sfits = c .write-value-arg2 .given })) (f .0)))
+add-at : tie.Need-add-at Inv-loop μ-loop
+add-at c =
+    let es = c .before .before .before .before .before .before .before .before .before .before .before .before .args .layout .now in
+    let l = c .before .before .before .before .before .before .before .before .loop in
+    omega (arith, total-most es, at-fits es 0 (l .at) (l .i) (l .inv .0 .place) (omega arith))
 
 loop-again : tie.Need-loop-again Inv-loop μ-loop
 loop-again c =
-    let a = c .before .before .before .before .before .before .before .before .before .before .args in
-    let l = c .before .before .before .before .before .before .before .loop in
-    let n : l .i < length (a .values .now) =
-    omega (arith, take-length (a .layout .now) (a .values .now) (c .before .before .before .before .before .before .before .before .before .before .pre .1 .1)) in
-    writing-goes-on (a .s .now) (a .p) (a .layout .now) (a .values .now) (l .s) (l .at) (l .i) (l .inv) (c .before .before .write-value .last .0) (omega arith) n
-    (rw (c .before .before .write-value .ensures, bits-z (getD (a .values .now) (l .i) (pos 0)) (record { sfits = c .before .before .before .write-value-arg2 .given })))
-
-same-length : tie.Need-same-length Inv-loop μ-loop
-same-length c = c .before .loop .inv .sized
+    let a = c .before .before .before .before .before .before .before .before .before .before .before .before .args in
+    let l = c .before .before .before .before .before .before .before .before .loop in
+    let z = bits-z (getD (a .values .now) (l .i) (pos 0)) (record { sfits = c .before .before .before .before .write-entry-arg2 .given }) in
+    (writing-goes-on (a .s .now) (a .layout .now) (a .values .now) (a .present .now) (l .s) (l .at) (l .i) (l .inv .0) (c .before .before .write-entry .last .0) (omega arith) (omega arith) (omega arith) (c .before .before .write-entry .ensures ∙ rw z), l .inv .1)
 
 returns : tie.Need-returns Inv-loop μ-loop
 returns c =
-    let a = c .before .before .before .before .args in
+    let a = c .before .before .before .before .before .args in
     let l = c .before .loop in
-    writing-ends (a .s .now) (a .p) (a .layout .now) (a .values .now) (l .s) (l .at) (l .i) (l .inv) (omega arith)
+    writing-ends (a .s .now) (a .layout .now) (a .values .now) (a .present .now) (l .s) (l .at) (l .i) (l .inv .0) (omega arith)
 
 pub write-all-spec : {M : Type 1} → statement M
 write-all-spec =
@@ -61,11 +64,12 @@ write-all-spec =
     (λ c. search needs)
     (λ c. omega arith)
     (λ c. search needs)
-    shared-slice-copy-out-write-value
-    write-value-requires
-    (λ c. omega arith)
+    (λ c. omega (arith, c .before .before .before .loop .inv .1))
+    (λ c. omega (arith, c .before .before .before .before .before .loop .inv .1))
+    write-entry-requires
+    add-at
     (λ c. omega arith)
     (λ c. omega arith)
     loop-again
-    same-length
+    (λ c. c .before .loop .inv .0 .sized)
     returns)

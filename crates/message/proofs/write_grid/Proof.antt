@@ -1,24 +1,18 @@
 -- `message::write_grid` meets its contract.
 -- Assumes nothing.
-use mathlib.Core.Path.{sym, _∙_}
-use lib.Seq.{length-take-le}
 use borrow.Author.Needs.{needs}
+use Rattle.grid_records.specs.Grids.{gridRow}
 use Rattle.message.proofs.RecordNumbers.{numbers-within, written-record}
 use Rattle.message.proofs.write_grid.Statement.{statement}
 use Rattle.message.proofs.write_grid.Tie as tie
 
-array-share-prefix-values : tie.Need-array-share-prefix-values
-array-share-prefix-values c = numbers-within _ _ _ (c .before .grid-row .ensures)
-
-slice-aggregate-write-kind : tie.Need-slice-aggregate-write-kind
-slice-aggregate-write-kind c = sym (length-take-le _ _ (numbers-within _ _ _ (c .before .before .grid-row .ensures)))
+write-numbers-requires : tie.Need-write-numbers-requires
+write-numbers-requires c κs = numbers-within _ _ (gridRow (c .before .before .before .args .r)) (c .before .grid-row .ensures)
 
 returns : tie.Need-returns
 returns c =
-    let a = c .before .before .before .before .before .before .before .before .args in
-    let e = written-record _ _ _ (c .before .before .before .before .before .before .grid-row .ensures) 1023 1024 (a .out .now) in
-    let w = c .before .before .write-kind .ensures in
-    (w .0 ∙ e .0, w .1 ∙ e .1)
+    let a = c .before .before .before .before .before .before .args in
+    written-record _ _ (gridRow (a .r)) (c .before .before .before .before .grid-row .ensures) 1023 1024 (a .out .now) (c .before .before .write-numbers .ensures)
 
 pub write-grid-spec : {M : Type 1} → statement M
-write-grid-spec = tie.close (tie.spec (λ c κs. tt) array-share-prefix-values slice-aggregate-write-kind (λ c κs. tt) (λ c. search needs) returns)
+write-grid-spec = tie.close (tie.spec (λ c κs. tt) write-numbers-requires (λ c. search needs) returns)

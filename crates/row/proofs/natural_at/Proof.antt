@@ -11,19 +11,19 @@ use Rattle.row.proofs.natural_at.Tie as tie
 
 returns : tie.Need-returns
 returns c =
-    let x = c .before .number-in in
+    let x = c .before .number-at in
     sym (natural-negative (x .result) (rw (held (x .result) (x .ok)) at (c .if1 .taken))) ∙ ap natural (x .ensures)
 
 cast-result : tie.Need-cast-result
 cast-result c =
-    let x = c .before .number-in in
+    let x = c .before .number-at in
     let h = held (x .result) (x .ok) in
     let t = cast-natural (x .result) (x .ok) (rw h at (c .if1 .left)) in
     rw h (t .0, record { fits = t .1 })
 
 returns-2 : tie.Need-returns-2
 returns-2 c =
-    let x = c .before .number-in in
+    let x = c .before .number-at in
     let h = held (x .result) (x .ok) in
     ap natAbs h ∙ sym (natural-abs (x .result) (rw h at (c .if1 .left))) ∙ ap natural (x .ensures)
 

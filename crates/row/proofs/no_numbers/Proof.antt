@@ -2,12 +2,12 @@
 -- Assumes nothing.
 use mathlib.Core.Path.{refl}
 use Rattle.arith.specs.Row.{padded}
-use Rattle.row.specs.Numbers.{numbers}
+use Rattle.row.specs.Numbers.{marked, buffers}
 use Rattle.row.proofs.no_numbers.Statement.{statement}
 use Rattle.row.proofs.no_numbers.Tie as tie
 
 returns : tie.Need-returns
-unfolding numbers padded
+unfolding buffers padded marked
 returns c = refl
 
 pub no-numbers-spec : {M : Type 1} → statement M

@@ -1,4 +1,4 @@
--- `transformation_records::area_at` meets its contract: each number read out of the row is the one that the definition names.
+-- `transformation_records::area_at` meets its contract: each place read is the one that the definition names.
 -- Assumes nothing.
 use borrow.Author.Needs.{needs}
 use mathlib.Core.Path.{_∙_}
@@ -11,10 +11,10 @@ returns : tie.Need-returns
 unfolding areaAt
 returns c =
     λ i. record {
-      latitude = (held _ (c .before .before .before .number-at .ok) ∙ c .before .before .before .number-at .ensures) i;
-      longitude = (held _ (c .before .before .number-at2 .ok) ∙ c .before .before .number-at2 .ensures) i;
-      north = (held _ (c .before .number-at3 .ok) ∙ c .before .number-at3 .ensures) i;
-      east = (held _ (c .number-at4 .ok) ∙ c .number-at4 .ensures) i;
+      latitude = c .before .before .before .says-at .ensures i;
+      longitude = c .before .before .says-at2 .ensures i;
+      north = (held _ (c .before .number-at .ok) ∙ c .before .number-at .ensures) i;
+      east = (held _ (c .number-at2 .ok) ∙ c .number-at2 .ensures) i;
     }
 
 pub area-at-spec : {M : Type 1} → statement M

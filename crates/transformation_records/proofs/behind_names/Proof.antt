@@ -3,17 +3,17 @@
 use mathlib.Core.Path.{ap, _∙_}
 use Prim.Native.Nat.{ℕ, _+_}
 use native.Mathlib.Omega.{arith}
-use Rattle.arith.specs.Row.{at}
-use Rattle.row.specs.Numbers.{counterAt}
+use Rattle.layout.specs.Layout.{rowOf}
+use Rattle.row.specs.Numbers.{says, counterAt}
 use borrow.Author.Needs.{needs}
 use Rattle.transformation_records.proofs.behind_names.Statement.{statement}
 use Rattle.transformation_records.proofs.behind_names.Tie as tie
 
 returns : tie.Need-returns
 returns c =
-    let v = c .before .before .args .v .now in
+    let a = c .before .before .before .args in
     let n = c .before .counter-at .ensures .0 in
-    let m = c .counter-at2 .ensures .0 ∙ ap (λ (k : ℕ). counterAt (at v) (2 + k)) n in
+    let m = c .counter-at2 .ensures .0 ∙ ap (λ (k : ℕ). counterAt (says (rowOf (a .values .now) (a .present .now))) (2 + k)) n in
     (λ i. 3 + n i + m i, omega arith)
 
 pub behind-names-spec : {M : Type 1} → statement M

@@ -1,7 +1,8 @@
 -- `transformation_records::counter_at` meets its contract.
 -- Assumes nothing.
 use native.Mathlib.Omega.{arith}
-use Rattle.arith.specs.Row.{at}
+use Rattle.layout.specs.Layout.{rowOf}
+use Rattle.row.specs.Numbers.{says}
 use Rattle.row.proofs.Rows.{counter-most}
 use borrow.Author.Needs.{needs}
 use Rattle.transformation_records.proofs.counter_at.Statement.{statement}
@@ -11,7 +12,7 @@ returns : tie.Need-returns
 returns c =
     let a = c .before .before .args in
     let e = c .counter-at .ensures in
-    (e, omega (arith, e, counter-most (at (a .v .now)) (a .k)))
+    (e, omega (arith, e, counter-most (says (rowOf (a .values .now) (a .present .now))) (a .k)))
 
 pub counter-at-spec : {M : Type 1} → statement M
 counter-at-spec = tie.close (tie.spec (λ c κs. search needs) returns)

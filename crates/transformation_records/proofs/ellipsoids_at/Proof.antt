@@ -1,4 +1,4 @@
--- `transformation_records::ellipsoids_at` meets its contract: each number read out of the row is the one that the definition names.
+-- `transformation_records::ellipsoids_at` meets its contract: each place read is the one that the definition names.
 -- Assumes nothing.
 use borrow.Author.Needs.{needs}
 use mathlib.Core.Path.{_∙_}

@@ -5,37 +5,41 @@ use mathlib.Core.Path.{_≡_, refl, ap, _∙_}
 use mathlib.Core.List.{List, _++_}
 use native.Mathlib.Omega.{arith}
 use lib.ListN.{drop, replicate}
-use lib.IntN.{ℤ}
-use Rattle.arith.specs.Row.{upTo, at}
+use Rattle.arith.specs.Row.{upTo}
 use Rattle.arith.specs.Whole.{natural}
-use Rattle.arith.proofs.Back.{held}
+use Rattle.field.specs.declared.Reading.{Reading}
+use Rattle.layout.specs.Layout.{rowOf}
 use Rattle.arith.proofs.Rows.{fill-turn, drop-replicate}
 use Rattle.transformation_records.specs.Transformations.{nameAt}
-use Rattle.row.specs.Numbers.{counterAt}
+use Rattle.row.specs.Numbers.{says, numberAt, counterAt}
 use Rattle.row.proofs.Rows.{counter-most}
 use Rattle.transformation_records.proofs.name_at.Statement.{statement}
 use Rattle.transformation_records.proofs.name_at.Tie as tie
 
+-- character i of the name whose counter stands at place k
+abbrev charFrom : (ℕ → Reading) → ℕ → ℕ → ℕ
+charFrom v k i = natural (numberAt v (k + 1 + i)) % 256
+
 abbrev Inv-loop : tie.InvT-loop
-Inv-loop v k n chars₀ j₀ chars j = (j ≤ n) × (chars ≡ upTo (λ i. natural (at v (k + 1 + i)) % 256) j ++ drop j chars₀)
+Inv-loop values present k n chars₀ j₀ chars j = (j ≤ n) × (chars ≡ upTo (charFrom (says (rowOf values present)) k) j ++ drop j chars₀)
 
 abbrev μ-loop : tie.MeasureT-loop
-μ-loop v k n chars₀ j₀ chars j = n - j
+μ-loop values present k n chars₀ j₀ chars j = n - j
 
 loop-holds : tie.Need-loop-holds Inv-loop μ-loop
 loop-holds c = (omega arith, refl)
 
 loop-again : tie.Need-loop-again Inv-loop μ-loop
 loop-again c =
-    let l = c .before .before .before .loop in
-    let s = c .before .before .before .before in
-    let a = s .before .args in
-    let m = counter-most (at (a .v .now)) (a .k) in
+    let l = c .before .before .loop in
+    let s = c .before .before .before in
+    let a = s .before .before .args in
+    let v = says (rowOf (a .values .now) (a .present .now)) in
+    let m = counter-most v (a .k) in
     let e = s .counter-at .ensures in (
       omega arith,
-      fill-turn (λ i. natural (at (a .v .now) (a .k + 1 + i)) % 256) (replicate 31 0) _ (l .j) _ 0 (l .inv .1)
-          (c .char-of .ensures ∙ ap (λ (z : ℤ). natural z % 256) (held (at (a .v .now) (a .k + 1 + l .j)) (c .before .char-of-arg .given)))
-          (omega arith),
+      fill-turn (charFrom v (a .k)) (replicate 31 0) _ (l .j) _ 0 (l .inv .1)
+          (c .char-at .ensures) (omega arith),
     )
 
 returns : tie.Need-returns Inv-loop μ-loop
@@ -43,9 +47,10 @@ unfolding nameAt
 returns c =
     let l = c .before .loop in
     let s = c .before .before in
-    let a = s .before .args in
-    let f : ℕ → ℕ = λ i. natural (at (a .v .now) (a .k + 1 + i)) % 256 in
-    let n = counterAt (at (a .v .now)) (a .k) in
+    let a = s .before .before .args in
+    let v = says (rowOf (a .values .now) (a .present .now)) in
+    let f = charFrom v (a .k) in
+    let n = counterAt v (a .k) in
     let long : s .counter-at .result ≡ n = s .counter-at .ensures .0 in
     let e : l .j ≡ n = omega arith in
     λ i. record {
@@ -61,8 +66,6 @@ name-at-spec =
     μ-loop
     (λ c κs. omega arith)
     loop-holds
-    (λ c. omega arith)
-    (λ c. omega arith)
     (λ c. omega arith)
     (λ c. omega arith)
     (λ c κs. tt)

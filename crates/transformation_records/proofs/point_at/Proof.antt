@@ -1,20 +1,20 @@
--- `transformation_records::point_at` meets its contract: each number read out of the row is the one that the definition names.
+-- `transformation_records::point_at` meets its contract: each place read is the one that the definition names.
 -- Assumes nothing.
-use borrow.Author.Needs.{needs}
-use mathlib.Core.Path.{_∙_}
-use Rattle.arith.proofs.Back.{held}
+use Prim.Native.Nat.{ℕ, _+_}
+use mathlib.Core.Path.{_≡_}
+use Rattle.field.specs.declared.Reading.{Reading}
+use Rattle.transformation_records.specs.declared.Point.{Point}
 use Rattle.transformation_records.specs.Transformations.{pointAt}
+use borrow.Author.Needs.{needs}
 use Rattle.transformation_records.proofs.point_at.Statement.{statement}
 use Rattle.transformation_records.proofs.point_at.Tie as tie
 
-returns : tie.Need-returns
+point-made : (v : ℕ → Reading) (k : ℕ) {x y z : Reading} → x ≡ v k → y ≡ v (k + 1) → z ≡ v (k + 2) → _≡_ {A = Point} (record { x = x; y = y; z = z }) (pointAt v k)
 unfolding pointAt
-returns c =
-    λ i. record {
-      x = (held _ (c .before .before .number-at .ok) ∙ c .before .before .number-at .ensures) i;
-      y = (held _ (c .before .number-at2 .ok) ∙ c .before .number-at2 .ensures) i;
-      z = (held _ (c .number-at3 .ok) ∙ c .number-at3 .ensures) i;
-    }
+point-made v k p q r = λ i. record { x = p i; y = q i; z = r i }
+
+returns : tie.Need-returns
+returns c = point-made _ _ (search needs) (search needs) (search needs)
 
 pub point-at-spec : {M : Type 1} → statement M
 point-at-spec =

@@ -4,7 +4,7 @@ use mathlib.Core.Path.{_∙_}
 use borrow.Author.Tests.{lt-ltb, le-ltb, lt-leb, le-leb}
 use native.Mathlib.Omega.{arith}
 use Rattle.wire.proofs.Head.{number-read, source-read}
-use Rattle.wire.specs.Message.{numberOf, sourceCount, message}
+use Rattle.wire.specs.Message.{numberOf, sourceCount}
 use Prim.Native.Nat.{_+_}
 use lib.ListN.{length}
 use Rattle.field.proofs.Place.{fieldAt-lt}

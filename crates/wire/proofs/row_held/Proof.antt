@@ -1,14 +1,13 @@
 -- `wire::row_held` meets its contract: each return is a case of the definition.
 -- Assumes nothing.
-use Prim.Native.Nat.{_≤_}
-use mathlib.Core.Path.{sym, _∙_}
 use native.Mathlib.Omega.{arith}
-use borrow.Author.Needs.{needs}
 use borrow.Author.Tests.{lt-leb, le-leb}
-use lib.ListN.{length}
-use lib.Seq.{length-take-le}
+use Rattle.layout.specs.Layout.{rowOf}
+use Rattle.row.specs.Numbers.{says}
+use Rattle.row.proofs.Rows.{counter-most}
 use Rattle.wire.specs.Message.{rowHeld}
-use Rattle.wire.proofs.Rows.{row-layout-most}
+use Rattle.wire.proofs.Rows.{row-layout-by, row-held-by}
+use borrow.Author.Needs.{needs}
 use Rattle.wire.proofs.row_held.Statement.{statement}
 use Rattle.wire.proofs.row_held.Tie as tie
 
@@ -20,23 +19,15 @@ returns-2 : tie.Need-returns-2
 unfolding rowHeld
 returns-2 c = rw (← c .before .before .natural-at .ensures, le-leb _ _ (c .before .if1 .left), lt-leb _ _ (c .if2 .taken))
 
--- the layout's entries are within the array
-within : (c : tie.After-row-plan) → c .row-plan .result .count ≤ length (c .row-plan .result .entries)
-within c = omega (arith, c .row-plan .ensures, row-layout-most (c .before .before .before .before .args .row .now))
-
-array-share-prefix-e : tie.Need-array-share-prefix-e
-array-share-prefix-e c = within (c .before)
-
-slice-aggregate-all-take : tie.Need-slice-aggregate-all-take
-slice-aggregate-all-take c = sym (length-take-le _ _ (within (c .before .before)))
+add-counter-at : tie.Need-add-counter-at
+add-counter-at c = let a = c .before .before .before .before .before .args in omega (arith, c .counter-at .ensures, counter-most (says (rowOf (a .values .now) (a .present .now))) 1)
 
 returns-3 : tie.Need-returns-3
-unfolding rowHeld
 returns-3 c =
-    let p = c .before .before .before in
-    let n = p .before .before .before .natural-at .ensures in
-    c .all-take .ensures
-    ∙ rw (p .row-plan .ensures .1 .1, le-leb _ _ (rw n at (p .before .before .if1 .left)), le-leb _ _ (rw n at (p .before .if2 .left)))
+    let a = c .before .before .before .before .before .before .before .args in
+    let n = c .before .before .before .before .before .natural-at .ensures in
+    let l = row-layout-by (rowOf (a .values .now) (a .present .now)) n (c .before .before .counter-at .ensures) (c .before .counter-at2 .ensures) in
+    row-held-by (a .lo) (a .hi) (a .values .now) (a .present .now) n (c .before .before .before .before .if1 .left) (c .before .before .before .if2 .left) l (c .taken-by .ensures)
 
 pub row-held-spec : {M : Type 1} → statement M
 row-held-spec =
@@ -46,7 +37,7 @@ row-held-spec =
     returns
     returns-2
     (λ c κs. search needs)
-    array-share-prefix-e
-    slice-aggregate-all-take
+    add-counter-at
+    (λ c κs. search needs)
     (λ c κs. search needs)
     returns-3)

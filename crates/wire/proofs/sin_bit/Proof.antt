@@ -3,7 +3,7 @@
 use mathlib.Core.Path.{ap, _∙_}
 use native.Mathlib.Omega.{arith}
 use Rattle.wire.proofs.Head.{number-read, source-read, target-read, head-of}
-use Rattle.wire.specs.Message.{numberOf, message}
+use Rattle.wire.specs.Message.{numberOf}
 use borrow.Author.Tests.{lt-leb, le-leb}
 use Rattle.field.proofs.Place.{fieldAt-lt}
 use Prim.Native.Nat.{ℕ, _+_, _*_}

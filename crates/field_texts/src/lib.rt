@@ -1,0 +1,52 @@
+// One field behind its text, which is a space, the DF number and `=`.
+use field::Reading;
+use lines::output;
+use lines::output::Out;
+use row::Pair;
+
+pub fn put_number(df: &[u8], n: i64, out: &mut Out, at: usize) -> usize {
+    let to = output::put_all(out, at, df);
+    output::put_whole(out, to, n)
+}
+
+pub fn put_reading(df: &[u8], r: Reading, out: &mut Out, at: usize) -> usize {
+    match r {
+        Reading::Value(n) => put_number(df, n, out, at),
+        Reading::Absent => put_none(df, out, at),
+    }
+}
+
+fn put_none(df: &[u8], out: &mut Out, at: usize) -> usize {
+    let to = output::put_all(out, at, df);
+    output::put_all(out, to, b"none")
+}
+
+// Two numbers that follow one another.
+pub fn put_numbers(first: &[u8], n: i64, second: &[u8], m: i64, out: &mut Out, at: usize) -> usize {
+    let to = put_number(first, n, out, at);
+    put_number(second, m, out, to)
+}
+
+// Two readings that follow one another.
+pub fn put_readings(
+    first: &[u8],
+    r: Reading,
+    second: &[u8],
+    q: Reading,
+    out: &mut Out,
+    at: usize,
+) -> usize {
+    let to = put_reading(first, r, out, at);
+    put_reading(second, q, out, to)
+}
+
+// Both fields of a pair.
+pub fn put_pair(first: &[u8], second: &[u8], r: Pair, out: &mut Out, at: usize) -> usize {
+    put_numbers(first, r.horizontal, second, r.vertical, out, at)
+}
+
+// REFUSAL :
+pub fn put_refusal(refusal: u8, out: &mut Out, at: usize) -> usize {
+    let to = output::put_small(out, at, refusal);
+    output::put_all(out, to, b" :")
+}

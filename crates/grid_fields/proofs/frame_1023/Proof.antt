@@ -1,0 +1,36 @@
+-- `grid_fields::frame_1023` meets its contract.
+-- Assumes nothing.
+use mathlib.Core.Path.{_∙_}
+use borrow.Author.Needs.{needs}
+use Rattle.arith.proofs.Back.{held}
+use Rattle.field.specs.Field.{signedAt}
+use Rattle.layout.specs.Layout.{total}
+use Rattle.layouts.specs.Layouts.{layout1023}
+use Rattle.row.specs.Numbers.{pairAt}
+use Rattle.grid_records.specs.Grids.{originAt, spacingAt, frameAt}
+use Rattle.grid_fields.specs.Private.{fieldSays}
+use Rattle.grid_fields.proofs.frame_1023.Statement.{statement}
+use Rattle.grid_fields.proofs.frame_1023.Tie as tie
+
+returns : tie.Need-returns
+unfolding frameAt pairAt originAt spacingAt fieldSays layout1023 total signedAt
+returns c =
+    λ i. record {
+      number = (held _ (c .before .before .before .before .before .number-at .ok) ∙ c .before .before .before .before .before .number-at .ensures) i;
+      indicators = c .before .before .before .before .pair-at .ensures i;
+      origin = record { north = c .before .before .before .signed-at .ensures i; east = c .before .before .signed-at2 .ensures i };
+      spacing = c .before .spacing-at .ensures i;
+      methods = c .pair-at2 .ensures i;
+    }
+
+pub frame-1023-spec : {M : Type 1} → statement M
+frame-1023-spec =
+    tie.close
+    (tie.spec
+    (λ c κs. search needs)
+    (λ c κs. search needs)
+    (λ c κs. search needs)
+    (λ c κs. search needs)
+    (λ c κs. search needs)
+    (λ c κs. search needs)
+    returns)

@@ -1,0 +1,14 @@
+-- `grid_records::append_bytes` meets its contract: there is room.
+-- Assumes nothing.
+use Rattle.row.proofs.Appends.{appends}
+use borrow.Author.Needs.{needs}
+use Rattle.grid_records.proofs.append_bytes.Statement.{statement}
+use Rattle.grid_records.proofs.append_bytes.Tie as tie
+
+returns : tie.Need-returns
+returns c =
+    let a = c .before .before in
+    appends (a .before .before .before .before .pre) (a .append-bytes .ensures .0) (a .append-bytes .ensures .1)
+
+pub append-bytes-spec : {M : Type 1} → statement M
+append-bytes-spec = tie.close (tie.spec (λ c κs. search needs) (λ c. search needs) returns)

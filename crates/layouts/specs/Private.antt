@@ -1,0 +1,18 @@
+-- What private functions ask and answer.
+-- Assumes nothing.
+use Prim.Native.Nat.{ℕ}
+use mathlib.Core.Path.{_≡_}
+use mathlib.Core.List.{List, [], _∷_}
+use lib.ListN.{replicate}
+use Rattle.layout.specs.Layout.{uint, int}
+
+-- a number that has no table of its own
+abbrev pub Other : ℕ → Type 0
+Other k = (((((k ≡ 1023 → ⊥) × (k ≡ 1024 → ⊥)) × (k ≡ 1025 → ⊥)) × (k ≡ 1026 → ⊥)) × (k ≡ 1027 → ⊥))
+
+-- the fields of the sixteen grid points, and those behind them
+unfoldable pub nodes : List ℕ
+nodes = replicate 48 (int 9)
+
+unfoldable pub behind : List ℕ
+behind = uint 2 ∷ uint 2 ∷ uint 3 ∷ uint 3 ∷ uint 16 ∷ []

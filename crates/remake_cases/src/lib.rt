@@ -1,0 +1,108 @@
+// `NAME remake KIND ROOM PRESENT V1 .. Vn`: a record made from a row, written into ROOM bytes of a5.
+use layout::Written;
+use lines::output;
+use lines::output::Out;
+use numerals::Count;
+use numerals::Present;
+use numerals::Values;
+
+pub fn answer(given: &[u8], out: &mut Out, at: usize) -> usize {
+    let Count::Is(kind) = numerals::natural(words::word(given)) else {
+        return output::put(out, at, b'?');
+    };
+    if 6 < kind {
+        return output::put(out, at, b'?');
+    }
+    if kind == 0 {
+        return output::put(out, at, b'?');
+    }
+    put_record(kind, words::rest(given), out, at)
+}
+
+// A record of the kind from the row that is given behind the room.
+fn put_record(kind: usize, given: &[u8], out: &mut Out, at: usize) -> usize {
+    let Count::Is(room) = numerals::natural(words::word(given)) else {
+        return output::put(out, at, b'?');
+    };
+    let mut values = [0i64; 96];
+    let mut present = [1u8; 96];
+    let Count::Is(_) = numerals::places(words::rest(given), &mut values, &mut present) else {
+        return output::put(out, at, b'?');
+    };
+    put_made(kind, room, &values, &present, out, at)
+}
+
+fn put_made(
+    kind: usize,
+    room: usize,
+    values: &Values,
+    present: &Present,
+    out: &mut Out,
+    at: usize,
+) -> usize {
+    if 160 < room {
+        return output::put(out, at, b'?');
+    }
+    let mut buffer = [0xa5u8; 160];
+    put_written(kind, values, present, &mut buffer[0..room], out, at)
+}
+
+// REFUSAL LENGTH : BUFFER
+fn put_written(
+    kind: usize,
+    values: &Values,
+    present: &Present,
+    buffer: &mut [u8],
+    out: &mut Out,
+    at: usize,
+) -> usize {
+    let w = write(kind, values, present, buffer);
+    output::put_written(out, at, w.refusal, w.length, buffer)
+}
+
+fn write(kind: usize, values: &Values, present: &Present, buffer: &mut [u8]) -> Written {
+    match kind {
+        1 => write_helmert(values, present, buffer),
+        2 => write_molodenski_badekas(values, present, buffer),
+        3 => write_grid(values, present, buffer),
+        _ => write_projected(kind, values, present, buffer),
+    }
+}
+
+fn write_projected(kind: usize, values: &Values, present: &Present, buffer: &mut [u8]) -> Written {
+    match kind {
+        4 => write_projection(values, present, buffer),
+        5 => write_lambert(values, present, buffer),
+        _ => write_oblique_mercator(values, present, buffer),
+    }
+}
+
+fn write_helmert(values: &Values, present: &Present, buffer: &mut [u8]) -> Written {
+    message::write_helmert(transformation_records::helmert_of(values, present), buffer)
+}
+
+fn write_molodenski_badekas(values: &Values, present: &Present, buffer: &mut [u8]) -> Written {
+    message::write_molodenski_badekas(
+        transformation_records::molodenski_badekas_of(values, present),
+        buffer,
+    )
+}
+
+fn write_grid(values: &Values, present: &Present, buffer: &mut [u8]) -> Written {
+    message::write_grid(grid_records::grid_of(values, present), buffer)
+}
+
+fn write_projection(values: &Values, present: &Present, buffer: &mut [u8]) -> Written {
+    message::write_projection(projection_records::projection_of(values, present), buffer)
+}
+
+fn write_lambert(values: &Values, present: &Present, buffer: &mut [u8]) -> Written {
+    message::write_lambert(projection_records::lambert_of(values, present), buffer)
+}
+
+fn write_oblique_mercator(values: &Values, present: &Present, buffer: &mut [u8]) -> Written {
+    message::write_oblique_mercator(
+        projection_records::oblique_mercator_of(values, present),
+        buffer,
+    )
+}

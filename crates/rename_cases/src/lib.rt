@@ -1,0 +1,147 @@
+// `NAME rename KIND ROOM SIDE LENGTH PLACE CHAR HEX`: a message's record with another name, written into ROOM bytes of a5.
+use layout::Written;
+use lines::output;
+use lines::output::Out;
+use numerals::Byte;
+use numerals::Bytes;
+use numerals::Count;
+use renamed_records::Change;
+
+enum Asked {
+    Is(Change),
+    Bad,
+}
+
+pub fn answer(given: &[u8], out: &mut Out, at: usize) -> usize {
+    let Count::Is(kind) = numerals::natural(words::word(given)) else {
+        return output::put(out, at, b'?');
+    };
+    if 2 < kind {
+        return output::put(out, at, b'?');
+    }
+    if kind == 0 {
+        return output::put(out, at, b'?');
+    }
+    put_record(kind, words::rest(given), out, at)
+}
+
+// The record of the kind, by what is given behind it.
+fn put_record(kind: usize, given: &[u8], out: &mut Out, at: usize) -> usize {
+    let Count::Is(room) = numerals::natural(words::word(given)) else {
+        return output::put(out, at, b'?');
+    };
+    let rest = words::rest(given);
+    let Count::Is(side) = numerals::natural(words::word(rest)) else {
+        return output::put(out, at, b'?');
+    };
+    if 1 < side {
+        return output::put(out, at, b'?');
+    }
+    put_change(kind, room, side, words::rest(rest), out, at)
+}
+
+// The change that is given, and the message behind it.
+fn put_change(
+    kind: usize,
+    room: usize,
+    side: usize,
+    given: &[u8],
+    out: &mut Out,
+    at: usize,
+) -> usize {
+    let rest = words::rest(given);
+    let behind = words::rest(rest);
+    let Asked::Is(c) = change_of(words::word(given), words::word(rest), words::word(behind)) else {
+        return output::put(out, at, b'?');
+    };
+    let mut bytes = [0u8; 140];
+    let Count::Is(n) = numerals::hex(words::rest(behind), &mut bytes) else {
+        return output::put(out, at, b'?');
+    };
+    put_message(kind, room, side, c, &bytes, n, out, at)
+}
+
+fn change_of(length: &[u8], place: &[u8], character: &[u8]) -> Asked {
+    let Count::Is(n) = numerals::natural(length) else {
+        return Asked::Bad;
+    };
+    if 200 < n {
+        return Asked::Bad;
+    }
+    let Count::Is(k) = numerals::natural(place) else {
+        return Asked::Bad;
+    };
+    if 200 < k {
+        return Asked::Bad;
+    }
+    let Byte::Is(b) = numerals::small(character) else {
+        return Asked::Bad;
+    };
+    Asked::Is(Change {
+        length: n,
+        place: k,
+        character: b,
+    })
+}
+
+// The record of the message in the first `n` bytes.
+fn put_message(
+    kind: usize,
+    room: usize,
+    side: usize,
+    c: Change,
+    bytes: &Bytes,
+    n: usize,
+    out: &mut Out,
+    at: usize,
+) -> usize {
+    if 160 < room {
+        return output::put(out, at, b'?');
+    }
+    let mut buffer = [0xa5u8; 160];
+    put_written(
+        kind,
+        side,
+        c,
+        words::before(bytes, n),
+        &mut buffer[0..room],
+        out,
+        at,
+    )
+}
+
+// REFUSAL LENGTH : BUFFER
+fn put_written(
+    kind: usize,
+    side: usize,
+    c: Change,
+    s: &[u8],
+    buffer: &mut [u8],
+    out: &mut Out,
+    at: usize,
+) -> usize {
+    let w = write(kind, side, c, s, buffer);
+    output::put_written(out, at, w.refusal, w.length, buffer)
+}
+
+fn write(kind: usize, side: usize, c: Change, s: &[u8], buffer: &mut [u8]) -> Written {
+    if kind == 1 {
+        return write_helmert(side, c, s, buffer);
+    }
+    write_molodenski_badekas(side, c, s, buffer)
+}
+
+fn write_helmert(side: usize, c: Change, s: &[u8], buffer: &mut [u8]) -> Written {
+    let r = message::read_helmert(s);
+    let value = r.value;
+    message::write_helmert(renamed_records::helmert_with(value, side, c), buffer)
+}
+
+fn write_molodenski_badekas(side: usize, c: Change, s: &[u8], buffer: &mut [u8]) -> Written {
+    let r = message::read_molodenski_badekas(s);
+    let value = r.value;
+    message::write_molodenski_badekas(
+        renamed_records::molodenski_badekas_with(value, side, c),
+        buffer,
+    )
+}
