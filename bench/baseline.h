@@ -1,5 +1,5 @@
-/* Plain C baselines for message 1023 and for a table of such messages, with the answers of include/tarnoklej.h but for
- * these:
+/* Plain C baselines for message 1023, for a table of such messages and for frames, with the answers of
+ * include/tarnoklej.h but for these:
  * a message, a row or a table's slot of any other number is refused (NUMBER, RANGE, TABLE);
  * a node of the cell that has no value is refused (ABSENT) also where it has no weight;
  * the weighted mean is a double before it is rounded, so that a count at or near a half can be another.
@@ -24,6 +24,8 @@ typedef struct {
                       size_t count, tarnoklej_shift *shifts);
     uint8_t (*store)(uint8_t *table, size_t size, const uint8_t *message, size_t length);
     tarnoklej_found (*find)(const uint8_t *table, size_t size, uint8_t sin, uint8_t group);
+    tarnoklej_frame (*find_frame)(const uint8_t *bytes, size_t size, size_t from);
+    tarnoklej_written (*write_frame)(const uint8_t *message, size_t length, uint8_t *out, size_t room);
 } baseline;
 
 /* Fields bit by bit, as GNSS decoders take them. */
@@ -33,4 +35,7 @@ extern const baseline ONE_LOAD;
 
 /* A table in which slots are looked up by their bytes alone, without a check that they are well formed. */
 extern const baseline UNCHECKED;
+
+/* Frames with a CRC by a table of 256 entries. */
+extern const baseline TABLE_OF_256;
 #endif

@@ -6,7 +6,7 @@
 #include <stdlib.h>
 #include <string.h>
 #include <time.h>
-#include "baseline.h"
+#include "call.h"
 
 /* The messages that are gone through in turn, and the positions for each. */
 enum { MESSAGES = 32, POSITIONS = 100 };
@@ -38,22 +38,20 @@ static void library_shifts_at(const uint8_t *message, size_t length, uint8_t com
         shifts[i] = tarnoklej_shift_at(message, length, component, at[i][0], at[i][1]);
 }
 
-static const baseline LIBRARY = {"library",          tarnoklej_read,    tarnoklej_read_fields, tarnoklej_write_fields,
-                                 tarnoklej_shift_at, library_shifts_at, tarnoklej_store,       tarnoklej_find};
+const baseline LIBRARY = {"library",
+                          tarnoklej_read,
+                          tarnoklej_read_fields,
+                          tarnoklej_write_fields,
+                          tarnoklej_shift_at,
+                          library_shifts_at,
+                          tarnoklej_store,
+                          tarnoklej_find,
+                          tarnoklej_find_frame,
+                          tarnoklej_write_frame};
 
 /* All that are timed, the library first. */
-enum { TIMED = 4 };
-static const baseline *const ALL[TIMED] = {&LIBRARY, &BIT_BY_BIT, &ONE_LOAD, &UNCHECKED};
-
-/* A call to time: makes the call of a turn and gives something of its answer, or whether the whole is the library's. */
-typedef struct {
-    const char *name;
-    uint64_t (*run)(const baseline *by, size_t turn, size_t size);
-    int (*same)(const baseline *by, size_t turn, size_t size);
-    size_t size;    /* positions for each message, or slots in use */
-    size_t answers; /* answers of one call */
-    int on_table;
-} call;
+enum { TIMED = 5 };
+static const baseline *const ALL[TIMED] = {&LIBRARY, &BIT_BY_BIT, &ONE_LOAD, &UNCHECKED, &TABLE_OF_256};
 
 static uint64_t run_read(const baseline *by, size_t turn, size_t size)
 {
@@ -195,25 +193,32 @@ static int same_store(const baseline *by, size_t turn, size_t size)
            memcmp(table, other, sizeof table) == 0 && memcmp(table, before, sizeof table) != 0;
 }
 
+/* The calls on messages and on a table. */
 static const call CALLS[] = {
-    {"read, header of a 1023", run_read, same_read, 0, 1, 0},
-    {"read_fields, row of a 1023", run_row, same_row, 0, 1, 0},
-    {"write_fields, a 1023", run_write, same_write, 0, 1, 0},
-    {"shift_at, 1 position of a message", run_shift, same_shift, 1, 1, 0},
-    {"shift_at, each of 10 positions of a message", run_shift, same_shift, 10, 10, 0},
-    {"shift_at, each of 100 positions of a message", run_shift, same_shift, 100, 100, 0},
-    {"find, 1 slot in use", run_find, same_find, 1, 1, 1},
-    {"find, 8 slots in use", run_find, same_find, 8, 1, 1},
-    {"find, 32 slots in use", run_find, same_find, 32, 1, 1},
-    {"store (replaces), 1 slot in use", run_store, same_store, 1, 1, 1},
-    {"store (replaces), 8 slots in use", run_store, same_store, 8, 1, 1},
-    {"store (replaces), 32 slots in use", run_store, same_store, 32, 1, 1},
+    {"read, header of a 1023", run_read, same_read, 0, 1, TURNS_CHECKED, ON_MESSAGE},
+    {"read_fields, row of a 1023", run_row, same_row, 0, 1, TURNS_CHECKED, ON_MESSAGE},
+    {"write_fields, a 1023", run_write, same_write, 0, 1, TURNS_CHECKED, ON_MESSAGE},
+    {"shift_at, 1 position of a message", run_shift, same_shift, 1, 1, TURNS_CHECKED, ON_MESSAGE},
+    {"shift_at, each of 10 positions of a message", run_shift, same_shift, 10, 10, TURNS_CHECKED, ON_MESSAGE},
+    {"shift_at, each of 100 positions of a message", run_shift, same_shift, 100, 100, TURNS_CHECKED, ON_MESSAGE},
+    {"find, 1 slot in use", run_find, same_find, 1, 1, TURNS_CHECKED, ON_TABLE},
+    {"find, 8 slots in use", run_find, same_find, 8, 1, TURNS_CHECKED, ON_TABLE},
+    {"find, 32 slots in use", run_find, same_find, 32, 1, TURNS_CHECKED, ON_TABLE},
+    {"store (replaces), 1 slot in use", run_store, same_store, 1, 1, TURNS_CHECKED, ON_TABLE},
+    {"store (replaces), 8 slots in use", run_store, same_store, 8, 1, TURNS_CHECKED, ON_TABLE},
+    {"store (replaces), 32 slots in use", run_store, same_store, 32, 1, TURNS_CHECKED, ON_TABLE},
 };
 
-enum { CALL_COUNT = sizeof CALLS / sizeof *CALLS };
+enum { CALLS_COUNT = sizeof CALLS / sizeof *CALLS, ALL_CALLS = CALLS_COUNT + FRAME_CALLS_COUNT };
 
-/* The next number from the least to the greatest given (splitmix64). */
-static int64_t within(int64_t least, int64_t greatest)
+/* One of all calls. */
+static const call *call_at(size_t i)
+{
+    return i < CALLS_COUNT ? &CALLS[i] : &FRAME_CALLS[i - CALLS_COUNT];
+}
+
+/* By splitmix64. */
+int64_t within(int64_t least, int64_t greatest)
 {
     static uint64_t state = 1;
     uint64_t z = state += 0x9e3779b97f4a7c15u;
@@ -222,8 +227,7 @@ static int64_t within(int64_t least, int64_t greatest)
     return least + (int64_t)((z ^ z >> 31) % (uint64_t)(greatest - least + 1));
 }
 
-/* Stops with a line on what went wrong. */
-static void stop(const char *what, const char *name)
+void stop(const char *what, const char *name)
 {
     fprintf(stderr, "bench: %s: %s\n", name, what);
     exit(1);
@@ -295,7 +299,14 @@ static void fill_table(size_t slots)
 /* Whether one of those timed has the call. */
 static int has(const baseline *by, const call *c)
 {
-    return c->on_table || by->read != NULL;
+    switch (c->on) {
+    case ON_TABLE:
+        return by->find != NULL;
+    case ON_FRAMES:
+        return by->find_frame != NULL;
+    default:
+        return by->read != NULL;
+    }
 }
 
 /* Stops where one of those timed answers otherwise than the library, and sets no time yet. */
@@ -304,7 +315,7 @@ static void check_answers(const call *c, double *nanoseconds)
     for (int k = 0; k < TIMED; k++)
         nanoseconds[k] = HUGE_VAL;
     for (int k = 1; k < TIMED; k++)
-        for (size_t turn = 0; has(ALL[k], c) && turn < TURNS_CHECKED; turn++)
+        for (size_t turn = 0; has(ALL[k], c) && turn < c->checked; turn++)
             if (!c->same(ALL[k], turn, c->size))
                 stop("another answer than the library's", c->name);
 }
@@ -373,25 +384,29 @@ static void print_line(const call *c, const double *nanoseconds)
 /* Does something for every call, on a table of its slots where it needs one. */
 static void for_all_calls(void (*work)(const call *c, double *nanoseconds), double (*nanoseconds)[TIMED])
 {
-    for (size_t i = 0; i < CALL_COUNT; i++) {
-        if (CALLS[i].on_table)
-            fill_table(CALLS[i].size);
-        work(&CALLS[i], nanoseconds[i]);
+    for (size_t i = 0; i < ALL_CALLS; i++) {
+        if (call_at(i)->on == ON_TABLE)
+            fill_table(call_at(i)->size);
+        work(call_at(i), nanoseconds[i]);
     }
 }
 
 int main(void)
 {
-    static double nanoseconds[CALL_COUNT][TIMED];
+    static double nanoseconds[ALL_CALLS][TIMED];
     make_inputs();
+    make_frames();
     for_all_calls(check_answers, nanoseconds);
     for (int pass = 0; pass < PASSES; pass++)
         for_all_calls(time_call, nanoseconds);
     printf("| call | library, per second | ns |");
     for (int k = 1; k < TIMED; k++)
         printf(" %s, ns | ratio |", ALL[k]->name);
-    printf("\n|---|---:|---:|---:|---:|---:|---:|---:|---:|\n");
-    for (size_t i = 0; i < CALL_COUNT; i++)
-        print_line(&CALLS[i], nanoseconds[i]);
+    printf("\n|---|---:|---:|");
+    for (int k = 1; k < TIMED; k++)
+        printf("---:|---:|");
+    printf("\n");
+    for (size_t i = 0; i < ALL_CALLS; i++)
+        print_line(call_at(i), nanoseconds[i]);
     return 0;
 }

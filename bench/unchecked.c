@@ -44,4 +44,4 @@ static tarnoklej_found find(const uint8_t *table, size_t size, uint8_t sin, uint
     return found;
 }
 
-const baseline UNCHECKED = {"unchecked table", NULL, NULL, NULL, NULL, NULL, store, find};
+const baseline UNCHECKED = {.name = "unchecked table", .store = store, .find = find};

@@ -1,4 +1,4 @@
-/* Tarnoklej: RTCM messages 1021 to 1027.
+/* Tarnoklej: RTCM messages 1021 to 1027, and the transport frames of RTCM messages of any number.
  *
  * The functions are in target/staticlib/libcapi.a, which `rt staticlib capi` writes for x86-64.
  * Every call ends with an answer for every input, keeps nothing between calls and allocates nothing.
@@ -24,10 +24,10 @@ enum {
     TARNOKLEJ_DONE = 0,
     TARNOKLEJ_SHORT = 1,      /* under 2 bytes */
     TARNOKLEJ_NUMBER = 2,     /* not 1021 to 1027 */
-    TARNOKLEJ_LENGTH = 3,     /* not exactly the length called for, or a name counter cannot be read */
+    TARNOKLEJ_LENGTH = 3,     /* not the length called for, a name counter cannot be read, or too long for a frame */
     TARNOKLEJ_FILL = 4,       /* a fill bit is set */
     TARNOKLEJ_RANGE = 5,      /* a field outside its range or width, or buffers that are no row of a message */
-    TARNOKLEJ_ROOM = 6,       /* an output shorter than the message or its row */
+    TARNOKLEJ_ROOM = 6,       /* an output shorter than the message, its row or its frame */
     TARNOKLEJ_KIND = 7,       /* a grid call on a message other than 1023 or 1024 */
     TARNOKLEJ_COMPONENT = 8,  /* not 0 to 2 */
     TARNOKLEJ_POSITION = 9,   /* 1023: beyond +-3,240,000,000 or +-6,480,000,000; 1024: either beyond +-10^12 */
@@ -39,7 +39,9 @@ enum {
     TARNOKLEJ_ABSENT = 15,    /* the mean, or a node of non-zero weight, has no value */
     TARNOKLEJ_FULL = 16,      /* no slot of that key and no free slot */
     TARNOKLEJ_NONE = 17,      /* no such key, or group not 0 to 2 */
-    TARNOKLEJ_TABLE = 18      /* the table has a wrong size or is not well formed */
+    TARNOKLEJ_TABLE = 18,     /* the table has a wrong size or is not well formed */
+    TARNOKLEJ_NEED = 19,      /* an unfinished frame calls for bytes that have not arrived */
+    TARNOKLEJ_NOFRAME = 20    /* neither a frame nor an unfinished one, or a start past the end */
 };
 
 /* Sizes. */
@@ -48,7 +50,10 @@ enum {
     TARNOKLEJ_SLOTS = 32,        /* messages that a table holds */
     TARNOKLEJ_SLOT_SIZE = 128,   /* bytes of a slot: a length byte, a message, zeros */
     TARNOKLEJ_MOST_BYTES = 127,  /* bytes of the longest message, a 1022 of two names of 31 characters */
-    TARNOKLEJ_MOST_FIELDS = 90   /* fields of the longest row, of the same message */
+    TARNOKLEJ_MOST_FIELDS = 90,  /* fields of the longest row, of the same message */
+    TARNOKLEJ_FRAME_HEAD = 3,    /* bytes of a frame before its message: D3, six zero bits, a ten-bit length */
+    TARNOKLEJ_FRAME_TAIL = 3,    /* bytes of a frame behind its message: the CRC-24Q of all before */
+    TARNOKLEJ_MOST_FRAMED = 1023 /* bytes of the longest message that a frame holds */
 };
 
 /* The components of a shift. */
@@ -65,11 +70,12 @@ enum {
     TARNOKLEJ_PROJECTION = 2      /* 1025, 1026 and 1027 */
 };
 
-/* With a refusal all other members of these are 0. */
+/* With a refusal all other members of these are 0, but for the place that a frame's NEED carries. */
 typedef struct { uint8_t refusal; uint16_t number; uint8_t sin; size_t length; } tarnoklej_header;
 typedef struct { uint8_t refusal; size_t length; } tarnoklej_written;
 typedef struct { uint8_t refusal; int64_t count; } tarnoklej_shift;
 typedef struct { uint8_t refusal; size_t at; size_t length; } tarnoklej_found;
+typedef struct { uint8_t refusal; size_t at; size_t length; } tarnoklej_frame; /* at: the place of D3, with NEED too */
 
 /* Gives the number (DF002), the length in bytes and the system identification number (DF147) of a message
  * after all of its fields are checked.
@@ -111,6 +117,26 @@ tarnoklej_written tarnoklej_write_fields(const int64_t *values, size_t values_co
  */
 tarnoklej_shift tarnoklej_shift_at(const uint8_t *message, size_t message_length, uint8_t component, int64_t north,
                                    int64_t east);
+
+/* Gives the first frame at or after a place: at is the place of its D3, length the bytes of its message.
+ * A frame is D3, six zero bits, a ten-bit length, the message, and the CRC-24Q of all these in 24 bits.
+ * The message begins at at + TARNOKLEJ_FRAME_HEAD, and the next search goes from TARNOKLEJ_FRAME_TAIL behind its end.
+ * Refusals: NEED where an unfinished frame comes before the first whole one, or where there is no whole one; NOFRAME
+ * where there is neither, or where from is past the end.
+ * Unfinished is a D3 that is the last byte, or a D3 with six zero bits whose length, message or CRC is past the end.
+ * With NEED, at is the place of its D3: the bytes from there on are kept until more have arrived. Where no more arrive,
+ * the next search goes from at + 1.
+ * Buffers: bytes are only read.
+ */
+tarnoklej_frame tarnoklej_find_frame(const uint8_t *bytes, size_t size, size_t from);
+
+/* Writes the frame of a message of any number, which is not looked at, and gives the frame's length in bytes.
+ * Refusals in order: LENGTH where the message has more than 1,023 bytes, ROOM where room is less than the frame's
+ * bytes.
+ * Buffers: message is only read; the first bytes of out hold the frame and the rest keep theirs; with a refusal all of
+ * out keeps its bytes.
+ */
+tarnoklej_written tarnoklej_write_frame(const uint8_t *message, size_t message_length, uint8_t *out, size_t room);
 
 /* Stores a message under its key, system identification number and group: in the slot of that key, otherwise in the
  * first free slot.

@@ -1,12 +1,15 @@
 //! An independent second program for RTCM messages 1021 to 1027.
 //!
-//! It is written from document 01, from requests A2 and A5 of document 02, from source documents 000, 003 and 004, and from
+//! It is written from document 01, from requests A1, A2 and A5 of document 02, from source documents 000, 003 and 004, and from
 //! docs/DECISIONS.md where these leave a choice. It shares no code with the proved library.
 
 pub mod bits;
+pub mod damage;
 pub mod example;
 pub mod fields;
 pub mod figures;
+pub mod frame;
+pub mod frames;
 pub mod grid;
 pub mod gridsamples;
 pub mod hex;
@@ -17,12 +20,15 @@ pub mod papers;
 pub mod positions;
 pub mod random;
 pub mod record;
+pub mod recording;
 pub mod refusal;
 pub mod samples;
 pub mod selfcheck;
+pub mod selfcheck_frame;
 pub mod selfcheck_grid;
 pub mod selfcheck_nones;
 pub mod selfcheck_table;
 pub mod services;
+pub mod streams;
 pub mod table;
 pub mod vectors;

@@ -1,12 +1,12 @@
 //! The command line of the second program.
 
-use second::{example, figures, page, papers, positions, selfcheck, services, vectors};
+use second::{example, figures, frames, page, papers, positions, selfcheck, services, vectors};
 use std::io::Read;
 use std::path::Path;
 use std::process::ExitCode;
 
 /// What the program can be asked for.
-const USAGE: &str = "second selfcheck | papers FILE | fields | positions | example LIST | vectors OUTDIR [--shift] [--table] | services DIR | figures DIR | identify";
+const USAGE: &str = "second selfcheck | papers FILE | fields | positions | example LIST | vectors OUTDIR [--shift] [--table] [--frame] | services DIR | figures DIR | identify | frames";
 
 /// Success or failure from a truth value.
 fn exit(good: bool) -> ExitCode {
@@ -28,7 +28,7 @@ fn compare_papers(file: &str) -> std::io::Result<bool> {
 /// Writes the cases into a folder.
 fn write_vectors(dir: &str, flags: &[String]) -> std::io::Result<bool> {
     let has = |flag: &str| flags.iter().any(|f| f == flag);
-    let wanted = vectors::Wanted { shift: has("--shift"), table: has("--table") };
+    let wanted = vectors::Wanted { shift: has("--shift"), table: has("--table"), frame: has("--frame") };
     println!("{} cases", vectors::write(Path::new(dir), wanted)?);
     Ok(true)
 }
@@ -39,12 +39,11 @@ fn print(text: &str) -> std::io::Result<bool> {
     Ok(true)
 }
 
-/// Prints what document 01's program prints of the standard input.
-fn identify() -> std::io::Result<bool> {
+/// The whole standard input.
+fn standard_input() -> std::io::Result<Vec<u8>> {
     let mut input = Vec::new();
     std::io::stdin().read_to_end(&mut input)?;
-    println!("{}", selfcheck::program_line(&input));
-    Ok(true)
+    Ok(input)
 }
 
 /// Does what the arguments ask for.
@@ -59,7 +58,8 @@ fn run(arguments: &[String]) -> std::io::Result<bool> {
         ["vectors", dir, ..] => write_vectors(dir, &arguments[2..]),
         ["services", dir] => services::write(Path::new(dir)).map(|()| true),
         ["figures", dir] => figures::write(Path::new(dir)).map(|()| true),
-        ["identify"] => identify(),
+        ["identify"] => print(&format!("{}\n", selfcheck::program_line(&standard_input()?))),
+        ["frames"] => print(&frames::listing(&standard_input()?)),
         _ => {
             eprintln!("{USAGE}");
             Ok(false)

@@ -6,7 +6,7 @@ use crate::layouts::{layout, Part};
 use crate::refusal::Refusal;
 
 /// The width of DF002, with which every message begins.
-const NUMBER_WIDTH: u32 = 12;
+pub const NUMBER_WIDTH: u32 = 12;
 
 /// A row: two buffers side by side, the values of the fields and whether each is present.
 #[derive(Clone, PartialEq, Eq, Debug)]

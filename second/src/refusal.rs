@@ -1,4 +1,4 @@
-//! The refusal numbers of document 01.
+//! The refusal numbers of documents 01 and 02.
 
 /// Why a call is refused.
 #[derive(Clone, Copy, PartialEq, Eq, PartialOrd, Ord, Debug)]
@@ -39,10 +39,14 @@ pub enum Refusal {
     None = 17,
     /// Wrong size or not well formed.
     Table = 18,
+    /// An unfinished frame calls for bytes that have not arrived.
+    Need = 19,
+    /// Neither a frame nor an unfinished one.
+    NoFrame = 20,
 }
 
 impl Refusal {
-    /// The number of document 01.
+    /// The number of documents 01 and 02.
     pub fn number(self) -> u8 {
         self as u8
     }

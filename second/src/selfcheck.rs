@@ -45,6 +45,7 @@ pub fn groups() -> Vec<Group> {
     groups.extend(crate::selfcheck_nones::groups());
     groups.extend(crate::selfcheck_grid::groups());
     groups.extend(crate::selfcheck_table::groups());
+    groups.extend(crate::selfcheck_frame::groups());
     groups
 }
 

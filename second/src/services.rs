@@ -1,6 +1,9 @@
 //! Five made-up services, sound and as a bad modem leaves them.
 
+use crate::damage::Damage;
 use crate::fields::{by_df, Field};
+use crate::frames::listing;
+use crate::recording::recording;
 use crate::samples::Sample;
 use std::path::Path;
 
@@ -20,56 +23,6 @@ pub struct Service {
     pub about: &'static str,
     /// The sound messages and then the damaged ones.
     pub files: Vec<File>,
-}
-
-/// What a bad modem does to a message.
-enum Damage {
-    /// Only the first bytes arrive.
-    Cut(usize),
-    /// One bit arrives wrong.
-    Bit(usize),
-    /// Some bytes in a row arrive wrong.
-    Burst(usize, usize),
-    /// One byte arrives twice.
-    Doubled(usize),
-    /// One byte is lost.
-    Lost(usize),
-    /// The last bit, a fill bit, arrives set.
-    Fill,
-    /// All bytes from a place on arrive as ones.
-    Ones(usize),
-}
-
-impl Damage {
-    /// The word for the damage in a file's name.
-    fn word(&self) -> &'static str {
-        match self {
-            Damage::Cut(_) => "cut",
-            Damage::Bit(_) => "bit",
-            Damage::Burst(..) => "burst",
-            Damage::Doubled(_) => "doubled",
-            Damage::Lost(_) => "lost",
-            Damage::Fill => "fill",
-            Damage::Ones(_) => "ones",
-        }
-    }
-
-    /// The bytes that arrive.
-    fn done_to(&self, sound: &[u8]) -> Vec<u8> {
-        let mut bytes = sound.to_vec();
-        match *self {
-            Damage::Cut(length) => bytes.truncate(length),
-            Damage::Bit(bit) => bytes[bit / 8] ^= 0x80 >> (bit % 8),
-            Damage::Burst(at, length) => bytes[at..at + length].iter_mut().for_each(|b| *b ^= 0x5a),
-            Damage::Doubled(at) => bytes.insert(at, sound[at]),
-            Damage::Lost(at) => {
-                bytes.remove(at);
-            }
-            Damage::Fill => *bytes.last_mut().expect("a message") |= 1,
-            Damage::Ones(at) => bytes[at..].fill(0xff),
-        }
-        bytes
-    }
 }
 
 /// A number of steps of 0.000000011 degree nearest to an angle given in units of 0.0000001 degree.
@@ -302,7 +255,7 @@ pub fn services() -> Vec<Service> {
     vec![helmert(), molodenski_badekas(), heights_only(), oblique_mercator(), across_the_antimeridian()]
 }
 
-/// Writes every service as a folder of files.
+/// Writes every service as a folder of files, and the recording with what the program frames prints of it.
 pub fn write(dir: &Path) -> std::io::Result<()> {
     for service in services() {
         let folder = dir.join(service.folder);
@@ -312,5 +265,7 @@ pub fn write(dir: &Path) -> std::io::Result<()> {
             std::fs::write(folder.join(format!("{}.rtcm", file.name)), file.bytes)?;
         }
     }
-    Ok(())
+    let stream = recording();
+    std::fs::write(dir.join("recording.expected"), listing(&stream))?;
+    std::fs::write(dir.join("recording.rtcm"), stream)
 }

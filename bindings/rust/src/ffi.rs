@@ -14,13 +14,13 @@ pub struct Header {
     pub length: usize,
 }
 
-/// The answer of `tarnoklej_write_fields`.
+/// The answer of `tarnoklej_write_fields` and `tarnoklej_write_frame`.
 #[repr(C)]
 #[derive(Clone, Copy, PartialEq, Eq, Debug)]
 pub struct Written {
     /// The refusal number, 0 where the call is done.
     pub refusal: u8,
-    /// The length of the message written, in bytes.
+    /// The length of the message or frame written, in bytes.
     pub length: usize,
 }
 
@@ -43,6 +43,18 @@ pub struct Found {
     /// The place of the message's first byte in the table.
     pub at: usize,
     /// The length of the message in bytes.
+    pub length: usize,
+}
+
+/// The answer of `tarnoklej_find_frame`.
+#[repr(C)]
+#[derive(Clone, Copy, PartialEq, Eq, Debug)]
+pub struct Frame {
+    /// The refusal number, 0 where the call is done.
+    pub refusal: u8,
+    /// The place of the frame's D3, with NEED too.
+    pub at: usize,
+    /// The length of the frame's message in bytes.
     pub length: usize,
 }
 
@@ -70,6 +82,10 @@ extern "C" {
     /// Gives the shift of a component at a position.
     pub fn tarnoklej_shift_at(message: *const u8, message_length: usize, component: u8, north: i64, east: i64)
         -> Shift;
+    /// Gives the first frame at or after a place.
+    pub fn tarnoklej_find_frame(bytes: *const u8, size: usize, from: usize) -> Frame;
+    /// Writes the frame of a message.
+    pub fn tarnoklej_write_frame(message: *const u8, message_length: usize, out: *mut u8, room: usize) -> Written;
     /// Stores a message under its key.
     pub fn tarnoklej_store(table: *mut u8, size: usize, message: *const u8, message_length: usize) -> u8;
     /// Gives where the message of a key stands in the table.

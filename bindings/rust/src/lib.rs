@@ -1,4 +1,4 @@
-//! RTCM messages 1021 to 1027: safe functions over the proved static library.
+//! RTCM messages 1021 to 1027, and transport frames: safe functions over the proved static library.
 //!
 //! Every call ends with an answer for every input, keeps nothing between calls, and gives a [`Refusal`]
 //! where it does not do what it was asked for. The refusals of each function are listed in the order of their tests.
@@ -7,8 +7,10 @@
 //! include/tarnoklej.h lists the positions of the data fields in a row.
 
 pub mod ffi;
+mod frames;
 mod refusal;
 
+pub use frames::{find_frame, frames, write_frame, Frame, Frames, Missing, FRAME_HEAD, FRAME_TAIL, MOST_FRAMED};
 pub use refusal::{NotARefusal, Refusal};
 
 /// The bytes of a table; 4,096 zeros are an empty table.
@@ -58,7 +60,7 @@ pub struct Found<'table> {
 fn done(refusal: u8) -> Result<(), Refusal> {
     match refusal {
         0 => Ok(()),
-        number => Err(Refusal::try_from(number).expect("the library gives 0 to 18")),
+        number => Err(Refusal::try_from(number).expect("the library gives 0 to 20")),
     }
 }
 

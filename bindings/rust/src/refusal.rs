@@ -1,4 +1,4 @@
-//! The refusal numbers of document 01.
+//! The refusal numbers of documents 01 and 02.
 
 use std::fmt;
 
@@ -10,13 +10,13 @@ pub enum Refusal {
     Short = 1,
     /// Not 1021 to 1027.
     Number = 2,
-    /// Not exactly the length called for, or a name counter cannot be read.
+    /// Not exactly the length called for, a name counter cannot be read, or too long for a frame.
     Length = 3,
     /// A fill bit is set.
     Fill = 4,
     /// A field outside its range or width, or fields that are no row of a message.
     Range = 5,
-    /// An output shorter than the message or its row.
+    /// An output shorter than the message, its row or its frame.
     Room = 6,
     /// A grid call on a message other than 1023 or 1024.
     Kind = 7,
@@ -42,15 +42,19 @@ pub enum Refusal {
     None = 17,
     /// The table has a wrong size or is not well formed.
     Table = 18,
+    /// An unfinished frame calls for bytes that have not arrived.
+    Need = 19,
+    /// Neither a frame nor an unfinished one, or a start past the end.
+    NoFrame = 20,
 }
 
-/// A number that is no refusal: 0, which is done, or above 18.
+/// A number that is no refusal: 0, which is done, or above 20.
 #[derive(Clone, Copy, PartialEq, Eq, Debug)]
 pub struct NotARefusal(pub u8);
 
 impl Refusal {
-    /// All refusals with document 01's names, in the order of their numbers.
-    pub const ALL: [(Refusal, &'static str); 18] = [
+    /// All refusals with the names of documents 01 and 02, in the order of their numbers.
+    pub const ALL: [(Refusal, &'static str); 20] = [
         (Refusal::Short, "SHORT"),
         (Refusal::Number, "NUMBER"),
         (Refusal::Length, "LENGTH"),
@@ -69,14 +73,16 @@ impl Refusal {
         (Refusal::Full, "FULL"),
         (Refusal::None, "NONE"),
         (Refusal::Table, "TABLE"),
+        (Refusal::Need, "NEED"),
+        (Refusal::NoFrame, "NOFRAME"),
     ];
 
-    /// The refusal's number, 1 to 18.
+    /// The refusal's number, 1 to 20.
     pub fn number(self) -> u8 {
         self as u8
     }
 
-    /// Document 01's name of the refusal.
+    /// The refusal's name in documents 01 and 02.
     pub fn name(self) -> &'static str {
         Refusal::ALL[self as usize - 1].1
     }
@@ -85,7 +91,7 @@ impl Refusal {
 impl TryFrom<u8> for Refusal {
     type Error = NotARefusal;
 
-    /// The refusal of a number from 1 to 18.
+    /// The refusal of a number from 1 to 20.
     fn try_from(number: u8) -> Result<Self, NotARefusal> {
         let place = (number as usize).checked_sub(1).ok_or(NotARefusal(number))?;
         Refusal::ALL.get(place).map(|entry| entry.0).ok_or(NotARefusal(number))
@@ -93,7 +99,7 @@ impl TryFrom<u8> for Refusal {
 }
 
 impl fmt::Display for Refusal {
-    /// Document 01's name of the refusal.
+    /// The refusal's name in documents 01 and 02.
     fn fmt(&self, f: &mut fmt::Formatter) -> fmt::Result {
         f.pad(self.name())
     }

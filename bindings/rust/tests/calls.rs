@@ -64,7 +64,7 @@ fn every_refusal_has_its_number_and_name() {
         assert_eq!(refusal.to_string(), name);
         assert_eq!(format!("{refusal:?}").to_uppercase(), name);
     }
-    for number in (19..=255).chain([0]) {
+    for number in (21..=255).chain([0]) {
         assert_eq!(Refusal::try_from(number), Err(NotARefusal(number)));
     }
 }

@@ -7,3 +7,4 @@ pub mod Order
 pub mod First
 pub mod Int
 pub mod Machine
+pub mod Places

@@ -1,3 +1,4 @@
 pub mod Row
 pub mod Whole
 pub mod First
+pub mod Places

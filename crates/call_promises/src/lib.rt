@@ -8,6 +8,8 @@ ghost use Rattle.grid_fields.specs.Fields.{gridSays, meanSays, nodeSays};
 ghost use Rattle.cell.specs.Cell.{alongOf, countIn};
 ghost use Rattle.grid_refusals.specs.Refusals.{fieldTests};
 ghost use Rattle.grid.specs.Shift.{messageShift, recordShift};
+ghost use Rattle.layout.specs.Layout.{answered, stored};
+ghost use Rattle.frame.specs.Frames.{frame, frameRefusal, findFrame};
 ghost use Rattle.table.specs.Table.{wellFormed, storeRefusal, storeTable, findRefusal, foundOf, removeTable};
 ghost use Rattle.table.specs.Shown.{Shows};
 ghost use Rattle.capi.specs.Counted.{countedShift};
@@ -137,4 +139,17 @@ pub fn tarnoklej_remove(t: &mut [u8], sin: u8, group: u8) -> u8
     ensures output { λ r. ⌜ now (t .exit) ≡ removeTable (now (t .entry)) sin group ⌝ }
 {
     capi::tarnoklej_remove(t, sin, group)
+}
+
+pub fn tarnoklej_find_frame(bytes: &[u8], from: usize) -> frame::Frame
+    ensures { λ r. ⌜ r ≡ findFrame (now (bytes .entry)) from ⌝ }
+{
+    capi::tarnoklej_find_frame(bytes, from)
+}
+
+pub fn tarnoklej_write_frame(message: &[u8], out: &mut [u8]) -> layout::Written
+    ensures answer { λ r. ⌜ r ≡ answered (frameRefusal (now (message .entry)) (length (now (out .entry)))) (frame (now (message .entry))) ⌝ }
+    ensures output { λ r. ⌜ now (out .exit) ≡ stored (frameRefusal (now (message .entry)) (length (now (out .entry)))) (frame (now (message .entry))) (now (out .entry)) ⌝ }
+{
+    capi::tarnoklej_write_frame(message, out)
 }

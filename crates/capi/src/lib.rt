@@ -3,6 +3,8 @@ ghost use mathlib.Core.Path.{_≡_};
 ghost use lib.ListN.{length};
 ghost use Rattle.wire.specs.Message.{header, rowRefusal, valuesRead, presentRead, writeRow};
 ghost use Rattle.capi.specs.Counted.{countedShift};
+ghost use Rattle.layout.specs.Layout.{answered, stored};
+ghost use Rattle.frame.specs.Frames.{frame, frameRefusal, findFrame};
 ghost use Rattle.table.specs.Table.{storeRefusal, storeTable, findRefusal, foundOf, removeTable};
 
 // The number, the length and the system identification number of a message.
@@ -79,4 +81,21 @@ pub extern "C" fn tarnoklej_remove(t: &mut [u8], sin: u8, group: u8) -> u8
     ensures output { λ r. ⌜ now (t .exit) ≡ removeTable (now (t .entry)) sin group ⌝ }
 {
     table::remove(t, sin, group)
+}
+
+// The first frame at or after a place.
+#[no_mangle]
+pub extern "C" fn tarnoklej_find_frame(bytes: &[u8], from: usize) -> frame::Frame
+    ensures { λ r. ⌜ r ≡ findFrame (now (bytes .entry)) from ⌝ }
+{
+    frame::find_frame(bytes, from)
+}
+
+// The frame of a message in the first bytes of out, or 3 LENGTH, 6 ROOM.
+#[no_mangle]
+pub extern "C" fn tarnoklej_write_frame(message: &[u8], out: &mut [u8]) -> layout::Written
+    ensures answer { λ r. ⌜ r ≡ answered (frameRefusal (now (message .entry)) (length (now (out .entry)))) (frame (now (message .entry))) ⌝ }
+    ensures output { λ r. ⌜ now (out .exit) ≡ stored (frameRefusal (now (message .entry)) (length (now (out .entry)))) (frame (now (message .entry))) (now (out .entry)) ⌝ }
+{
+    frame::write_frame(message, out)
 }

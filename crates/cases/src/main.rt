@@ -113,6 +113,23 @@ fn answer_record(
         0 => field_cases::answer(given, out, at),
         1 => remake_cases::answer(given, out, at),
         2 => rename_cases::answer(given, out, at),
+        _ => answer_frame(command, given, held, n, out, at),
+    }
+}
+
+// What a command on frames answers.
+fn answer_frame(
+    command: &[u8],
+    given: &[u8],
+    held: &mut [u8],
+    n: usize,
+    out: &mut Out,
+    at: usize,
+) -> usize {
+    match words::place(command, b"frame enframe longframe") {
+        0 => frame_cases::find(given, out, at),
+        1 => frame_cases::write(given, out, at),
+        2 => frame_cases::write_long(given, out, at),
         _ => answer_held(command, given, held, n, out, at),
     }
 }

@@ -2,3 +2,4 @@ pub mod Messages
 pub mod Worked
 pub mod Grids
 pub mod Absent
+pub mod Frames

@@ -3,3 +3,4 @@ pub mod Worked
 pub mod Tables
 pub mod Grids
 pub mod Absent
+pub mod Frames

@@ -8,6 +8,7 @@ ghost use Rattle.demands.specs.Grids.{GridAnswer, SharedEdges, BothCalls
 ghost use Rattle.bilinear.specs.Bilinear.{LipschitzBound};
 ghost use Rattle.grid.specs.Shift.{messageShift};
 ghost use Rattle.demands.specs.Absent.{NoneIsThePattern, UnsignedHasValue, PatternRefused, RefusedIsZero, MeanFormed};
+ghost use Rattle.demands.specs.Frames.{WrittenFound, ReadBack, FoundStays, NeedGoesOn, NeedNotEarlier, Exactly, WriterRefusals, PublishedFrames};
 ghost use Rattle.demands.specs.Tables.{LikeADictionary, LastStored, NoGroup, ZeroBytes, StaysFormed, RefusedKeeps};
 
 // Demand 1 of reading: the first refusal that applies, and only then.
@@ -103,4 +104,16 @@ pub fn worked_numbers()
     ensures metres { λ r. ⌜ WorkedMetres ⌝ }
     ensures read { λ r. ⌜ GridsRead ⌝ }
     ensures present { λ r. ⌜ GridKPresent ⌝ }
+{}
+
+// Request A1: frames written are read back, bytes that arrive behind lose none, and each answer is given exactly when the paper says.
+pub fn streams()
+    ensures found { λ r. ⌜ WrittenFound ⌝ }
+    ensures back { λ r. ⌜ ReadBack ⌝ }
+    ensures stays { λ r. ⌜ FoundStays ⌝ }
+    ensures further { λ r. ⌜ NeedGoesOn ⌝ }
+    ensures later { λ r. ⌜ NeedNotEarlier ⌝ }
+    ensures exactly { λ r. ⌜ ((s : List ℕ) (from : ℕ) → Bytes s → Exactly s from) ⌝ }
+    ensures refusals { λ r. ⌜ WriterRefusals ⌝ }
+    ensures published { λ r. ⌜ PublishedFrames ⌝ }
 {}

@@ -8,7 +8,7 @@ pub fn answer(given: &[u8], out: &mut Out, at: usize) -> usize {
     let Count::Is(kind) = numerals::natural(words::word(given)) else {
         return output::put(out, at, b'?');
     };
-    let mut bytes = [0u8; 140];
+    let mut bytes = [0u8; 400];
     let Count::Is(n) = numerals::hex(words::rest(given), &mut bytes) else {
         return output::put(out, at, b'?');
     };

@@ -10,7 +10,7 @@ use native.Mathlib.Decide.{decLt, ℕ-discrete}
 use lib.Dec.{ltb, eqb}
 use borrow.Author.Tests.{eqb-true, eqb-false, eq-eqb, ne-eqb, lt-ltb}
 use Rattle.table.specs.Table.{slots, key, slot, held, tag, hasTag, place, newKey}
-use Rattle.table.proofs.First.{first, first-is}
+use Rattle.arith.proofs.Places.{first, first-is}
 use Rattle.table.proofs.Slot.{or-right}
 use Rattle.table.proofs.Whole.{Formed}
 

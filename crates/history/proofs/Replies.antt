@@ -12,7 +12,8 @@ use lib.Dec.{eqb, ltb}
 use borrow.Author.Tests.{eq-eqb, ne-eqb, lt-ltb, le-ltb}
 use Rattle.wire.specs.Message.{refusal}
 use Rattle.wire.proofs.Limits.{accepted-size}
-use Rattle.table.specs.Table.{slots, messageSize, tableSize, firstOf, flawed, wellSlot, allZero, newKey, key, keyOf, slot, held, tag, place, wellFormed, slotOf, put, storePlace, keyPlace, findRefusal, found}
+use Rattle.arith.specs.Places.{firstOf}
+use Rattle.table.specs.Table.{slots, messageSize, tableSize, flawed, wellSlot, allZero, newKey, key, keyOf, slot, held, tag, place, wellFormed, slotOf, put, storePlace, keyPlace, findRefusal, found}
 use Rattle.history.specs.History.{Call, store, find, remove, number, after, told}
 use Rattle.history.specs.Dict.{Dict, storedUnder, without, keyNumber, dictNumber, dictShown, changed, dictAfter, shown, Reply, replies, dictReplies, entriesTo, entries}
 use Rattle.table.proofs.Whole.{Formed, formed, well-formed}

@@ -16,7 +16,7 @@ pub enum Byte {
     Bad,
 }
 
-pub type Bytes = [u8; 140];
+pub type Bytes = [u8; 400];
 
 pub type Numbers = [i64; 100];
 
@@ -61,7 +61,7 @@ fn byte_at(s: &[u8], k: usize) -> u16 {
     byte_of(digit(s[2 * k]), digit(s[2 * k + 1]))
 }
 
-// The bytes that a word spells, at most 140; `-` spells none.
+// The bytes that a word spells, at most 400; `-` spells none.
 pub fn hex(s: &[u8], bytes: &mut Bytes) -> Count {
     if s.len() == 0 {
         return Count::Bad;
@@ -72,7 +72,7 @@ pub fn hex(s: &[u8], bytes: &mut Bytes) -> Count {
     if s.len() % 2 != 0 {
         return Count::Bad;
     }
-    if 280 < s.len() {
+    if 800 < s.len() {
         return Count::Bad;
     }
     hex_pairs(s, s.len() / 2, bytes)
@@ -92,7 +92,7 @@ fn hex_pairs(s: &[u8], n: usize, bytes: &mut Bytes) -> Count {
 }
 
 fn keep(bytes: &mut Bytes, k: usize, b: u16) {
-    if k < 140 {
+    if k < 400 {
         if b < 256 {
             bytes[k] = b as u8;
         }
@@ -204,7 +204,7 @@ pub fn first(row: &[i64], n: usize) -> &[i64] {
 
 // A row that a line's words spell, its presence bytes and then its values, into the first places of both buffers: how many, of which the first 96 are stored.
 pub fn places(s: &[u8], values: &mut Values, present: &mut Present) -> Count {
-    let mut bytes = [0u8; 140];
+    let mut bytes = [0u8; 400];
     let Count::Is(n) = hex(words::word(s), &mut bytes) else {
         return Count::Bad;
     };

@@ -5,7 +5,7 @@ use numerals::Bytes;
 use numerals::Count;
 
 pub fn answer(given: &[u8], out: &mut Out, at: usize) -> usize {
-    let mut bytes = [0u8; 140];
+    let mut bytes = [0u8; 400];
     let Count::Is(n) = numerals::hex(given, &mut bytes) else {
         return output::put(out, at, b'?');
     };

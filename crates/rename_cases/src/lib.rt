@@ -54,7 +54,7 @@ fn put_change(
     let Asked::Is(c) = change_of(words::word(given), words::word(rest), words::word(behind)) else {
         return output::put(out, at, b'?');
     };
-    let mut bytes = [0u8; 140];
+    let mut bytes = [0u8; 400];
     let Count::Is(n) = numerals::hex(words::rest(behind), &mut bytes) else {
         return output::put(out, at, b'?');
     };

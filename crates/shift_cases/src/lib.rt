@@ -9,7 +9,7 @@ use numerals::Values;
 use shift_texts::Asked;
 
 pub fn answer(given: &[u8], out: &mut Out, at: usize) -> usize {
-    let mut bytes = [0u8; 140];
+    let mut bytes = [0u8; 400];
     let Count::Is(n) = numerals::hex(words::word(given), &mut bytes) else {
         return output::put(out, at, b'?');
     };

@@ -1,4 +1,3 @@
-pub mod First
 pub mod Slot
 pub mod Whole
 pub mod Marks

@@ -14,9 +14,10 @@ use Rattle.arith.proofs.Rows.{getD-upTo}
 use Rattle.wire.specs.declared.Header.{Header}
 use Rattle.wire.specs.Message.{numberOf, sinOf, refusal, header}
 use Rattle.wire.proofs.Limits.{sin-most}
-use Rattle.table.specs.Table.{slots, tableSize, groupOf, key, keyOf, firstOf, slot, held, wellSlot, tag, hasTag, place, newKey, flawed, wellFormed, storePlace}
+use Rattle.arith.specs.Places.{firstOf}
+use Rattle.table.specs.Table.{slots, tableSize, groupOf, key, keyOf, slot, held, wellSlot, tag, hasTag, place, newKey, flawed, wellFormed, storePlace}
 use Rattle.table.specs.Marks.{noTag, mark, markAt, marks, hasMark, markPlace, flawedMark, soundMarks, markOrFree}
-use Rattle.table.proofs.First.{agree}
+use Rattle.arith.proofs.Places.{agree}
 use Rattle.table.proofs.Whole.{unflawed, formed-first, formed}
 
 -- ---- one mark

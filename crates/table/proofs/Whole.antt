@@ -8,8 +8,9 @@ use native.Mathlib.Omega.{arith}
 use lib.ListN.{length}
 use lib.Dec.{eqb}
 use borrow.Author.Tests.{eqb-true, eq-eqb}
-use Rattle.table.specs.Table.{slots, tableSize, firstOf, wellSlot, slot, newKey, flawed, wellFormed}
-use Rattle.table.proofs.First.{First, first, first-is}
+use Rattle.arith.specs.Places.{firstOf}
+use Rattle.table.specs.Table.{slots, tableSize, wellSlot, slot, newKey, flawed, wellFormed}
+use Rattle.arith.proofs.Places.{First, first, first-is}
 use Rattle.arith.proofs.First.{or-false, not-false}
 use Rattle.arith.proofs.Tests.{both-first, both-second}
 

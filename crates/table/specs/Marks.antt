@@ -6,7 +6,8 @@ use mathlib.Core.Bool.{Bool, not, cond, _||_}
 use lib.ListN.{length, getD, replicate}
 use lib.Dec.{eqb, ltb}
 use Rattle.arith.specs.Row.{upTo}
-use Rattle.table.specs.Table.{slots, tableSize, firstOf, slot, wellSlot, tag}
+use Rattle.arith.specs.Places.{firstOf}
+use Rattle.table.specs.Table.{slots, tableSize, slot, wellSlot, tag}
 
 -- a number that is no tag: the greatest tag is 768, of SIN 255 and group 2
 abbrev pub noTag : ℕ

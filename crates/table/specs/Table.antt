@@ -5,6 +5,7 @@ use mathlib.Core.List.{List, [], _∷_, _++_}
 use mathlib.Core.Bool.{Bool, true, false, not, cond, _&&_, _||_}
 use lib.ListN.{length, getD, take, drop, replicate}
 use lib.Dec.{ltb, leb, eqb}
+use Rattle.arith.specs.Places.{firstOf}
 use Rattle.arith.specs.First.{first}
 use Rattle.wire.specs.Message.{tests, refusal, numberOf, sinOf}
 use Rattle.table.specs.declared.Found.{Found}
@@ -36,11 +37,6 @@ unfoldable pub keyOf : List ℕ → ℕ
 keyOf m = key (sinOf m) (groupOf (numberOf m))
 
 -- ---- slots
-
--- the first of the n places from, from + 1, .. where p holds, and the place behind them where it holds at none
-unfoldable pub firstOf : (ℕ → Bool) → ℕ → ℕ → ℕ
-firstOf p from zero = from
-firstOf p from (suc n) = elim (p from) [ true ↦ from | false ↦ firstOf p (suc from) n ]
 
 unfoldable pub allZero : List ℕ → Bool
 allZero [] = true

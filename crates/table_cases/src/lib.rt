@@ -88,7 +88,7 @@ fn poke(given: &[u8], table: &mut [u8]) -> Change {
 
 // `NAME store HEX`
 fn store(given: &[u8], table: &mut [u8]) -> Change {
-    let mut bytes = [0u8; 140];
+    let mut bytes = [0u8; 400];
     let Count::Is(n) = numerals::hex(given, &mut bytes) else {
         return Change::Bad;
     };
@@ -151,7 +151,12 @@ fn sum(given: &[u8], table: &[u8], out: &mut Out, at: usize) -> usize {
     if given.len() != 0 {
         return output::put(out, at, b'?');
     }
-    let s = sums_of(table);
+    put_sums(table, out, at)
+}
+
+// A B of the bytes.
+pub fn put_sums(bytes: &[u8], out: &mut Out, at: usize) -> usize {
+    let s = sums_of(bytes);
     let to = output::put_field(out, at, s.a);
     output::put_natural(out, to, s.b)
 }

@@ -14,7 +14,7 @@ pub fn answer(given: &[u8], out: &mut Out, at: usize) -> usize {
 
 // The row that is given, written into `room` bytes.
 fn put_row(room: usize, given: &[u8], out: &mut Out, at: usize) -> usize {
-    let mut bytes = [0u8; 140];
+    let mut bytes = [0u8; 400];
     let Count::Is(n) = numerals::hex(words::word(given), &mut bytes) else {
         return output::put(out, at, b'?');
     };

@@ -1,5 +1,6 @@
 //! Compares the second program with the proved static library, call by call, on many inputs.
 
+mod framing;
 mod messages;
 mod reading;
 mod shifting;
@@ -23,14 +24,16 @@ pub type Compared = Result<u8, String>;
 type Single = fn(&mut Random, u64) -> Compared;
 
 /// The calls that keep nothing, with the refusal numbers each can give.
-/// The last two are shift_at on grids across 180 degrees, at positions east and west of Greenwich.
-const SINGLES: [(&str, &[u8], Single); 6] = [
+/// E180 and W180 are shift_at on grids across 180 degrees, at positions east and west of Greenwich.
+const SINGLES: [(&str, &[u8], Single); 8] = [
     ("read", &[0, 1, 2, 3, 4, 5], reading::compare_header),
     ("read_fields", &[0, 1, 2, 3, 4, 5, 6], reading::compare_row),
     ("write_fields", &[0, 5, 6], writing::compare_written),
     ("shift_at", &[0, 1, 2, 3, 4, 5, 7, 8, 9, 10, 11, 12, 13, 14, 15], shifting::compare_shift),
     ("shift_at E180", ACROSS, shifting::compare_east_of_greenwich),
     ("shift_at W180", ACROSS, shifting::compare_west_of_greenwich),
+    ("find_frame", &[0, 19, 20], framing::compare_found),
+    ("write_frame", &[0, 3, 6], framing::compare_framed),
 ];
 
 /// The refusal numbers that a shift of a sound grid message can give.

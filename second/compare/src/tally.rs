@@ -3,7 +3,7 @@
 use tarnoklej::Refusal;
 
 /// The refusal numbers, 0 being done.
-const NUMBERS: usize = 19;
+const NUMBERS: usize = 21;
 
 /// The inputs of one kind of call by refusal number.
 pub struct Tally {

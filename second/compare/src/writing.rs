@@ -5,7 +5,7 @@ use crate::{same, Compared};
 use second::fields::by_df;
 use second::message::{write_row, Row};
 use second::random::Random;
-use second::refusal::number_of;
+use second::refusal::{number_of, Refusal};
 use second::samples::{too_wide, Sample};
 use tarnoklej::ffi;
 
@@ -155,30 +155,34 @@ fn other_number(random: &mut Random, sample: &Sample) -> Sample {
     sample.with_at(0, number)
 }
 
-/// Compares the bytes of one row, what was in the output before being random.
+/// Compares the bytes of one row.
 pub fn compare_written(random: &mut Random, turn: u64) -> Compared {
     let row = any_row(random, turn);
     let (values, present) = (row.values.clone().into_boxed_slice(), row.present.clone().into_boxed_slice());
     let needed = write_row(&row, usize::MAX).map_or(25, |bytes| bytes.len());
     let room = any_room(random, needed, MOST_ROOM);
-    let before = random.bytes(room + BEHIND);
-    let answer = write_row(&row, room);
-    let refusal = number_of(&answer);
-    let message = answer.unwrap_or_default();
-    let mut second = before.clone();
-    second[..message.len()].copy_from_slice(&message);
-    let mut library = before;
     // SAFETY: the pointers are those of slices that do not overlap, and the lengths are at most theirs.
-    let written = unsafe {
-        ffi::tarnoklej_write_fields(
-            values.as_ptr(),
-            values.len(),
-            present.as_ptr(),
-            present.len(),
-            library.as_mut_ptr(),
-            room,
-        )
+    let call = |out| unsafe {
+        ffi::tarnoklej_write_fields(values.as_ptr(), values.len(), present.as_ptr(), present.len(), out, room)
     };
-    let expected = ffi::Written { refusal, length: message.len() };
-    same(refusal, (written, library), (expected, second), || format!("{row:?} room {room}"))
+    compare_output(random, room, write_row(&row, room), call, || format!("{row:?} room {room}"))
+}
+
+/// Compares what a call writes into an output of some room, what was in it before being random.
+pub fn compare_output(
+    random: &mut Random,
+    room: usize,
+    answer: Result<Vec<u8>, Refusal>,
+    call: impl FnOnce(*mut u8) -> ffi::Written,
+    input: impl Fn() -> String,
+) -> Compared {
+    let before = random.bytes(room + BEHIND);
+    let refusal = number_of(&answer);
+    let bytes = answer.unwrap_or_default();
+    let mut second = before.clone();
+    second[..bytes.len()].copy_from_slice(&bytes);
+    let mut library = before;
+    let written = call(library.as_mut_ptr());
+    let expected = ffi::Written { refusal, length: bytes.len() };
+    same(refusal, (written, library), (expected, second), input)
 }

@@ -1,6 +1,7 @@
 //! Cases for the proved program: lines for its standard input, and the lines it must print.
 
 pub mod antimeridian;
+mod frames;
 mod reads;
 mod record_shifts;
 mod records;
@@ -16,6 +17,8 @@ use std::path::Path;
 
 /// The longest line of the standard input.
 const LONGEST_LINE: usize = 900;
+/// The most cases.
+const MOST_CASES: usize = 20_000;
 /// The longest name of a case.
 const LONGEST_NAME: usize = 40;
 
@@ -48,6 +51,8 @@ pub struct Wanted {
     pub shift: bool,
     /// Cases of the table.
     pub table: bool,
+    /// Cases of transport frames.
+    pub frame: bool,
 }
 
 /// What every byte of a buffer holds before a call.
@@ -68,6 +73,14 @@ fn buffer_after(written: Result<Vec<u8>, Refusal>, room: usize) -> String {
     format!("{refusal} {} : {}", bytes.len(), hex(&buffer))
 }
 
+/// The two sums of bytes that the cases print.
+fn sums(bytes: &[u8]) -> (u32, u32) {
+    bytes.iter().fold((0, 0), |(a, b), &byte| {
+        let a = (a + u32::from(byte)) % 65_521;
+        (a, (b + a) % 65_521)
+    })
+}
+
 /// All cases wanted, in order.
 pub fn cases(wanted: Wanted) -> Vec<Case> {
     let mut cases = reads::cases();
@@ -80,12 +93,16 @@ pub fn cases(wanted: Wanted) -> Vec<Case> {
     if wanted.table {
         cases.extend(tables::cases());
     }
+    if wanted.frame {
+        cases.extend(frames::cases());
+    }
     check(&cases);
     cases
 }
 
-/// Stops where a name is used twice or a line is too long.
+/// Stops where a name is used twice, a line is too long or the cases are too many.
 fn check(cases: &[Case]) {
+    assert!(cases.len() <= MOST_CASES, "there are {} cases", cases.len());
     let mut names = HashSet::new();
     for case in cases {
         assert!(names.insert(&case.name), "two cases are called {}", case.name);

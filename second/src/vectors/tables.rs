@@ -1,6 +1,6 @@
 //! Cases of the table: histories of calls, each beginning with a fresh table.
 
-use super::Case;
+use super::{sums, Case};
 use crate::hex::hex;
 use crate::layouts::NUMBERS;
 use crate::random::Random;
@@ -87,10 +87,7 @@ impl History {
 
     /// Sums all bytes of the table.
     fn sum(&mut self) {
-        let (a, b) = self.table.iter().fold((0u32, 0u32), |(a, b), &byte| {
-            let a = (a + byte as u32) % 65_521;
-            (a, (b + a) % 65_521)
-        });
+        let (a, b) = sums(&self.table);
         self.add("sum", "sum".to_string(), format!("{a} {b}"));
     }
 

@@ -4,9 +4,9 @@ use Prim.Native.Nat.{_-_, _≤_}
 use native.Mathlib.Omega.{arith}
 use mathlib.Core.Path.{_≡_, sym, _∙_}
 use borrow.Author.Tests.{eq-eqb, ne-eqb}
-use Rattle.table.specs.Table.{firstOf}
+use Rattle.arith.specs.Places.{firstOf}
 use Rattle.table.specs.Marks.{hasMark, markPlace}
-use Rattle.table.proofs.First.{turn-hit, turn-on, turn-end}
+use Rattle.arith.proofs.Places.{turn-hit, turn-on, turn-end}
 use Rattle.table.proofs.mark_place.Statement.{statement}
 use Rattle.table.proofs.mark_place.Tie as tie
 

@@ -5,9 +5,10 @@ use native.Mathlib.Omega.{arith}
 use mathlib.Core.Path.{_≡_, refl, sym, ap, _∙_}
 use lib.Dec.{eqb}
 use borrow.Author.Tests.{ne-eqb}
-use Rattle.table.specs.Table.{slots, firstOf}
+use Rattle.arith.specs.Places.{firstOf}
+use Rattle.table.specs.Table.{slots}
 use Rattle.table.specs.Marks.{flawedMark, soundMarks}
-use Rattle.table.proofs.First.{turn-hit, turn-on, turn-end}
+use Rattle.arith.proofs.Places.{turn-hit, turn-on, turn-end}
 use Rattle.table.proofs.sound_marks.Statement.{statement}
 use Rattle.table.proofs.sound_marks.Tie as tie
 

@@ -1,0 +1,33 @@
+/* The calls that are timed. */
+#ifndef CALL_H
+#define CALL_H
+#include "baseline.h"
+
+/* What a call is made on. */
+typedef enum { ON_MESSAGE, ON_TABLE, ON_FRAMES } subject;
+
+/* A call to time: makes the call of a turn and gives something of its answer, or whether the whole is the library's. */
+typedef struct {
+    const char *name;
+    uint64_t (*run)(const baseline *by, size_t turn, size_t size);
+    int (*same)(const baseline *by, size_t turn, size_t size);
+    size_t size;    /* positions for each message, slots in use, or bytes of a message */
+    size_t answers; /* answers of one call */
+    size_t checked; /* turns whose answers are compared */
+    subject on;
+} call;
+
+/* The calls on frames, for which make_frames must have been called. */
+enum { FRAME_CALLS_COUNT = 5 };
+extern const call FRAME_CALLS[FRAME_CALLS_COUNT];
+void make_frames(void);
+
+/* The library's calls. */
+extern const baseline LIBRARY;
+
+/* The next random number from the least to the greatest given. */
+int64_t within(int64_t least, int64_t greatest);
+
+/* Stops with a line on what went wrong. */
+void stop(const char *what, const char *name);
+#endif

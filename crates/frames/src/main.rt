@@ -1,0 +1,197 @@
+// Reads a recorded stream from standard input and prints a line for each frame in it: its place in the stream from 0, its message's length, and the
+// message's number, `-` where it has under two bytes; behind these, for 1021 to 1027, `sin` and the system identification number, or `refused` and the
+// refusal number. The last line says how many frames there were, and how many bytes outside them. Places and counts are modulo 2^64.
+use frame_search::Step;
+use libc::STDIN_FILENO;
+use lines::output;
+use lines::output::Out;
+
+// More turns than any recording asks for: each finds a frame, passes a byte or reads on.
+const TURNS: usize = 1099511627776;
+
+// The window's place in the stream, where the search goes on in it, how many bytes it holds, whether no more come; then the frames found, the bytes
+// in them, and the bytes in the output's buffer.
+struct State {
+    base: u64,
+    from: usize,
+    held: usize,
+    ended: bool,
+    done: bool,
+    frames: u64,
+    inside: u64,
+    out: usize,
+}
+
+fn main() {
+    let mut window = [0u8; 65536];
+    let mut out = [0u8; 16384];
+    list_frames(&mut window, &mut out);
+}
+
+// Every frame of the input, and the last line.
+fn list_frames(window: &mut [u8], out: &mut Out) {
+    let mut state = start();
+    let mut turns: usize = TURNS;
+    while turns > 0 {
+        state = turn(window, out, state);
+        if state.done {
+            put_end(out, state);
+            return;
+        }
+        turns -= 1;
+    }
+    put_end(out, state);
+}
+
+// No byte is read yet.
+fn start() -> State {
+    State {
+        base: 0,
+        from: 0,
+        held: 0,
+        ended: false,
+        done: false,
+        frames: 0,
+        inside: 0,
+        out: 0,
+    }
+}
+
+// One step of the search, and what it asks for.
+fn turn(window: &mut [u8], out: &mut Out, state: State) -> State {
+    let s = frame_search::next_step(words::before(window, state.held), state.from, state.ended);
+    if s.found {
+        return report(window, out, state, s);
+    }
+    if s.more {
+        return go_on(window, state, s.next);
+    }
+    pass(state, s.next)
+}
+
+// The line of a frame that was found; the search goes on behind it.
+fn report(window: &[u8], out: &mut Out, state: State, s: Step) -> State {
+    let message = words::before(
+        words::behind(window, std::num::wrapping_add_usize(s.at, 3)),
+        s.length,
+    );
+    let to = put_frame(out, state.out, later(state.base, s.at), message);
+    State {
+        base: state.base,
+        from: s.next,
+        held: state.held,
+        ended: state.ended,
+        done: false,
+        frames: later(state.frames, 1),
+        inside: later(later(state.inside, s.length), 6),
+        out: to,
+    }
+}
+
+// A candidate that stays unfinished is passed.
+fn pass(state: State, next: usize) -> State {
+    State {
+        base: state.base,
+        from: next,
+        held: state.held,
+        ended: state.ended,
+        done: false,
+        frames: state.frames,
+        inside: state.inside,
+        out: state.out,
+    }
+}
+
+// Bytes that are used up leave the window and more are read; at the stream's end nothing is left.
+fn go_on(window: &mut [u8], state: State, next: usize) -> State {
+    if state.ended {
+        return stop(state);
+    }
+    let held = frame_search::slide(window, next, state.held);
+    let got = read_more(window, held);
+    State {
+        base: later(state.base, next),
+        from: 0,
+        held: std::num::wrapping_add_usize(held, got),
+        ended: got == 0,
+        done: false,
+        frames: state.frames,
+        inside: state.inside,
+        out: state.out,
+    }
+}
+
+fn stop(state: State) -> State {
+    State {
+        base: state.base,
+        from: state.from,
+        held: state.held,
+        ended: true,
+        done: true,
+        frames: state.frames,
+        inside: state.inside,
+        out: state.out,
+    }
+}
+
+// Fills the window behind the bytes held.
+fn read_more(window: &mut [u8], held: usize) -> usize {
+    let room = window.len();
+    if room < held {
+        return 0;
+    }
+    io::read_full(STDIN_FILENO, &mut window[held..room])
+}
+
+fn later(place: u64, by: usize) -> u64 {
+    std::num::wrapping_add_u64(place, by as u64)
+}
+
+fn put_frame(out: &mut Out, at: usize, place: u64, message: &[u8]) -> usize {
+    let a = output::put_field(out, at, place);
+    let b = output::put_field(out, a, message.len() as u64);
+    let c = put_number(out, b, message);
+    output::put(out, c, b'\n')
+}
+
+// The first 12 of 16 bits.
+fn number(high: u8, low: u8) -> u64 {
+    high as u64 * 16 + low as u64 / 16
+}
+
+// The message's number, and what belongs behind it.
+fn put_number(out: &mut Out, at: usize, message: &[u8]) -> usize {
+    if message.len() < 2 {
+        return output::put(out, at, b'-');
+    }
+    let n = number(message[0], message[1]);
+    let to = output::put_natural(out, at, n);
+    if n < 1021 {
+        return to;
+    }
+    if 1027 < n {
+        return to;
+    }
+    put_header(out, to, message)
+}
+
+// What one of 1021 to 1027 answers to the look at its header.
+fn put_header(out: &mut Out, at: usize, message: &[u8]) -> usize {
+    let h = wire::read_header(message);
+    if h.refusal != 0 {
+        let to = output::put_all(out, at, b" refused ");
+        return output::put_small(out, to, h.refusal);
+    }
+    let to = output::put_all(out, at, b" sin ");
+    output::put_small(out, to, h.sin)
+}
+
+// The last line, and what is left of the output.
+fn put_end(out: &mut Out, state: State) {
+    let all = later(state.base, state.held);
+    let a = output::put_natural(out, state.out, state.frames);
+    let b = output::put_all(out, a, b" frames, ");
+    let c = output::put_natural(out, b, std::num::wrapping_sub_u64(all, state.inside));
+    let d = output::put_all(out, c, b" bytes outside frames\n");
+    output::flush(out, d);
+}
