@@ -11,6 +11,12 @@
 /* The fields of a row of 1023 and the bytes of its message. */
 enum { ROW = 64, BYTES = 73 };
 
+/* The shift of one component. */
+typedef struct {
+    uint8_t refusal;
+    int64_t count;
+} shift;
+
 /* One way to do the work; a call that it does not have is null. */
 typedef struct {
     const char *name;
@@ -19,9 +25,12 @@ typedef struct {
                            size_t present_room);
     tarnoklej_written (*write_fields)(const int64_t *values, size_t values_count, const uint8_t *present,
                                       size_t present_count, uint8_t *out, size_t room);
-    tarnoklej_shift (*shift_at)(const uint8_t *message, size_t length, uint8_t component, int64_t north, int64_t east);
-    void (*shifts_at)(const uint8_t *message, size_t length, uint8_t component, const int64_t (*positions)[2],
-                      size_t count, tarnoklej_shift *shifts);
+    tarnoklej_shifts (*shifts_at)(const uint8_t *message, size_t length, int64_t north, int64_t east);
+    /* The shifts at many positions of a message. */
+    void (*many_shifts)(const uint8_t *message, size_t length, const int64_t (*positions)[2], size_t count,
+                        tarnoklej_shifts *shifts);
+    /* The shift of one component: in plain C without the others, of the library that part of the three. */
+    shift (*one_shift)(const uint8_t *message, size_t length, uint8_t component, int64_t north, int64_t east);
     uint8_t (*store)(uint8_t *table, size_t size, const uint8_t *message, size_t length);
     tarnoklej_found (*find)(const uint8_t *table, size_t size, uint8_t sin, uint8_t group);
     tarnoklej_frame (*find_frame)(const uint8_t *bytes, size_t size, size_t from);

@@ -31,23 +31,32 @@ static int64_t positions[MESSAGES][POSITIONS][2];
 static uint8_t table[TARNOKLEJ_TABLE_SIZE];
 
 /* The library's shifts at many positions, one call each. */
-static void library_shifts_at(const uint8_t *message, size_t length, uint8_t component,
-                              const int64_t (*at)[2], size_t count, tarnoklej_shift *shifts)
+static void library_many_shifts(const uint8_t *message, size_t length, const int64_t (*at)[2], size_t count,
+                                tarnoklej_shifts *shifts)
 {
     for (size_t i = 0; i < count; i++)
-        shifts[i] = tarnoklej_shift_at(message, length, component, at[i][0], at[i][1]);
+        shifts[i] = tarnoklej_shifts_at(message, length, at[i][0], at[i][1]);
 }
 
-const baseline LIBRARY = {"library",
-                          tarnoklej_read,
-                          tarnoklej_read_fields,
-                          tarnoklej_write_fields,
-                          tarnoklej_shift_at,
-                          library_shifts_at,
-                          tarnoklej_store,
-                          tarnoklej_find,
-                          tarnoklej_find_frame,
-                          tarnoklej_write_frame};
+/* One part of the library's shifts. */
+static shift library_one_shift(const uint8_t *message, size_t length, uint8_t component, int64_t north, int64_t east)
+{
+    tarnoklej_shifts at = tarnoklej_shifts_at(message, length, north, east);
+    shift parts[] = {{at.north_refusal, at.north_count}, {at.east_refusal, at.east_count}, {at.height_refusal, at.height_count}};
+    return parts[component];
+}
+
+const baseline LIBRARY = {.name = "library",
+                          .read = tarnoklej_read,
+                          .read_fields = tarnoklej_read_fields,
+                          .write_fields = tarnoklej_write_fields,
+                          .shifts_at = tarnoklej_shifts_at,
+                          .many_shifts = library_many_shifts,
+                          .one_shift = library_one_shift,
+                          .store = tarnoklej_store,
+                          .find = tarnoklej_find,
+                          .find_frame = tarnoklej_find_frame,
+                          .write_frame = tarnoklej_write_frame};
 
 /* All that are timed, the library first. */
 enum { TIMED = 5 };
@@ -120,41 +129,70 @@ static int same_write(const baseline *by, size_t turn, size_t size)
     return same_message_of(by, &inputs[i]) && same_message_of(by, &with_nones[i]);
 }
 
-static uint64_t run_shift(const baseline *by, size_t turn, size_t size)
+static uint64_t run_shifts(const baseline *by, size_t turn, size_t size)
 {
     size_t i = turn % MESSAGES;
     if (size == 1) {
         const int64_t *at = positions[i][turn % POSITIONS];
-        tarnoklej_shift shift = by->shift_at(inputs[i].message, BYTES, (uint8_t)(turn % 3), at[0], at[1]);
-        return shift.refusal + (uint64_t)shift.count;
+        tarnoklej_shifts shifts = by->shifts_at(inputs[i].message, BYTES, at[0], at[1]);
+        return shifts.north_refusal + (uint64_t)(shifts.north_count + shifts.east_count + shifts.height_count);
     }
-    tarnoklej_shift shifts[POSITIONS];
-    by->shifts_at(inputs[i].message, BYTES, (uint8_t)(turn % 3), (const int64_t(*)[2])positions[i], size, shifts);
-    return shifts[0].refusal + (uint64_t)shifts[turn % size].count;
+    tarnoklej_shifts shifts[POSITIONS];
+    by->many_shifts(inputs[i].message, BYTES, (const int64_t(*)[2])positions[i], size, shifts);
+    return shifts[0].north_refusal + (uint64_t)shifts[turn % size].height_count;
 }
 
-/* Whether two shifts are the same. */
-static int same_count(tarnoklej_shift one, tarnoklej_shift other)
+/* Whether two answers are the same, floats by their bits. */
+static int same_parts(const tarnoklej_shifts *one, const tarnoklej_shifts *other)
 {
-    return one.refusal == other.refusal && one.count == other.count;
+    return memcmp(&one->north, &other->north, sizeof one->north) == 0 &&
+           memcmp(&one->east, &other->east, sizeof one->east) == 0 &&
+           memcmp(&one->height, &other->height, sizeof one->height) == 0 && one->north_count == other->north_count &&
+           one->east_count == other->east_count && one->height_count == other->height_count &&
+           one->north_refusal == other->north_refusal && one->east_refusal == other->east_refusal &&
+           one->height_refusal == other->height_refusal;
 }
 
-static int same_shift(const baseline *by, size_t turn, size_t size)
+/* Whether the shifts of a message at one position are the library's. */
+static int same_shifts_of(const baseline *by, const uint8_t *message, const int64_t *at)
+{
+    tarnoklej_shifts one = LIBRARY.shifts_at(message, BYTES, at[0], at[1]);
+    tarnoklej_shifts other = by->shifts_at(message, BYTES, at[0], at[1]);
+    return same_parts(&one, &other);
+}
+
+static int same_shifts(const baseline *by, size_t turn, size_t size)
 {
     size_t i = turn % MESSAGES;
-    uint8_t component = (uint8_t)(turn % 3);
-    if (size == 1) {
-        const int64_t *at = positions[i][turn % POSITIONS];
-        return same_count(LIBRARY.shift_at(inputs[i].message, BYTES, component, at[0], at[1]),
-                          by->shift_at(inputs[i].message, BYTES, component, at[0], at[1]));
-    }
-    tarnoklej_shift one[POSITIONS], other[POSITIONS];
-    LIBRARY.shifts_at(inputs[i].message, BYTES, component, (const int64_t(*)[2])positions[i], size, one);
-    by->shifts_at(inputs[i].message, BYTES, component, (const int64_t(*)[2])positions[i], size, other);
+    const int64_t *at = positions[i][turn % POSITIONS];
+    if (size == 1)
+        return same_shifts_of(by, inputs[i].message, at) && same_shifts_of(by, with_nones[i].message, at);
+    tarnoklej_shifts one[POSITIONS], other[POSITIONS];
+    LIBRARY.many_shifts(inputs[i].message, BYTES, (const int64_t(*)[2])positions[i], size, one);
+    by->many_shifts(inputs[i].message, BYTES, (const int64_t(*)[2])positions[i], size, other);
     int same = 1;
     for (size_t j = 0; j < size; j++)
-        same = same && same_count(one[j], other[j]);
+        same = same && same_parts(&one[j], &other[j]);
     return same;
+}
+
+static uint64_t run_one_shift(const baseline *by, size_t turn, size_t size)
+{
+    (void)size;
+    size_t i = turn % MESSAGES;
+    const int64_t *at = positions[i][turn % POSITIONS];
+    shift given = by->one_shift(inputs[i].message, BYTES, (uint8_t)(turn % 3), at[0], at[1]);
+    return given.refusal + (uint64_t)given.count;
+}
+
+static int same_one_shift(const baseline *by, size_t turn, size_t size)
+{
+    (void)size;
+    size_t i = turn % MESSAGES;
+    const int64_t *at = positions[i][turn % POSITIONS];
+    shift one = LIBRARY.one_shift(inputs[i].message, BYTES, (uint8_t)(turn % 3), at[0], at[1]);
+    shift other = by->one_shift(inputs[i].message, BYTES, (uint8_t)(turn % 3), at[0], at[1]);
+    return one.refusal == other.refusal && one.count == other.count;
 }
 
 static uint64_t run_find(const baseline *by, size_t turn, size_t size)
@@ -198,9 +236,10 @@ static const call CALLS[] = {
     {"read, header of a 1023", run_read, same_read, 0, 1, TURNS_CHECKED, ON_MESSAGE},
     {"read_fields, row of a 1023", run_row, same_row, 0, 1, TURNS_CHECKED, ON_MESSAGE},
     {"write_fields, a 1023", run_write, same_write, 0, 1, TURNS_CHECKED, ON_MESSAGE},
-    {"shift_at, 1 position of a message", run_shift, same_shift, 1, 1, TURNS_CHECKED, ON_MESSAGE},
-    {"shift_at, each of 10 positions of a message", run_shift, same_shift, 10, 10, TURNS_CHECKED, ON_MESSAGE},
-    {"shift_at, each of 100 positions of a message", run_shift, same_shift, 100, 100, TURNS_CHECKED, ON_MESSAGE},
+    {"shifts from message bytes", run_shifts, same_shifts, 1, 1, TURNS_CHECKED, ON_MESSAGE},
+    {"shifts from message bytes, C of one component", run_one_shift, same_one_shift, 0, 1, TURNS_CHECKED, ON_MESSAGE},
+    {"shifts, each of 10 positions of a message", run_shifts, same_shifts, 10, 10, TURNS_CHECKED, ON_MESSAGE},
+    {"shifts, each of 100 positions of a message", run_shifts, same_shifts, 100, 100, TURNS_CHECKED, ON_MESSAGE},
     {"find, 1 slot in use", run_find, same_find, 1, 1, TURNS_CHECKED, ON_TABLE},
     {"find, 8 slots in use", run_find, same_find, 8, 1, TURNS_CHECKED, ON_TABLE},
     {"find, 32 slots in use", run_find, same_find, 32, 1, TURNS_CHECKED, ON_TABLE},

@@ -1,6 +1,6 @@
-/* shift FILE NORTH EAST: prints the shift of each component of a grid message (1023 or 1024) at a position.
+/* shift FILE NORTH EAST: prints the three shifts of a grid message (1023 or 1024) at a position.
  * The position is given in degrees for 1023 and in metres for 1024.
- * Each line is the component, the count and its value with its unit, or `refused` and the refusal's name.
+ * Each line is the component, the count and the shift with its unit, or `refused` and the refusal's name.
  */
 #include <math.h>
 #include <stdio.h>
@@ -9,8 +9,6 @@
 
 /* The most bytes of a file that are looked at: one more than the longest message has. */
 enum { LOOKED_AT = TARNOKLEJ_MOST_BYTES + 1 };
-
-static const char *const COMPONENTS[] = {"north-south", "east-west", "height"};
 
 static const char *const REFUSALS[] = {
     "done",   "SHORT",  "NUMBER", "LENGTH",  "FILL",    "RANGE",  "ROOM", "KIND", "COMPONENT", "POSITION",
@@ -40,18 +38,15 @@ static int parse_steps(const char *text, double steps_in_one, int64_t *steps)
     return 1;
 }
 
-/* Prints the line of one component. */
-static void print_shift(const uint8_t *message, size_t length, uint8_t component, int64_t north, int64_t east,
-                        int in_seconds)
+/* Prints the line of one part. */
+static void print_part(const char *name, uint8_t refusal, int64_t count, double shift, int in_seconds)
 {
-    tarnoklej_shift shift = tarnoklej_shift_at(message, length, component, north, east);
-    const char *name = COMPONENTS[component];
-    if (shift.refusal != TARNOKLEJ_DONE)
-        printf("%s refused %s\n", name, REFUSALS[shift.refusal]);
+    if (refusal != TARNOKLEJ_DONE)
+        printf("%s refused %s\n", name, REFUSALS[refusal]);
     else if (in_seconds)
-        printf("%s %lld %.5f arc seconds\n", name, (long long)shift.count, (double)shift.count / 100000.0);
+        printf("%s %lld %.5f arc seconds\n", name, (long long)count, shift);
     else
-        printf("%s %lld %.4f m\n", name, (long long)shift.count, (double)shift.count / 10000.0);
+        printf("%s %lld %.4f m\n", name, (long long)count, shift);
 }
 
 int main(int argc, char **argv)
@@ -73,7 +68,9 @@ int main(int argc, char **argv)
         fprintf(stderr, "shift: not a position: %s %s\n", argv[2], argv[3]);
         return 2;
     }
-    for (uint8_t component = TARNOKLEJ_NORTH_SOUTH; component <= TARNOKLEJ_HEIGHT; component++)
-        print_shift(message, (size_t)length, component, north, east, degrees && component != TARNOKLEJ_HEIGHT);
+    tarnoklej_shifts at = tarnoklej_shifts_at(message, (size_t)length, north, east);
+    print_part("north-south", at.north_refusal, at.north_count, at.north, degrees);
+    print_part("east-west", at.east_refusal, at.east_count, at.east, degrees);
+    print_part("height", at.height_refusal, at.height_count, at.height, 0);
     return 0;
 }

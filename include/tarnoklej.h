@@ -73,9 +73,17 @@ enum {
 /* With a refusal all other members of these are 0, but for the place that a frame's NEED carries. */
 typedef struct { uint8_t refusal; uint16_t number; uint8_t sin; size_t length; } tarnoklej_header;
 typedef struct { uint8_t refusal; size_t length; } tarnoklej_written;
-typedef struct { uint8_t refusal; int64_t count; } tarnoklej_shift;
 typedef struct { uint8_t refusal; size_t at; size_t length; } tarnoklej_found;
 typedef struct { uint8_t refusal; size_t at; size_t length; } tarnoklej_frame; /* at: the place of D3, with NEED too */
+
+/* The shifts at a position: three parts, each a shift in arc seconds or metres, its count and its refusal number.
+ * A refused part reads 0.0 and count 0.
+ */
+typedef struct {
+    double north, east, height;
+    int64_t north_count, east_count, height_count;
+    uint8_t north_refusal, east_refusal, height_refusal;
+} tarnoklej_shifts;
 
 /* Gives the number (DF002), the length in bytes and the system identification number (DF147) of a message
  * after all of its fields are checked.
@@ -105,18 +113,22 @@ uint8_t tarnoklej_read_fields(const uint8_t *message, size_t message_length, int
 tarnoklej_written tarnoklej_write_fields(const int64_t *values, size_t values_count, const uint8_t *present,
                                          size_t present_count, uint8_t *out, size_t room);
 
-/* Gives the shift of a component at a position from a message 1023 or 1024, by bilinear interpolation: the mean
- * and the whole count nearest to the exact weighted mean of the cell's nodes, halves away from zero.
- * A position is in steps of 0.0001 arc second (1023) or 1 mm (1024), north and east positive.
+/* Gives the shifts north-south, east-west and of the height at a position from a message 1023 or 1024, by bilinear
+ * interpolation: a count is the mean and the whole number nearest to the exact weighted mean of the cell's nodes, halves
+ * away from zero. The shift is that count divided once, by 100,000 for arc seconds or by 10,000 for metres: north and
+ * east are arc seconds of a 1023 and metres of a 1024, height is metres (see the components above).
+ * Each part has its own refusal number, and a refused part reads 0.0 and count 0.
+ * A position is in steps of 0.0001 arc second (1023) or 1 mm (1024), north and east positive. It is given in the system
+ * of the grid: for a 1023 after the transformation of 1021 or 1022, for a 1024 after the projection (D13 of
+ * docs/DECISIONS.md). The call can't tell in which system a position was given.
  * For 1023 the difference of longitudes to the grid's origin is taken the short way round, so a grid may lie across
  * 180 degrees, and -180 and +180 degrees get the same answer.
- * The count over 100,000 is arc seconds, over 10,000 metres (see the components above).
- * Refusals in order: SHORT, NUMBER, LENGTH, FILL, RANGE, KIND, COMPONENT, POSITION, OFF, METHOD, ORIGIN, SPACING,
+ * A height is corrected by subtracting the shift (source document 003, formula 3b); that is the caller's work.
+ * Refusals in order, for each part: SHORT, NUMBER, LENGTH, FILL, RANGE, KIND, POSITION, OFF, METHOD, ORIGIN, SPACING,
  * OUTSIDE, ABSENT.
  * Buffers: message is only read.
  */
-tarnoklej_shift tarnoklej_shift_at(const uint8_t *message, size_t message_length, uint8_t component, int64_t north,
-                                   int64_t east);
+tarnoklej_shifts tarnoklej_shifts_at(const uint8_t *message, size_t message_length, int64_t north, int64_t east);
 
 /* Gives the first frame at or after a place: at is the place of its D3, length the bytes of its message.
  * A frame is D3, six zero bits, a ten-bit length, the message, and the CRC-24Q of all these in 24 bits.

@@ -1,12 +1,12 @@
 //! What the C example examples/shift.c must print.
 
-use crate::grid::{answer, nearest, shift, Answer};
+use crate::grid::{nearest, shifts, Answer, Part, COMPONENTS};
 use crate::message::read;
 
 /// The most bytes of a file that are looked at.
 const LOOKED_AT: usize = 128;
 /// The three components by name.
-const COMPONENTS: [&str; 3] = ["north-south", "east-west", "height"];
+const NAMES: [&str; COMPONENTS] = ["north-south", "east-west", "height"];
 
 /// A decimal number as a whole number and the power of ten it is divided by.
 fn decimal(text: &str) -> Option<(i128, i128)> {
@@ -23,14 +23,13 @@ fn steps(number: u16, text: &str) -> Option<i64> {
     i64::try_from(nearest(numerator * in_one, denominator)).ok()
 }
 
-/// The line of one component.
-fn line(bytes: &[u8], component: u8, north: i64, east: i64) -> String {
-    let name = COMPONENTS[component as usize];
-    match (shift(bytes, component, north, east), answer(bytes, component, north, east)) {
+/// The line of one part.
+fn line(name: &str, part: &Part) -> String {
+    match (part.count, part.answer) {
         (Ok(count), Answer::Seconds(value)) => format!("{name} {count} {value:.5} arc seconds\n"),
         (Ok(count), Answer::Metres(value)) => format!("{name} {count} {value:.4} m\n"),
         (Err(refusal), _) => format!("{name} refused {}\n", format!("{refusal:?}").to_uppercase()),
-        (Ok(_), Answer::Refused(_)) => unreachable!("the two answers are of one call"),
+        (Ok(_), Answer::Refused(_)) => unreachable!("the two answers are of one part"),
     }
 }
 
@@ -39,7 +38,7 @@ fn lines(file: &[u8], north: &str, east: &str) -> Option<String> {
     let bytes = &file[..file.len().min(LOOKED_AT)];
     let number = read(bytes).map_or(0, |message| message.number);
     let (north, east) = (steps(number, north)?, steps(number, east)?);
-    Some((0..3).map(|component| line(bytes, component, north, east)).collect())
+    Some(NAMES.iter().zip(&shifts(bytes, north, east)).map(|(name, part)| line(name, part)).collect())
 }
 
 /// What the example prints for every call of a list, each line of which is a file, a north and an east.

@@ -1,4 +1,4 @@
-//! The shift at a position from a grid message, by exact whole numbers (document 01, "The grid"; document 02, A2 and A5).
+//! The shifts at a position from a grid message, by exact whole numbers (document 01, "The grid"; document 02, A2, A3 and A5).
 
 use crate::message::{read, Message};
 use crate::record::{write_record, Record};
@@ -52,7 +52,12 @@ pub const PLANE: Plan = Plan {
     node_factor: [10, 10, 10],
 };
 
-/// The answer a second time, as the add-on receives it.
+/// How many components there are: north-south, east-west and height.
+pub const COMPONENTS: usize = 3;
+/// The place of the height among the components.
+pub const HEIGHT: usize = 2;
+
+/// A count as the add-on receives it.
 #[derive(Clone, Copy, PartialEq, Debug)]
 pub enum Answer {
     /// Arc seconds.
@@ -63,18 +68,75 @@ pub enum Answer {
     Refused(u8),
 }
 
-/// The count at a position, with refusals 1 to 5 and 7 to 15 in order.
-pub fn shift(bytes: &[u8], component: u8, north: i64, east: i64) -> Result<i64, Refusal> {
+/// One component's part of the shifts at a position.
+#[derive(Clone, Copy, PartialEq, Debug)]
+pub struct Part {
+    /// The count, or why there is none.
+    pub count: Result<i64, Refusal>,
+    /// The same as the add-on receives it.
+    pub answer: Answer,
+}
+
+impl Part {
+    /// A refused part.
+    fn refused(refusal: Refusal) -> Part {
+        Part { count: Err(refusal), answer: Answer::Refused(refusal.number()) }
+    }
+
+    /// An answered part: the count divided once by 100,000 for arc seconds or by 10,000 for metres.
+    fn answered(count: i64, in_seconds: bool) -> Part {
+        let answer = match in_seconds {
+            true => Answer::Seconds(count as f64 / 100_000.0),
+            false => Answer::Metres(count as f64 / 10_000.0),
+        };
+        Part { count: Ok(count), answer }
+    }
+
+    /// The shift as a float, 0.0 for a refused part.
+    pub fn float(&self) -> f64 {
+        match self.answer {
+            Answer::Seconds(value) | Answer::Metres(value) => value,
+            Answer::Refused(_) => 0.0,
+        }
+    }
+}
+
+/// The shifts of the three components at a position, each part with refusals 1 to 5, 7 and 9 to 15 in order.
+pub fn shifts(bytes: &[u8], north: i64, east: i64) -> [Part; COMPONENTS] {
+    match grid_message(bytes) {
+        Err(refusal) => [Part::refused(refusal); COMPONENTS],
+        Ok((message, plan)) => [0, 1, HEIGHT].map(|component| part(&message, plan, component, [north, east])),
+    }
+}
+
+/// The shifts from a grid record: RANGE where no grid message holds it, then as for the message.
+pub fn shifts_of(record: &Record, north: i64, east: i64) -> [Part; COMPONENTS] {
+    match write_record(record, usize::MAX) {
+        Err(refusal) => [Part::refused(refusal); COMPONENTS],
+        Ok(bytes) => shifts(&bytes, north, east),
+    }
+}
+
+/// A grid message and its plan, with refusals 1 to 5 and KIND in order.
+fn grid_message(bytes: &[u8]) -> Result<(Message, &'static Plan), Refusal> {
     let message = read(bytes)?;
     let plan = plan_of(&message).ok_or(Refusal::Kind)?;
-    if component > 2 {
-        return Err(Refusal::Component);
-    }
-    let position = [north as i128, east as i128];
+    Ok((message, plan))
+}
+
+/// One component's part at a position.
+fn part(message: &Message, plan: &Plan, component: usize, position: [i64; 2]) -> Part {
+    let counted = count_at(message, plan, component, position);
+    counted.map_or_else(Part::refused, |count| Part::answered(count, plan.turn.is_some() && component != HEIGHT))
+}
+
+/// One component's count at a position, with refusals 9 to 15 in order.
+fn count_at(message: &Message, plan: &Plan, component: usize, position: [i64; 2]) -> Result<i64, Refusal> {
+    let position = position.map(i128::from);
     if (0..2).any(|axis| position[axis].abs() > plan.farthest[axis]) {
         return Err(Refusal::Position);
     }
-    count(&message, plan, component as usize, position).map(|count| count as i64)
+    count(message, plan, component, position).map(|count| count as i64)
 }
 
 /// The plan of a grid message.
@@ -88,7 +150,7 @@ fn plan_of(message: &Message) -> Option<&'static Plan> {
 
 /// The count at a position within the limits, with refusals 10 to 15 in order.
 fn count(message: &Message, plan: &Plan, component: usize, position: [i128; 2]) -> Result<i128, Refusal> {
-    let (indicator, method) = if component == 2 { (191, 213) } else { (190, 212) };
+    let (indicator, method) = if component == HEIGHT { (191, 213) } else { (190, 212) };
     if message.number_in(indicator) == 0 {
         return Err(Refusal::Off);
     }
@@ -203,31 +265,4 @@ pub fn nearest(numerator: i128, denominator: i128) -> i128 {
     } else {
         magnitude
     }
-}
-
-/// The answer a second time: the count divided once by 100,000 for arc seconds or by 10,000 for metres.
-pub fn answer(bytes: &[u8], component: u8, north: i64, east: i64) -> Answer {
-    match shift(bytes, component, north, east) {
-        Err(refusal) => Answer::Refused(refusal.number()),
-        Ok(count) if in_seconds(bytes, component) => Answer::Seconds(count as f64 / 100_000.0),
-        Ok(count) => Answer::Metres(count as f64 / 10_000.0),
-    }
-}
-
-/// The count at a position from a grid record: RANGE where no grid message holds it, then as for the message.
-pub fn shift_of(record: &Record, component: u8, north: i64, east: i64) -> Result<i64, Refusal> {
-    shift(&write_record(record, usize::MAX)?, component, north, east)
-}
-
-/// The answer from a grid record a second time.
-pub fn answer_of(record: &Record, component: u8, north: i64, east: i64) -> Answer {
-    match write_record(record, usize::MAX) {
-        Err(refusal) => Answer::Refused(refusal.number()),
-        Ok(bytes) => answer(&bytes, component, north, east),
-    }
-}
-
-/// Whether the counts of a component of a message are arc seconds.
-fn in_seconds(bytes: &[u8], component: u8) -> bool {
-    read(bytes).is_ok_and(|message| message.number == 1023) && component < 2
 }

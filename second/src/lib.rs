@@ -1,6 +1,6 @@
 //! An independent second program for RTCM messages 1021 to 1027.
 //!
-//! It is written from document 01, from requests A1, A2 and A5 of document 02, from source documents 000, 003 and 004, and from
+//! It is written from document 01, from requests A1, A2, A3 and A5 of document 02, from source documents 000, 003 and 004, and from
 //! docs/DECISIONS.md where these leave a choice. It shares no code with the proved library.
 
 pub mod bits;

@@ -1,20 +1,23 @@
-//! The second program's own checks of the shift.
+//! The second program's own checks of the shifts.
 
 use crate::fields::by_df;
-use crate::grid::{answer, by_whole_turns, nearest, shift, Answer, Plan, ELLIPSOIDAL, PLANE};
+use crate::grid::{by_whole_turns, nearest, shifts, Answer, Plan, COMPONENTS, ELLIPSOIDAL, HEIGHT, PLANE};
 use crate::gridsamples::{Grid, HALF_TURN};
 use crate::random::Random;
-use crate::refusal::Refusal;
+use crate::refusal::{number_of, Refusal};
+use crate::samples::Sample;
 use crate::selfcheck::{billionths, Group};
 use crate::vectors::antimeridian::random_grid_across;
-use crate::vectors::shifts::random_grid;
+use crate::vectors::shifts::{random_grid, random_position};
 
-/// All groups of checks of the shift.
+/// All groups of checks of the shifts.
 pub fn groups() -> Vec<Group> {
     vec![
         factors(),
         worked(),
         second_answer(),
+        floats(),
+        parts_apart(),
         rounding(),
         whole_turns(),
         both_names_of_the_meridian(),
@@ -23,6 +26,11 @@ pub fn groups() -> Vec<Group> {
         at_nodes(),
         bounded_change(),
     ]
+}
+
+/// One component's count at a position.
+fn count(grid: &Grid, component: usize, [north, east]: [i64; 2]) -> Result<i64, Refusal> {
+    shifts(&grid.bytes(), north, east)[component].count
 }
 
 /// The unit of a number as printed.
@@ -74,8 +82,8 @@ fn worked() -> Group {
     let [north, east] = k.at_node(6);
     let negated = k.negated();
     let gap = k.set_node(2, 7, None);
-    let mut at = |name: &str, grid: &Grid, component: u8, position: [i64; 2], expected: Result<i64, Refusal>| {
-        group.equal(name, shift(&grid.bytes(), component, position[0], position[1]), expected);
+    let mut at = |name: &str, grid: &Grid, component: usize, position: [i64; 2], expected: Result<i64, Refusal>| {
+        group.equal(name, count(grid, component, position), expected);
     };
     at("P1", &k, 2, k.origin(), Ok(469_285));
     at("P2", &k, 2, k.at_node(1), Ok(469_210));
@@ -87,23 +95,79 @@ fn worked() -> Group {
     at("P8", &gap, 2, [north, east], Ok(469_260));
     at("P9", &gap, 2, [north, east + 1], Err(Refusal::Absent));
     at("P10", &k, 0, k.origin(), Err(Refusal::Off));
+    at("P10 east", &k, 1, k.origin(), Err(Refusal::Off));
     at("P11", &k.set(194, 0), 2, k.origin(), Err(Refusal::Spacing));
     at("P11 east", &k.set(195, 0), 2, k.origin(), Err(Refusal::Spacing));
     group
 }
 
-/// The answer as arc seconds, metres or a refusal number.
+/// The answers as arc seconds, metres or refusal numbers.
 fn second_answer() -> Group {
-    let mut group = Group::new("the answer a second time");
+    let mut group = Group::new("the answers as floats or refusal numbers");
+    let answers = |grid: &Grid| {
+        let [north, east] = grid.origin();
+        shifts(&grid.bytes(), north, east).map(|part| part.answer)
+    };
     let k = Grid::k();
-    let [north, east] = k.origin();
-    group.equal("P1", answer(&k.bytes(), 2, north, east), Answer::Metres(46.9285));
-    group.equal("P10", answer(&k.bytes(), 0, north, east), Answer::Refused(10));
-    let on = k.set(190, 1).set(196, 100);
-    group.equal("seconds", answer(&on.bytes(), 0, north, east), Answer::Seconds(0.1));
+    group.equal("P1 and P10", answers(&k), [Answer::Refused(10), Answer::Refused(10), Answer::Metres(46.9285)]);
+    let on = k.set(190, 1).set(196, 100).set(197, -1);
+    let seconds = [Answer::Seconds(0.1), Answer::Seconds(-0.001), Answer::Metres(46.9285)];
+    group.equal("seconds", answers(&on), seconds);
     let plane = Grid::of(1024, [0, 0], [1, 1], [511, -511, 0], |_, _| 0);
-    group.equal("DF206", answer(&plane.bytes(), 0, 0, 0), Answer::Metres(5.11));
-    group.equal("DF207", answer(&plane.bytes(), 1, 0, 0), Answer::Metres(-5.11));
+    group.equal("1024", answers(&plane), [5.11, -5.11, 0.0].map(Answer::Metres));
+    group
+}
+
+/// The decimal number that a count stands for, made a float as a whole and not by a division.
+fn as_decimal(count: i64, places: u32) -> f64 {
+    format!("{count}e-{places}").parse().expect("a decimal number")
+}
+
+/// The float of an answered part is the one nearest to its decimal number, and that of a refused part has no bit set.
+fn floats() -> Group {
+    let mut group = Group::new("floats of answered and refused parts, by their bits");
+    let mut random = Random::new(26);
+    for number in [1023, 1024].repeat(300) {
+        let grid = random_grid(&mut random, number).set(190, random.within(0, 1)).set(213, random.within(0, 1));
+        let [north, east] = random_position(&mut random, &grid);
+        for (component, part) in shifts(&grid.bytes(), north, east).iter().enumerate() {
+            let places = if number == 1023 && component != HEIGHT { 5 } else { 4 };
+            let expected = part.count.map_or(0.0, |count| as_decimal(count, places));
+            group.equal("bits", part.float().to_bits(), expected.to_bits());
+        }
+    }
+    group
+}
+
+/// Each part keeps its own order of refusals, and a refusal of the message or the position is that of all parts.
+fn parts_apart() -> Group {
+    let mut group = Group::new("parts refused differently at one position");
+    let grid = Grid::of(1023, [0, 0], [6, 6], [1, 2, 3], |_, _| 0);
+    let mut at = |name: &str, grid: &Grid, position: [i64; 2], expected: [u8; COMPONENTS]| {
+        let numbers = shifts(&grid.bytes(), position[0], position[1]).map(|part| number_of(&part.count));
+        group.equal(name, numbers, expected);
+    };
+    let inside = [100, 100];
+    at("answered", &grid, inside, [0, 0, 0]);
+    at("DF190 0", &grid.set(190, 0), inside, [10, 10, 0]);
+    at("DF191 0", &grid.set(191, 0), inside, [0, 0, 10]);
+    at("DF212 1", &grid.set(212, 1), inside, [11, 11, 0]);
+    at("DF213 1", &grid.set(213, 1), inside, [0, 0, 11]);
+    at("off and method", &grid.set(190, 0).set(213, 3), inside, [10, 10, 11]);
+    at("off before method", &grid.set(190, 0).set(212, 3), inside, [10, 10, 0]);
+    for component in 0..COMPONENTS {
+        let alone = [0, 1, 2].map(|other| if other == component { 15 } else { 0 });
+        at("mean", &grid.set(grid.mean_field(component), None), inside, alone);
+        at("node", &grid.set_node(component, 7, None), inside, alone);
+        at("node without weight", &grid.set_node(component, 7, None), grid.at_node(10), [0, 0, 0]);
+    }
+    let off = grid.set(190, 0);
+    at("origin", &off.set(192, None), inside, [10, 10, 12]);
+    at("spacing", &off.set(195, 0), inside, [10, 10, 13]);
+    at("outside", &off, [0, 45_001], [10, 10, 14]);
+    at("edge", &grid, [0, 45_000], [0, 0, 0]);
+    at("position", &off, [3_240_000_001, 0], [9, 9, 9]);
+    at("kind", &Grid { sample: Sample::zeros(1025) }, [3_240_000_001, 0], [7, 7, 7]);
     group
 }
 
@@ -181,11 +245,9 @@ fn both_names_of_the_meridian() -> Group {
         };
         let high = grid.spacing()[0];
         let north = grid.origin()[0] + random.within(-2 * high, 2 * high);
-        for component in 0..4 {
-            let at = |east: i64| shift(&grid.bytes(), component, north, east);
-            group.equal("answer", at(-HALF_TURN), at(HALF_TURN));
-            group.equal("past it", (at(-HALF_TURN - 1), at(HALF_TURN + 1)), (at(i64::MIN), at(i64::MAX)));
-        }
+        let at = |east: i64| shifts(&grid.bytes(), north, east);
+        group.equal("answer", at(-HALF_TURN), at(HALF_TURN));
+        group.equal("past it", (at(-HALF_TURN - 1), at(HALF_TURN + 1)), (at(i64::MIN), at(i64::MAX)));
     }
     group
 }
@@ -200,10 +262,11 @@ fn same_elsewhere() -> Group {
             let across = grid.set(193, longitude);
             for node in 1..=16 {
                 for step in [0, 1, 179_999, 180_000, 180_001] {
-                    let [north, east] = grid.moved(grid.at_node(node), [0, step]);
-                    let [same_north, turned_east] = across.moved(across.at_node(node), [0, step]);
-                    let expected = shift(&grid.bytes(), 2, north, east);
-                    group.equal("grid K", shift(&across.bytes(), 2, same_north, turned_east), expected);
+                    let at = |grid: &Grid| {
+                        let [north, east] = grid.moved(grid.at_node(node), [0, step]);
+                        shifts(&grid.bytes(), north, east)
+                    };
+                    group.equal("grid K", at(&across), at(&grid));
                 }
             }
         }
@@ -213,13 +276,11 @@ fn same_elsewhere() -> Group {
         let [high, wide] = across.spacing();
         let steps = [random.within(-2 * high, 2 * high), random.within(-2 * wide, 2 * wide)];
         let elsewhere = across.set(193, random.within(-1_200_000, 1_200_000));
-        for component in 0..3 {
-            let at = |grid: &Grid| {
-                let [north, east] = grid.moved(grid.origin(), steps);
-                shift(&grid.bytes(), component, north, east)
-            };
-            group.equal("random grid", at(&across), at(&elsewhere));
-        }
+        let at = |grid: &Grid| {
+            let [north, east] = grid.moved(grid.origin(), steps);
+            shifts(&grid.bytes(), north, east)
+        };
+        group.equal("random grid", at(&across), at(&elsewhere));
     }
     group
 }
@@ -230,9 +291,9 @@ fn plane_is_not_turned() -> Group {
     for raw in [0, 648_000, 1_296_000, 67_108_863] {
         let grid = Grid::of(1024, [0, raw], [4_095, 4_095], [1, 2, 3], |_, _| 0);
         let east = grid.origin()[1];
-        group.equal("middle", shift(&grid.bytes(), 2, 0, east), Ok(300));
+        group.equal("middle", count(&grid, HEIGHT, [0, east]), Ok(300));
         for turns in [-2, -1, 1, 2] {
-            let at = shift(&grid.bytes(), 2, 0, east + turns * 2 * HALF_TURN);
+            let at = count(&grid, HEIGHT, [0, east + turns * 2 * HALF_TURN]);
             group.equal("turned", at, Err(Refusal::Outside));
         }
     }
@@ -247,8 +308,7 @@ fn at_nodes() -> Group {
         let grid = random_grid(&mut random, number);
         for node in 1..=16 {
             for component in 0..3 {
-                let [north, east] = grid.at_node(node);
-                let given = shift(&grid.bytes(), component as u8, north, east);
+                let given = count(&grid, component, grid.at_node(node));
                 let factor = if number == 1023 && component < 2 { 3 } else { 10 };
                 let mean = grid.sample.value(grid.mean_field(component));
                 let value = grid.node(component, node).ok_or(Refusal::Absent);
@@ -288,8 +348,8 @@ fn bounded_change() -> Group {
             let mut at = || {
                 let y = random.within(-3 * high / 2, 3 * high / 2);
                 let x = random.within(-3 * wide / 2, 3 * wide / 2);
-                let [north, east] = grid.moved(grid.origin(), [y, x]);
-                (y, x, shift(&grid.bytes(), component as u8, north, east).expect("inside, all present"))
+                let position = grid.moved(grid.origin(), [y, x]);
+                (y, x, count(&grid, component, position).expect("inside, all present"))
             };
             let (a, b) = (at(), at());
             let (h, w) = (high as i128, wide as i128);

@@ -24,14 +24,28 @@ pub struct Written {
     pub length: usize,
 }
 
-/// The answer of `tarnoklej_shift_at`.
+/// The answer of `tarnoklej_shifts_at`.
 #[repr(C)]
-#[derive(Clone, Copy, PartialEq, Eq, Debug)]
-pub struct Shift {
-    /// The refusal number, 0 where the call is done.
-    pub refusal: u8,
-    /// The shift in counts.
-    pub count: i64,
+#[derive(Clone, Copy, PartialEq, Debug)]
+pub struct Shifts {
+    /// The shift north-south in arc seconds or metres, 0.0 where it is refused.
+    pub north: f64,
+    /// The shift east-west in arc seconds or metres, 0.0 where it is refused.
+    pub east: f64,
+    /// The shift of the height in metres, 0.0 where it is refused.
+    pub height: f64,
+    /// The shift north-south in counts, 0 where it is refused.
+    pub north_count: i64,
+    /// The shift east-west in counts, 0 where it is refused.
+    pub east_count: i64,
+    /// The shift of the height in counts, 0 where it is refused.
+    pub height_count: i64,
+    /// The refusal number of the shift north-south, 0 where it is answered.
+    pub north_refusal: u8,
+    /// The refusal number of the shift east-west, 0 where it is answered.
+    pub east_refusal: u8,
+    /// The refusal number of the shift of the height, 0 where it is answered.
+    pub height_refusal: u8,
 }
 
 /// The answer of `tarnoklej_find`.
@@ -79,9 +93,8 @@ extern "C" {
         out: *mut u8,
         room: usize,
     ) -> Written;
-    /// Gives the shift of a component at a position.
-    pub fn tarnoklej_shift_at(message: *const u8, message_length: usize, component: u8, north: i64, east: i64)
-        -> Shift;
+    /// Gives the shifts of the three components at a position.
+    pub fn tarnoklej_shifts_at(message: *const u8, message_length: usize, north: i64, east: i64) -> Shifts;
     /// Gives the first frame at or after a place.
     pub fn tarnoklej_find_frame(bytes: *const u8, size: usize, from: usize) -> Frame;
     /// Writes the frame of a message.

@@ -47,6 +47,26 @@ pub struct Header {
     pub sin: u8,
 }
 
+/// One component's shift at a position.
+#[derive(Clone, Copy, PartialEq, Debug)]
+pub struct Shift {
+    /// The shift in arc seconds (north-south and east-west of a 1023) or metres.
+    pub value: f64,
+    /// The shift in counts; see [`NORTH_SOUTH`], [`EAST_WEST`] and [`HEIGHT`].
+    pub count: i64,
+}
+
+/// The shifts at a position, each part with its own refusal.
+#[derive(Clone, Copy, PartialEq, Debug)]
+pub struct Shifts {
+    /// The shift north-south.
+    pub north: Result<Shift, Refusal>,
+    /// The shift east-west.
+    pub east: Result<Shift, Refusal>,
+    /// The shift of the height.
+    pub height: Result<Shift, Refusal>,
+}
+
 /// A message found in a table.
 #[derive(Clone, Copy, PartialEq, Eq, Debug)]
 pub struct Found<'table> {
@@ -192,18 +212,27 @@ pub fn write_fields(fields: &[Option<i64>], out: &mut [u8]) -> Result<usize, Ref
     Ok(written.length)
 }
 
-/// Gives the shift of a component at a position from a message 1023 or 1024, in counts.
+/// One part of an answer: the shift, or why there is none.
+fn part(refusal: u8, count: i64, value: f64) -> Result<Shift, Refusal> {
+    done(refusal)?;
+    Ok(Shift { value, count })
+}
+
+/// Gives the shifts north-south, east-west and of the height at a position from a message 1023 or 1024.
 ///
-/// A position is in steps of 0.0001 arc second (1023) or 1 mm (1024), north and east positive.
+/// A shift is arc seconds or metres, with its count beside it; each part is answered or refused for itself.
+/// A position is in steps of 0.0001 arc second (1023) or 1 mm (1024), north and east positive. It is given in the
+/// system of the grid: for a 1023 after the transformation of 1021 or 1022, for a 1024 after the projection (D13 of
+/// docs/DECISIONS.md). The call can't tell in which system a position was given.
 /// For 1023 the difference of longitudes to the grid's origin is taken the short way round, so a grid may lie across
 /// 180 degrees, and -180 and +180 degrees get the same answer.
-/// The count over 100,000 is arc seconds, over 10,000 metres; see [`NORTH_SOUTH`], [`EAST_WEST`] and [`HEIGHT`].
+/// A height is corrected by subtracting the shift (source document 003, formula 3b); that is the caller's work.
 ///
-/// Refusals: SHORT, NUMBER, LENGTH, FILL, RANGE, KIND, COMPONENT, POSITION, OFF, METHOD, ORIGIN, SPACING, OUTSIDE,
+/// Refusals, for each part: SHORT, NUMBER, LENGTH, FILL, RANGE, KIND, POSITION, OFF, METHOD, ORIGIN, SPACING, OUTSIDE,
 /// ABSENT.
 ///
 /// ```
-/// use tarnoklej::{shift_at, write_fields, Refusal, HEIGHT, NORTH_SOUTH};
+/// use tarnoklej::{shifts_at, write_fields, Refusal, Shift};
 ///
 /// // A grid around 49 degrees north and 11 degrees east, heights only: the mean is 46.92 m, node i has i mm.
 /// let mut row = [Some(0); 64];
@@ -216,20 +245,24 @@ pub fn write_fields(fields: &[Option<i64>], out: &mut [u8]) -> Result<usize, Ref
 /// write_fields(&row, &mut message)?;
 ///
 /// let (north, east) = (49 * 36_000_000, 11 * 36_000_000);
-/// assert_eq!(shift_at(&message, HEIGHT, north, east), Ok(469_285)); // 46.9285 m
-/// assert_eq!(shift_at(&message, NORTH_SOUTH, north, east), Err(Refusal::Off));
+/// let shifts = shifts_at(&message, north, east);
+/// assert_eq!(shifts.height, Ok(Shift { value: 46.9285, count: 469_285 }));
+/// assert_eq!(shifts.north, Err(Refusal::Off));
 ///
 /// // Without the height of node 6, which has weight there, no mean is formed.
 /// row[13 + 3 * 5] = None;
 /// write_fields(&row, &mut message)?;
-/// assert_eq!(shift_at(&message, HEIGHT, north, east), Err(Refusal::Absent));
+/// assert_eq!(shifts_at(&message, north, east).height, Err(Refusal::Absent));
 /// # Ok::<(), Refusal>(())
 /// ```
-pub fn shift_at(message: &[u8], component: u8, north: i64, east: i64) -> Result<i64, Refusal> {
+pub fn shifts_at(message: &[u8], north: i64, east: i64) -> Shifts {
     // SAFETY: the pointer and the length are those of a slice, which the call only reads.
-    let shift = unsafe { ffi::tarnoklej_shift_at(message.as_ptr(), message.len(), component, north, east) };
-    done(shift.refusal)?;
-    Ok(shift.count)
+    let at = unsafe { ffi::tarnoklej_shifts_at(message.as_ptr(), message.len(), north, east) };
+    Shifts {
+        north: part(at.north_refusal, at.north_count, at.north),
+        east: part(at.east_refusal, at.east_count, at.east),
+        height: part(at.height_refusal, at.height_count, at.height),
+    }
 }
 
 /// Stores a message under its key, system identification number and group, in a table.

@@ -36,9 +36,15 @@ fn written(row: &[Option<i64>]) -> Vec<u8> {
     out
 }
 
-/// The height shift of a message at a position.
+/// The count of the height shift of a message at a position.
 fn height(message: &[u8], (north, east): (i64, i64)) -> Result<i64, Refusal> {
-    shift_at(message, HEIGHT, north, east)
+    shifts_at(message, north, east).height.map(|shift| shift.count)
+}
+
+/// The refusal numbers of the three parts of a message at a position, 0 where a part is answered.
+fn refusals(message: &[u8], (north, east): (i64, i64)) -> [u8; 3] {
+    let shifts = shifts_at(message, north, east);
+    [shifts.north, shifts.east, shifts.height].map(|part| part.map_or_else(Refusal::number, |_| 0))
 }
 
 /// A position some steps north and east of another.
@@ -114,9 +120,8 @@ fn a_grid_across_180_degrees_is_answered_on_both_sides() {
 #[test]
 fn worked_refusals_are_given() {
     let mut row = grid_k_row(1);
-    assert_eq!(shift_at(&written(&row), NORTH_SOUTH, MIDDLE.0, MIDDLE.1), Err(Refusal::Off));
-    assert_eq!(shift_at(&written(&row), 3, MIDDLE.0, MIDDLE.1), Err(Refusal::Component));
-    assert_eq!(height(&projection(7), MIDDLE), Err(Refusal::Kind));
+    assert_eq!(refusals(&written(&row), MIDDLE), [10, 10, 0]);
+    assert_eq!(refusals(&projection(7), MIDDLE), [7, 7, 7]);
     row[13 + 3 * 6] = None;
     assert_eq!(height(&written(&row), NODE_6), Ok(469_260));
     assert_eq!(height(&written(&row), moved(NODE_6, 0, 1)), Err(Refusal::Absent));
@@ -124,6 +129,59 @@ fn worked_refusals_are_given() {
     assert_eq!(height(&written(&row), MIDDLE), Err(Refusal::Spacing));
     row[4] = None;
     assert_eq!(height(&written(&row), MIDDLE), Err(Refusal::Origin));
+}
+
+/// The row of grid K with both shifts on and means of 1, -2 and 4,692.
+fn row_with_means() -> Vec<Option<i64>> {
+    let mut row = grid_k_row(1);
+    (row[2], row[8], row[9]) = (Some(1), Some(1), Some(-2));
+    row
+}
+
+#[test]
+fn each_part_is_a_float_with_its_count() {
+    let answered = |value, count| Ok(Shift { value, count });
+    let shifts = shifts_at(&written(&row_with_means()), MIDDLE.0, MIDDLE.1);
+    assert_eq!(shifts.north, answered(0.001, 100));
+    assert_eq!(shifts.east, answered(-0.002, -200));
+    assert_eq!(shifts.height, answered(46.9285, 469_285));
+    // A 1024 with its means at their ends, whose shifts are metres.
+    let mut plane = vec![1024, 7, 1, 1, 100, 100, 700, 700, 511, -511, 16_383];
+    plane.extend([0; 53]);
+    let shifts = shifts_at(&written(&row_of(&plane)), 1_000_000, 1_000_000);
+    assert_eq!(shifts.north, answered(5.11, 51_100));
+    assert_eq!(shifts.east, answered(-5.11, -51_100));
+    assert_eq!(shifts.height, answered(163.83, 1_638_300));
+}
+
+#[test]
+fn parts_are_refused_each_for_itself() {
+    let row = row_with_means();
+    let with = |place: usize, value: Option<i64>| {
+        let mut other = row.clone();
+        other[place] = value;
+        refusals(&written(&other), MIDDLE)
+    };
+    assert_eq!(refusals(&written(&row), MIDDLE), [0, 0, 0]);
+    assert_eq!((with(2, Some(0)), with(3, Some(0))), ([10, 10, 0], [0, 0, 10]));
+    assert_eq!((with(59, Some(1)), with(60, Some(1))), ([11, 11, 0], [0, 0, 11]));
+    for (component, alone) in [[15, 0, 0], [0, 15, 0], [0, 0, 15]].into_iter().enumerate() {
+        assert_eq!(with(8 + component, None), alone);
+        assert_eq!(with(11 + 3 * 5 + component, None), alone);
+    }
+    assert_eq!((with(5, None), with(7, Some(0))), ([12; 3], [13; 3]));
+}
+
+#[test]
+fn a_refused_part_reads_zero() {
+    let mut row = row_with_means();
+    row[59] = Some(3);
+    let message = written(&row);
+    // SAFETY: the pointer and the length are those of a slice.
+    let at = unsafe { ffi::tarnoklej_shifts_at(message.as_ptr(), message.len(), MIDDLE.0, MIDDLE.1) };
+    assert_eq!([at.north, at.east, at.height].map(f64::to_bits), [0, 0, 46.9285f64.to_bits()]);
+    assert_eq!([at.north_count, at.east_count, at.height_count], [0, 0, 469_285]);
+    assert_eq!([at.north_refusal, at.east_refusal, at.height_refusal], [11, 11, 0]);
 }
 
 #[test]
@@ -269,7 +327,7 @@ fn empty_slices_are_refused() {
     assert_eq!(read(&[]), Err(Refusal::Short));
     assert_eq!(read_fields_into(&[], &mut []), Err(Refusal::Short));
     assert_eq!(write_fields(&[], &mut []), Err(Refusal::Range));
-    assert_eq!(shift_at(&[], 0, 0, 0), Err(Refusal::Short));
+    assert_eq!(refusals(&[], (0, 0)), [1, 1, 1]);
     assert_eq!(store(&mut [], &[]), Err(Refusal::Table));
     assert_eq!(find(&[], 0, 0), Err(Refusal::Table));
     assert_eq!(remove(&mut [], 0, 0), Err(Refusal::Table));

@@ -4,15 +4,16 @@ ghost use lib.ListN.{length};
 ghost use Rattle.arith.specs.First.{first};
 ghost use Rattle.wire.specs.Message.{header, rowRefusal, valuesRead, presentRead, writeRow};
 ghost use Rattle.grid_records.specs.Grids.{frameAt};
-ghost use Rattle.grid_fields.specs.Fields.{gridSays, meanSays, nodeSays};
-ghost use Rattle.cell.specs.Cell.{alongOf, countIn};
+ghost use Rattle.grid_fields.specs.Fields.{gridSays, meanSays, nodeSays, cellSays};
+ghost use Rattle.cell.specs.Cell.{alongOf, sumIn, weightsIn, countBy};
+ghost use Rattle.position.specs.Position.{heldPlace, heldSides};
 ghost use Rattle.grid_refusals.specs.Refusals.{fieldTests};
-ghost use Rattle.grid.specs.Shift.{messageShift, recordShift};
+ghost use Rattle.grid.specs.Shift.{messageShifts, recordShifts};
 ghost use Rattle.layout.specs.Layout.{answered, stored};
 ghost use Rattle.frame.specs.Frames.{frame, frameRefusal, findFrame};
 ghost use Rattle.table.specs.Table.{wellFormed, storeRefusal, storeTable, findRefusal, foundOf, removeTable};
 ghost use Rattle.table.specs.Shown.{Shows};
-ghost use Rattle.capi.specs.Counted.{countedShift};
+ghost use Rattle.capi.specs.Exported.{exportedShifts};
 
 pub fn well_formed(t: &[u8]) -> bool
     ensures { λ r. ⌜ r ≡ wellFormed (now (t .entry)) ⌝ }
@@ -52,10 +53,40 @@ pub fn along(difference: i64, spacing: u64) -> cell::Place
     cell::along(difference, spacing)
 }
 
-pub fn count_in(mean: i64, factor: u64, n: cell::Corners, h: u64, w: u64, y: u64, x: u64) -> i64
-    ensures { λ r. ⌜ r ≡ countIn mean factor n h w y x ⌝ }
+pub fn sum_in(factor: u64, n: cell::Corners, h: u64, w: u64, y: u64, x: u64) -> i64
+    ensures { λ r. ⌜ r ≡ sumIn factor n h w y x ⌝ }
 {
-    cell::count_in(mean, factor, n, h, w, y, x)
+    cell::sum_in(factor, n, h, w, y, x)
+}
+
+pub fn weights_in(h: u64, w: u64, y: u64, x: u64) -> cell::Weights
+    ensures { λ r. ⌜ r ≡ weightsIn h w y x ⌝ }
+{
+    cell::weights_in(h, w, y, x)
+}
+
+pub fn count_by(mean: i64, factor: u64, n: cell::Corners, k: cell::Weights) -> i64
+    ensures { λ r. ⌜ r ≡ countBy mean factor n k ⌝ }
+{
+    cell::count_by(mean, factor, n, k)
+}
+
+pub fn locate(f: grid_records::Frame, component: u8, north: i64, east: i64) -> position::Located
+    ensures { λ r. ⌜ r ≡ heldPlace f component north east ⌝ }
+{
+    position::locate(f, component, north, east)
+}
+
+pub fn locate_sides(f: grid_records::Frame, north: i64, east: i64) -> position::Sides
+    ensures { λ r. ⌜ r ≡ heldSides f north east ⌝ }
+{
+    position::locate_sides(f, north, east)
+}
+
+pub fn nodes_at(s: &[u8], component: u8, row: u64, column: u64) -> grid_fields::Nodes
+    ensures { λ r. ⌜ r ≡ cellSays (now (s .entry)) component row column ⌝ }
+{
+    grid_fields::nodes_at(s, component, row, column)
 }
 
 pub fn early_refusal(f: grid_records::Frame, component: u8, north: i64, east: i64) -> u8
@@ -82,16 +113,16 @@ pub fn node_at(s: &[u8], component: u8, node: u64) -> field::Reading
     grid_fields::node_at(s, component, node)
 }
 
-pub fn shift_at(s: &[u8], component: u8, north: i64, east: i64) -> grid::Shift
-    ensures { λ r. ⌜ r ≡ messageShift (now (s .entry)) component north east ⌝ }
+pub fn shifts_at(s: &[u8], north: i64, east: i64) -> grid::ThreeShifts
+    ensures { λ r. ⌜ r ≡ messageShifts (now (s .entry)) north east ⌝ }
 {
-    grid::shift_at(s, component, north, east)
+    grid::shifts_at(s, north, east)
 }
 
-pub fn shift_of(g: grid_records::Grid, component: u8, north: i64, east: i64) -> grid::Shift
-    ensures { λ r. ⌜ r ≡ recordShift g component north east ⌝ }
+pub fn shifts_of(g: grid_records::Grid, north: i64, east: i64) -> grid::ThreeShifts
+    ensures { λ r. ⌜ r ≡ recordShifts g north east ⌝ }
 {
-    grid::shift_of(g, component, north, east)
+    grid::shifts_of(g, north, east)
 }
 
 pub fn tarnoklej_read(s: &[u8]) -> wire::Header
@@ -115,10 +146,10 @@ pub fn tarnoklej_write_fields(values: &[i64], present: &[u8], out: &mut [u8]) ->
     capi::tarnoklej_write_fields(values, present, out)
 }
 
-pub fn tarnoklej_shift_at(s: &[u8], component: u8, north: i64, east: i64) -> capi::Counted
-    ensures { λ r. ⌜ r ≡ countedShift (now (s .entry)) component north east ⌝ }
+pub fn tarnoklej_shifts_at(s: &[u8], north: i64, east: i64) -> capi::Shifts
+    ensures { λ r. ⌜ r ≡ exportedShifts (now (s .entry)) north east ⌝ }
 {
-    capi::tarnoklej_shift_at(s, component, north, east)
+    capi::tarnoklej_shifts_at(s, north, east)
 }
 
 pub fn tarnoklej_store(t: &mut [u8], s: &[u8]) -> u8

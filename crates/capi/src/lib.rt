@@ -2,7 +2,7 @@
 ghost use mathlib.Core.Path.{_≡_};
 ghost use lib.ListN.{length};
 ghost use Rattle.wire.specs.Message.{header, rowRefusal, valuesRead, presentRead, writeRow};
-ghost use Rattle.capi.specs.Counted.{countedShift};
+ghost use Rattle.capi.specs.Exported.{exportedShifts};
 ghost use Rattle.layout.specs.Layout.{answered, stored};
 ghost use Rattle.frame.specs.Frames.{frame, frameRefusal, findFrame};
 ghost use Rattle.table.specs.Table.{storeRefusal, storeTable, findRefusal, foundOf, removeTable};
@@ -38,22 +38,40 @@ pub extern "C" fn tarnoklej_write_fields(
     wire::write_row(values, present, out)
 }
 
-// A shift as a refusal and a count.
+// The three shifts in arc seconds or metres, with their counts and refusal numbers.
 #[repr(C)]
-pub struct Counted {
-    pub refusal: u8,
-    pub count: i64,
+pub struct Shifts {
+    pub north: f64,
+    pub east: f64,
+    pub height: f64,
+    pub north_count: i64,
+    pub east_count: i64,
+    pub height_count: i64,
+    pub north_refusal: u8,
+    pub east_refusal: u8,
+    pub height_refusal: u8,
 }
 
-// The shift of a component at a position, in counts.
+// The three shifts at a position.
 #[no_mangle]
-pub extern "C" fn tarnoklej_shift_at(s: &[u8], component: u8, north: i64, east: i64) -> Counted
-    ensures { λ r. ⌜ r ≡ countedShift (now (s .entry)) component north east ⌝ }
+pub extern "C" fn tarnoklej_shifts_at(s: &[u8], north: i64, east: i64) -> Shifts
+    ensures { λ r. ⌜ r ≡ exportedShifts (now (s .entry)) north east ⌝ }
 {
-    let r = grid::shift_at(s, component, north, east);
-    Counted {
-        refusal: r.refusal,
-        count: r.count,
+    let r = grid::shifts_at(s, north, east);
+    let p = r.parts;
+    let n = p.north;
+    let e = p.east;
+    let h = p.height;
+    Shifts {
+        north: r.north,
+        east: r.east,
+        height: r.height,
+        north_count: n.count,
+        east_count: e.count,
+        height_count: h.count,
+        north_refusal: n.refusal,
+        east_refusal: e.refusal,
+        height_refusal: h.refusal,
     }
 }
 

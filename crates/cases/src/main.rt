@@ -1,12 +1,12 @@
 // Reads cases from standard input, one to a line, and prints the answer to each, one to a line: second/VECTORS.md has the forms.
-// At most 20,000 lines are read, of at most 900 bytes each. A line that is no case is answered by its name and `?`.
+// At most 30,000 lines are read, of at most 900 bytes each. A line that is no case is answered by its name and `?`.
 use lines::input;
 use lines::input::Chunk;
 use lines::input::Line;
 use lines::output;
 use lines::output::Out;
 
-const LINES: usize = 20000;
+const LINES: usize = 30000;
 
 fn main() {
     let mut chunk = [0u8; 4096];

@@ -1,6 +1,6 @@
 -- What a grid message can hold: the tests, what they say, and the two definitions where they hold.
 -- Assumes nothing.
-use mathlib.Core.Path.{_≡_, refl, _∙_}
+use mathlib.Core.Path.{_≡_, refl, ap, _∙_}
 use mathlib.Core.Bool.{Bool, true, false, not, cond, _&&_, _||_}
 use Prim.Native.Nat.{ℕ, zero, suc, _+_, _*_, _/_, _≤_, _<_}
 use native.Mathlib.Omega.{arith}
@@ -10,11 +10,13 @@ use lib.IntN.{ℤ, pos, negsuc, natAbs, _+ℤ_, _-ℤ_}
 use lib.Signed.{ltZ, _≤ℤ_, _<ℤ_}
 use Rattle.arith.proofs.Int.{at, nat, _⊞_, _⊟_, known, known-lt, order-lt, abs-parts, abs-within}
 use Rattle.arith.proofs.Tests.{both-first, both-second}
-use Rattle.bilinear.specs.Bilinear.{nearestWhole, fromEdge, outside, cell}
-use Rattle.cell.specs.Cell.{greatestSpacing, alongOf, sumOf, spaced, placeHeld, nodesHeld, inBounds, countIn}
-use Rattle.cell.specs.Private.{Within, Most}
+use Rattle.bilinear.specs.Bilinear.{nearestWhole, fromEdge, outside, cell, weighted}
+use Rattle.cell.specs.Cell.{greatestSpacing, alongOf, weightsOf, weightsIn, areaOf, sumBy, sumOf, spaced, placeHeld, nodesHeld, sumHeld, sumIn, weightsHeld, inBounds, countBy}
+use Rattle.cell.specs.Private.{Within, Weighed, Most}
 use Rattle.cell.specs.declared.Place.{Place}
 use Rattle.cell.specs.declared.Corners.{Corners}
+use Rattle.cell.specs.declared.Weights.{Weights}
+use Rattle.cell.proofs.Sum.{whole, weighed}
 
 -- ---- a magnitude of at most b
 
@@ -119,19 +121,20 @@ most-of {n} e =
       ne = leb-true (natAbs (n .ne)) 256 (p .3);
     }
 
-module _ (mean : ℤ) (f : ℕ) (n : Corners) (h w y x : ℕ) where
-  pub count-held : inBounds mean f n h w y x ≡ true → mean +ℤ nearestWhole (sumOf f h w y x n) (h * w) ≡ countIn mean f n h w y x
-  unfolding countIn
-  count-held e = rw e
+-- what is summed
+module _ (f : ℕ) (n : Corners) (h w y x : ℕ) where
+  pub held-says : sumHeld f n h w y x ≡ true → Within h w y x × Most 256 n × (f ≤ 10)
+  unfolding sumHeld
+  held-says e =
+      let p = both-first (placeHeld h w y x && leb f 10) (nodesHeld n) e in (
+        within-of (both-first (placeHeld h w y x) (leb f 10) p),
+        most-of (both-second (placeHeld h w y x && leb f 10) (nodesHeld n) e),
+        leb-true f 10 (both-second (placeHeld h w y x) (leb f 10) p),
+      )
 
-  pub count-none : inBounds mean f n h w y x ≡ false → pos 0 ≡ countIn mean f n h w y x
-  unfolding countIn
-  count-none e = rw e
-
-  -- what a caller shows
-  pub count-in-is : Within h w y x → Most 256 n → natAbs mean ≤ 1638400 → f ≤ 10 → countIn mean f n h w y x ≡ mean +ℤ nearestWhole (sumOf f h w y x n) (h * w)
-  unfolding countIn inBounds placeHeld nodesHeld
-  count-in-is p m a b =
+  pub says-held : Within h w y x → Most 256 n → f ≤ 10 → sumHeld f n h w y x ≡ true
+  unfolding sumHeld placeHeld nodesHeld
+  says-held p m b =
       rw (
         ne-eqb h 0 (λ e. absurd (omega (arith, p .high .0))),
         le-leb h greatestSpacing (p .high .1),
@@ -140,9 +143,74 @@ module _ (mean : ℤ) (f : ℕ) (n : Corners) (h w y x : ℕ) where
         le-leb y h (p .north),
         le-leb x w (p .east),
         le-leb f 10 b,
+        le-leb (natAbs (n .sw)) 256 (m .sw),
+        le-leb (natAbs (n .se)) 256 (m .se),
+        le-leb (natAbs (n .nw)) 256 (m .nw),
+        le-leb (natAbs (n .ne)) 256 (m .ne),
+      )
+
+  pub sum-held : sumHeld f n h w y x ≡ true → sumOf f h w y x n ≡ sumIn f n h w y x
+  unfolding sumIn
+  sum-held e = rw e
+
+  pub sum-none : sumHeld f n h w y x ≡ false → pos 0 ≡ sumIn f n h w y x
+  unfolding sumIn
+  sum-none e = rw e
+
+-- the count
+module _ (mean : ℤ) (f : ℕ) (n : Corners) (k : Weights) where
+  pub count-held : inBounds mean f n k ≡ true → mean +ℤ nearestWhole (sumBy f k n) (areaOf k) ≡ countBy mean f n k
+  unfolding countBy
+  count-held e = rw e
+
+  pub count-none : inBounds mean f n k ≡ false → pos 0 ≡ countBy mean f n k
+  unfolding countBy
+  count-none e = rw e
+
+  -- what a caller shows
+  pub count-by-is : Weighed k → Most 256 n → natAbs mean ≤ 1638400 → f ≤ 10 → countBy mean f n k ≡ mean +ℤ nearestWhole (sumBy f k n) (areaOf k)
+  unfolding countBy inBounds weightsHeld nodesHeld
+  count-by-is p m a b =
+      rw (
+        ne-eqb (areaOf k) 0 (λ e. absurd (omega (arith, p .some, e))),
+        le-leb (areaOf k) 1676902500000000 (p .most),
+        le-leb f 10 b,
         le-leb (natAbs mean) 1638400 a,
         le-leb (natAbs (n .sw)) 256 (m .sw),
         le-leb (natAbs (n .se)) 256 (m .se),
         le-leb (natAbs (n .nw)) 256 (m .nw),
         le-leb (natAbs (n .ne)) 256 (m .ne),
       )
+
+pub weighed-of : (k : Weights) → weightsHeld k ≡ true → Weighed k
+unfolding weightsHeld
+weighed-of k h =
+    let some = eqb-false (areaOf k) 0 (not-true (eqb (areaOf k) 0) (both-first (not (eqb (areaOf k) 0)) (leb (areaOf k) 1676902500000000) h)) in
+    record { some = above (areaOf k) some; most = leb-true (areaOf k) 1676902500000000 (both-second (not (eqb (areaOf k) 0)) (leb (areaOf k) 1676902500000000) h) }
+  where
+    above : (d : ℕ) → (d ≡ 0 → ⊥) → 0 < d
+    above zero n = absurd (n refl)
+    above (suc d) n = omega arith
+
+pub too-heavy : (k : Weights) → 1676902500000000 < areaOf k → false ≡ weightsHeld k
+unfolding weightsHeld
+too-heavy k h = rw (ne-eqb (areaOf k) 0 (λ e. absurd (omega (arith, h, e))), lt-leb (areaOf k) 1676902500000000 h)
+
+-- the weights at a place of a cell, and the count by them
+module _ {h w y x : ℕ} (p : Within h w y x) where
+  pub weights-in-is : weightsIn h w y x ≡ weightsOf h w y x
+  unfolding weightsIn placeHeld
+  weights-in-is =
+      rw (
+        ne-eqb h 0 (λ e. absurd (omega (arith, p .high .0))),
+        le-leb h greatestSpacing (p .high .1),
+        ne-eqb w 0 (λ e. absurd (omega (arith, p .wide .0))),
+        le-leb w greatestSpacing (p .wide .1),
+        le-leb y h (p .north),
+        le-leb x w (p .east),
+      )
+
+  pub count-at-is : (mean : ℤ) (f : ℕ) (n : Corners) → Most 256 n → natAbs mean ≤ 1638400 → f ≤ 10
+      → countBy mean f n (weightsOf h w y x) ≡ mean +ℤ nearestWhole (sumOf f h w y x n) (h * w)
+  unfolding weighted
+  count-at-is mean f n m a b = count-by-is mean f n (weightsOf h w y x) (weighed p) m a b ∙ ap (λ (d : ℕ). mean +ℤ nearestWhole (sumOf f h w y x n) d) (whole p)

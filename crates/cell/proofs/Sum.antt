@@ -11,9 +11,10 @@ use mir.Syntax.{w64}
 use mir.Val.{Fits}
 use Rattle.bilinear.specs.Bilinear.{nearestWhole}
 use Rattle.bilinear.proofs.Bounds.{weighted-bound, nearest-bound}
-use Rattle.cell.specs.Cell.{sumOf}
-use Rattle.cell.specs.Private.{Within, Most, withSign}
+use Rattle.cell.specs.Cell.{weightsOf, areaOf, sumBy, sumOf}
+use Rattle.cell.specs.Private.{Within, Weighed, Most, withSign}
 use Rattle.cell.specs.declared.Corners.{Corners}
+use Rattle.cell.specs.declared.Weights.{Weights}
 
 pub product : (a b : ℕ) → a ≤ 40950000 → b ≤ 40950000 → a * b ≤ 1676902500000000
 product a b h k = mul-le-mul h k
@@ -24,34 +25,42 @@ scaled f z h k = subst (λ (m : ℕ). m ≤ 2560) (sym (abs-mul (pos f) z)) (mul
 pub fits-weight : {n : ℕ} → n ≤ 1676902500000000 → Fits w64 n
 fits-weight h = record { fits = omega arith }
 
--- ---- a cell cut in four, its nodes at most 2,560
+-- ---- four weights, and nodes of at most 2,560
 
-sums : (u x v y a b c d : ℕ) → a ≤ 2560 → b ≤ 2560 → c ≤ 2560 → d ≤ 2560 → u * v * a + x * v * b + u * y * c + x * y * d ≤ 2560 * ((u + x) * (v + y))
-sums u x v y a b c d ha hb hc hd = omega (arith, mul-le-mul-left (u * v) ha, mul-le-mul-left (x * v) hb, mul-le-mul-left (u * y) hc, mul-le-mul-left (x * y) hd)
+abbrev pub size : Weights → (sw se nw ne : ℤ) → ℕ
+size k sw se nw ne = natAbs (pos (k .sw) *ℤ sw) + natAbs (pos (k .se) *ℤ se) + natAbs (pos (k .nw) *ℤ nw) + natAbs (pos (k .ne) *ℤ ne)
 
-abbrev pub size : (u x v y : ℕ) (sw se nw ne : ℤ) → ℕ
-size u x v y sw se nw ne =
-    natAbs (pos (u * v) *ℤ sw) + natAbs (pos (x * v) *ℤ se) + natAbs (pos (u * y) *ℤ nw) + natAbs (pos (x * y) *ℤ ne)
-
-pub in-area : (u x v y : ℕ) (sw se nw ne : ℤ) → natAbs sw ≤ 2560 → natAbs se ≤ 2560 → natAbs nw ≤ 2560 → natAbs ne ≤ 2560 →
-    u + x ≤ 40950000 → v + y ≤ 40950000 → size u x v y sw se nw ne ≤ 2560 * 1676902500000000
-in-area u x v y sw se nw ne a b c d h k =
-    le-trans
-    (omega (
+pub in-area : (k : Weights) (sw se nw ne : ℤ) → natAbs sw ≤ 2560 → natAbs se ≤ 2560 → natAbs nw ≤ 2560 → natAbs ne ≤ 2560
+    → size k sw se nw ne ≤ 2560 * areaOf k
+in-area k sw se nw ne a b c d =
+    omega (
       arith,
-      abs-mul (pos (u * v)) sw,
-      abs-mul (pos (x * v)) se,
-      abs-mul (pos (u * y)) nw,
-      abs-mul (pos (x * y)) ne,
-      sums u x v y (natAbs sw) (natAbs se) (natAbs nw) (natAbs ne) a b c d,
-    ))
-    (mul-le-mul-left 2560 (product (u + x) (v + y) h k))
+      abs-mul (pos (k .sw)) sw,
+      abs-mul (pos (k .se)) se,
+      abs-mul (pos (k .nw)) nw,
+      abs-mul (pos (k .ne)) ne,
+      mul-le-mul-left (k .sw) a,
+      mul-le-mul-left (k .se) b,
+      mul-le-mul-left (k .nw) c,
+      mul-le-mul-left (k .ne) d,
+    )
 
 pub three-of : (p q r s : ℤ) {b : ℕ} → natAbs p + natAbs q + natAbs r + natAbs s ≤ b → natAbs (p +ℤ q +ℤ r) ≤ b
 three-of p q r s h = omega (arith, h, abs-add p q, abs-add (p +ℤ q) r)
 
 pub four-of : (p q r s : ℤ) {b : ℕ} → natAbs p + natAbs q + natAbs r + natAbs s ≤ b → natAbs (p +ℤ q +ℤ r +ℤ s) ≤ b
 four-of p q r s h = omega (arith, h, abs-add p q, abs-add (p +ℤ q) r, abs-add (p +ℤ q +ℤ r) s)
+
+-- raw nodes of at most 256, each at most 10 counts
+module _ (k : Weights) (f : ℕ) (n : Corners) (h : f ≤ 10) (m : Most 256 n) where
+  pub sum-by-most : natAbs (sumBy f k n) ≤ 2560 * areaOf k
+  sum-by-most =
+      four-of (pos (k .sw) *ℤ (pos f *ℤ n .sw)) (pos (k .se) *ℤ (pos f *ℤ n .se)) (pos (k .nw) *ℤ (pos f *ℤ n .nw)) (pos (k .ne) *ℤ (pos f *ℤ n .ne))
+      (in-area k (pos f *ℤ n .sw) (pos f *ℤ n .se) (pos f *ℤ n .nw) (pos f *ℤ n .ne)
+      (scaled f (n .sw) h (m .sw)) (scaled f (n .se) h (m .se)) (scaled f (n .nw) h (m .nw)) (scaled f (n .ne) h (m .ne)))
+
+  pub near-by-most : 0 < areaOf k → natAbs (nearestWhole (sumBy f k n) (areaOf k)) ≤ 2560
+  near-by-most s = nearest-bound _ (areaOf k) 2560 s sum-by-most
 
 -- ---- the weights of a place in a cell
 
@@ -86,6 +95,27 @@ module _ {h w y x : ℕ} (p : Within h w y x) where
 
     pub near-most : natAbs (nearestWhole (sumOf f h w y x n) (h * w)) ≤ 2560
     near-most = nearest-bound _ (h * w) 2560 (mul-pos (p .high .0) (p .wide .0)) sum-most
+
+  -- ---- the weights of the place
+
+  abbrev k : Weights
+  k = weightsOf h w y x
+
+  pub whole : areaOf k ≡ h * w
+  whole = quarters (w - x) x (h - y) y ∙ (λ i. back (p .north) i * back (p .east) i)
+    where
+      quarters : (u x v y : ℕ) → u * v + x * v + u * y + x * y ≡ (v + y) * (u + x)
+      quarters u x v y = omega arith
+
+      back : {a b : ℕ} → a ≤ b → b - a + a ≡ b
+      back l = omega arith
+
+  pub weighed : Weighed k
+  weighed =
+      record {
+        some = subst (λ (a : ℕ). 0 < a) (sym whole) (mul-pos (p .high .0) (p .wide .0));
+        most = subst (λ (a : ℕ). a ≤ 1676902500000000) (sym whole) area-most;
+      }
 
 -- ---- the nearest whole number, by its sign and its size
 

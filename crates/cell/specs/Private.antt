@@ -4,7 +4,9 @@ use Prim.Native.Nat.{ℕ, _≤_, _<_}
 use mathlib.Core.Bool.{cond}
 use lib.IntN.{ℤ, pos, negℤ, natAbs}
 use lib.Signed.{ltZ}
+use Rattle.cell.specs.Cell.{areaOf}
 use Rattle.cell.specs.declared.Corners.{Corners}
+use Rattle.cell.specs.declared.Weights.{Weights}
 
 -- a place on or within the edges of a cell of height h and width w
 pub record Within (h w y x : ℕ) : Type 0 where
@@ -12,6 +14,11 @@ pub record Within (h w y x : ℕ) : Type 0 where
   pub east : x ≤ w
   pub high : (0 < h) × (h ≤ 40950000)
   pub wide : (0 < w) × (w ≤ 40950000)
+
+-- weights that add up to the area of a cell
+pub record Weighed (k : Weights) : Type 0 where
+  pub some : 0 < areaOf k
+  pub most : areaOf k ≤ 1676902500000000
 
 -- nodes of at most b
 pub record Most (b : ℕ) (n : Corners) : Type 0 where

@@ -8,6 +8,8 @@ use mathlib.Core.List.{List, [], _∷_, _++_}
 use mathlib.Core.Logic.{_⊎_, inl, inr}
 use lib.IntN.{ℤ, pos, negℤ, _+ℤ_, _*ℤ_}
 use lib.Signed.{_≤ℤ_, _<ℤ_}
+use lib.Ieee.{binary64, ofInt}
+use borrow.Author.Tests.{ne-eqb}
 use Rattle.arith.specs.Whole.{sameZ}
 use Rattle.arith.specs.First.{first}
 use Rattle.grid_records.specs.declared.Grid.{Grid}
@@ -21,16 +23,19 @@ use Rattle.message.specs.Kinds.{readGrid}
 use Rattle.bilinear.specs.Bilinear.{outside, cell, inCell, exact, absentIn, absent, interpolated, nearestWhole, LipschitzBound}
 use Rattle.bilinear.proofs.Nearest.{nearest-close, nearest-half, nearest-only}
 use Rattle.bilinear.proofs.Unweighted.{absent-same, sum-same}
+use Rattle.grid.specs.declared.Answer.the-variants.{Refused}
 use Rattle.grid.specs.declared.Shift.{Shift}
+use Rattle.grid.specs.declared.ThreeShifts.{ThreeShifts}
 use Rattle.grid_refusals.specs.Refusals.{ellipsoidal, available, fieldTests}
-use Rattle.grid.specs.Shift.{nodeFactor, surface, northOf, byTurns, eastBy, eastOf, outcome, shiftWith, recordShiftRefusal, shiftRefusal, recordShift, messageShift}
+use Rattle.grid.specs.Shift.{nodeFactor, surface, northOf, eastOf, outcome, shiftWith, recordShiftRefusal, shiftRefusal, recordShift, messageShift, answerOf, floatOf, threeOf, messageShifts}
+use Rattle.position.specs.Position.{byTurns, eastBy}
 use Rattle.grid.proofs.Accepted.{message-grid, held-is-written}
 use Rattle.grid.proofs.Lipschitz.{lipschitz-message, spaced, counted, east-steps}
 use Rattle.wire.proofs.Trips.{row-number}
-use Rattle.grid.proofs.Antimeridian.{turnsOf, turned-same, turned-low, turned-high, turned-only}
+use Rattle.position.proofs.Antimeridian.{turnsOf, turned-same, turned-low, turned-high, turned-only}
 use Rattle.grid.proofs.BothSides.{plane, both-sides}
 use Rattle.grid.proofs.Calls.{shared-answer, calls-agree, count-lossless, sum-below-limit}
-use Rattle.demands.specs.Grids.{gridAt, surfaceAt, northSteps, eastSteps, withNodes, AnsweredAt, exactAt, GridAnswer, SharedEdges, BothCalls, HeldIsWritten, SameWeighted, OnlyWeighted, Lossless, SumBound, AllPresent, stepsNorth, stepsEast, Lipschitz, PlainSteps, plainEast, EastTurned, BothSides}
+use Rattle.demands.specs.Grids.{gridAt, surfaceAt, northSteps, eastSteps, withNodes, AnsweredAt, exactAt, GridAnswer, SharedEdges, BothCalls, HeldIsWritten, SameWeighted, OnlyWeighted, Lossless, SumBound, AllPresent, stepsNorth, stepsEast, Lipschitz, BoundBetween, ReadsAs, ThreeParts, PlainSteps, plainEast, EastTurned, BothSides}
 
 -- the refusal answered is the one defined
 refusal-is : (s : List ℕ) (c : ℕ) (n e : ℤ) → AnsweredAt s c n e → shiftRefusal s c n e ≡ 0
@@ -112,7 +117,7 @@ only-weighted g ns c n e h w =
     (surface g c .mean +ℤ nearestWhole (same-sum g ns c n e w i) (surface g c .H * surface g c .W))
 
 pub lossless : Lossless
-lossless s c n e h = count-lossless s c n e (refusal-is s c n e h)
+lossless s c n e h = let b = count-lossless s c n e (refusal-is s c n e h) in record { whole = b .0; same = b .1 }
 
 pub sum-bound : SumBound
 sum-bound s c n e h = sum-below-limit s c n e (refusal-is s c n e h)
@@ -122,11 +127,41 @@ lipschitz s c _ n₁ e₁ n₂ e₂ p q = lipschitz-message s c n₁ e₁ n₂ e
 
 -- the same of two answers that are the call's
 pub lipschitz-answers : (s : List ℕ) (c : ℕ) (n₁ e₁ n₂ e₂ : ℤ) (a b : Shift) → a ≡ messageShift s c n₁ e₁ → b ≡ messageShift s c n₂ e₂
-    → AllPresent s c → a .refusal ≡ 0 → b .refusal ≡ 0 → LipschitzBound (surfaceAt s c) (a .count) (b .count) (stepsNorth n₁ n₂) (stepsEast s e₁ e₂)
+    → BoundBetween s c a b n₁ e₁ n₂ e₂
 lipschitz-answers s c n₁ e₁ n₂ e₂ a b p q t u v =
     let r : LipschitzBound (surfaceAt s c) (messageShift s c n₁ e₁ .count) (messageShift s c n₂ e₂ .count) (stepsNorth n₁ n₂) (stepsEast s e₁ e₂) =
     lipschitz s c t n₁ e₁ n₂ e₂ (sym (ap (λ (r : Shift). r .refusal) p) ∙ u) (sym (ap (λ (r : Shift). r .refusal) q) ∙ v) in
     rw (p, q) r
+
+-- ---- one call for the three shifts
+
+answer-refused : (s : List ℕ) (c : ℕ) (n e : ℤ) → (messageShift s c n e .refusal ≡ 0 → ⊥) → messageShift s c n e .answer ≡ Refused (messageShift s c n e .refusal)
+unfolding messageShift shiftWith outcome answerOf
+answer-refused s c n e h = rw (ne-eqb (shiftRefusal s c n e) 0 h)
+
+-- the float of one part
+reads-as : (s : List ℕ) (c : ℕ) (n e : ℤ) → ReadsAs (floatOf (messageShift s c n e .answer)) (messageShift s c n e)
+unfolding floatOf
+reads-as s c n e =
+    record {
+      refused = refused s c n e;
+      seconds = λ y h. ap floatOf h;
+      metres = λ y h. ap floatOf h;
+    }
+  where
+    refused : (s : List ℕ) (c : ℕ) (n e : ℤ) → (messageShift s c n e .refusal ≡ 0 → ⊥) → floatOf (messageShift s c n e .answer) ≡ ofInt binary64 (pos 0)
+    refused s c n e h = ap floatOf (answer-refused s c n e h)
+
+pub three-parts : ThreeParts
+unfolding messageShifts threeOf
+three-parts s n e =
+    record { parts = (refl, refl, refl); north = reads-as s 0 n e; east = reads-as s 1 n e; height = reads-as s 2 n e }
+
+-- what is the merged call's answer has its parts
+pub parts-are : (s : List ℕ) (n e : ℤ) {r : ThreeShifts} → r ≡ messageShifts s n e
+    → (r .parts .north ≡ messageShift s 0 n e) × (r .parts .east ≡ messageShift s 1 n e) × (r .parts .height ≡ messageShift s 2 n e)
+unfolding messageShifts threeOf
+parts-are s n e h = (ap (λ (r : ThreeShifts). r .parts .north) h, ap (λ (r : ThreeShifts). r .parts .east) h, ap (λ (r : ThreeShifts). r .parts .height) h)
 
 pub plain-steps : PlainSteps
 unfolding gridOf

@@ -12,7 +12,8 @@ use Rattle.row.specs.Numbers.{pairAt}
 use Rattle.layouts.specs.Layouts.{layoutOf, layout1021, tail1021, layout1023}
 use Rattle.wire.specs.Message.{layout, refusal, row}
 use Rattle.bilinear.specs.Bilinear.{nearestWhole, fromEdge, outside, cell, weighted, inCell, exact, interpolated, lacks, absentIn, absent}
-use Rattle.grid.specs.Shift.{surface, northOf, byTurns, eastOf, shiftRefusal, answerOf, outcome, shiftWith, messageShift}
+use Rattle.grid.specs.Shift.{surface, northOf, eastOf, shiftRefusal, answerOf, outcome, shiftWith, messageShift}
+use Rattle.position.specs.Position.{byTurns}
 use Rattle.demands.specs.Worked.{gridK, gridKNegated, gridKNode7, gridKNorth0, gridKEast0, gridKBoth0, answerTo, table, given, wanted, WorkedNumbers, WorkedMetres, GridsRead, GridKPresent}
 use Rattle.demands.specs.Grids.{surfaceAt}
 

@@ -5,10 +5,10 @@ use mathlib.Core.Path.{_≡_}
 use mathlib.Core.Bool.{true, false}
 use mathlib.Core.List.{List}
 use mathlib.Core.Logic.{_⊎_}
-use lib.Dec.{eqb}
+use lib.Dec.{T, eqb}
 use lib.IntN.{ℤ, pos, negℤ, natAbs, _+ℤ_, _-ℤ_, _*ℤ_}
 use lib.Signed.{_≤ℤ_, _<ℤ_}
-use lib.Ieee.{binary64, ofInt, toSigned}
+use lib.Ieee.{Float, binary64, whole, ofInt, toSigned}
 use Rattle.arith.specs.First.{first}
 use Rattle.grid_records.specs.declared.Grid.{Grid}
 use Rattle.grid_records.specs.declared.Shifts.{Shifts}
@@ -19,7 +19,11 @@ use Rattle.wire.specs.Message.{numberOf, refusal, row}
 use Rattle.wire.specs.Message.{kindWriteRefusal}
 use Rattle.message.specs.Kinds.{readGrid, gridHeld}
 use Rattle.bilinear.specs.Bilinear.{Surface, gap, fromEdge, outside, cell, exact, LipschitzBound}
-use Rattle.grid.specs.Shift.{stepsOf, nodeOf, surface, northOf, eastOf, inCellShift, recordShift, messageShift}
+use Rattle.grid.specs.Shift.{nodeOf, surface, northOf, eastOf, inCellShift, recordShift, messageShift, messageShifts}
+use Rattle.grid.specs.declared.Answer.the-variants.{Seconds, Metres}
+use Rattle.grid.specs.declared.Shift.{Shift}
+use Rattle.grid.specs.declared.ThreeShifts.{ThreeShifts}
+use Rattle.position.specs.Position.{stepsOf}
 use Rattle.grid_refusals.specs.Refusals.{fieldTests}
 
 -- the grid of a message, and one component of it
@@ -119,9 +123,13 @@ OnlyWeighted =
     (eastSteps g c e - cell (surface g c .W) (eastSteps g c e) * surface g c .W)
     → recordShift g c n e ≡ recordShift (withNodes g ns) c n e
 
--- "the count, made an f64 without loss": the float of an answered count is that count
+-- "the count, made an f64 without loss": the float of an answered count is a whole number, and that count
+pub record NothingLost (z : ℤ) : Type 0 where
+  pub whole : T (whole binary64 (ofInt binary64 z))
+  pub same : toSigned 63 (ofInt binary64 z) ≡ z
+
 abbrev pub Lossless : Type 0
-Lossless = (s : List ℕ) (c : ℕ) (n e : ℤ) → AnsweredAt s c n e → toSigned 63 (ofInt binary64 (messageShift s c n e .count)) ≡ messageShift s c n e .count
+Lossless = (s : List ℕ) (c : ℕ) (n e : ℤ) → AnsweredAt s c n e → NothingLost (messageShift s c n e .count)
 
 -- "twice the sum stays below 8.6 × 10^18"
 abbrev pub SumBound : Type 0
@@ -149,6 +157,29 @@ Lipschitz =
 -- "1024 is as before": its steps east are those between the positions
 abbrev pub PlainSteps : Type 0
 PlainSteps = (s : List ℕ) (a b : ℤ) → refusal s ≡ 0 → numberOf s ≡ 1024 → stepsEast s a b ≡ gap a b
+
+-- the bound of two answers a and b of a component
+abbrev pub BoundBetween : List ℕ → ℕ → (a b : Shift) → (n₁ e₁ n₂ e₂ : ℤ) → Type 0
+BoundBetween s c a b n₁ e₁ n₂ e₂ =
+    AllPresent s c → a .refusal ≡ 0 → b .refusal ≡ 0 → LipschitzBound (surfaceAt s c) (a .count) (b .count) (stepsNorth n₁ n₂) (stepsEast s e₁ e₂)
+
+-- ---- one call for the three shifts (request A3)
+
+-- x is the float of one part: that of its second answer, "a refused part reading 0.0"
+pub record ReadsAs (x : Float) (p : Shift) : Type 0 where
+  pub refused : (p .refusal ≡ 0 → ⊥) → x ≡ ofInt binary64 (pos 0)
+  pub seconds : (y : Float) → p .answer ≡ Seconds y → x ≡ y
+  pub metres : (y : Float) → p .answer ≡ Metres y → x ≡ y
+
+-- "Each part is exactly what the single call gave"
+pub record Merged (r : ThreeShifts) (n e h : Shift) : Type 0 where
+  pub parts : (r .parts .north ≡ n) × (r .parts .east ≡ e) × (r .parts .height ≡ h)
+  pub north : ReadsAs (r .north) n
+  pub east : ReadsAs (r .east) e
+  pub height : ReadsAs (r .height) h
+
+abbrev pub ThreeParts : Type 0
+ThreeParts = (s : List ℕ) (n e : ℤ) → Merged (messageShifts s n e) (messageShift s 0 n e) (messageShift s 1 n e) (messageShift s 2 n e)
 
 -- ---- the difference east of 1023, across the antimeridian
 

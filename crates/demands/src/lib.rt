@@ -1,12 +1,11 @@
-// The demands as theorems, each the promise of a function, so that none can be taken away unnoticed: all but two_shifts, which makes two calls, do nothing.
+// The demands as theorems, each the promise of a function, so that none can be taken away unnoticed: all but two_answers, which makes two calls, do nothing.
 ghost use Prim.Native.Nat.{ℕ};
 ghost use mathlib.Core.Path.{_≡_};
 ghost use mathlib.Core.List.{List};
 ghost use Rattle.demands.specs.Messages.{Bytes, FirstThatApplies, CounterCut, AcceptedLengths, SinFound, ReportedLength, MessageAgain, RowAgain, RecordsAgain, RecordsBack};
 ghost use Rattle.demands.specs.Worked.{WorkedNumbers, WorkedMetres, GridsRead, GridKPresent};
-ghost use Rattle.demands.specs.Grids.{GridAnswer, SharedEdges, BothCalls, HeldIsWritten, OnlyWeighted, Lossless, SumBound, AllPresent, surfaceAt, stepsNorth, stepsEast, Lipschitz, PlainSteps, EastTurned, BothSides};
-ghost use Rattle.bilinear.specs.Bilinear.{LipschitzBound};
-ghost use Rattle.grid.specs.Shift.{messageShift};
+ghost use Rattle.demands.specs.Grids.{GridAnswer, SharedEdges, BothCalls, HeldIsWritten, OnlyWeighted, Lossless, SumBound, ThreeParts, BoundBetween, Lipschitz, PlainSteps, EastTurned, BothSides};
+ghost use Rattle.grid.specs.Shift.{messageShifts};
 ghost use Rattle.demands.specs.Absent.{NoneIsThePattern, UnsignedHasValue, PatternRefused, RefusedIsZero, MeanFormed};
 ghost use Rattle.demands.specs.Frames.{WrittenFound, ReadBack, FoundStays, NeedGoesOn, NeedNotEarlier, Exactly, WriterRefusals, PublishedFrames};
 ghost use Rattle.demands.specs.Tables.{LikeADictionary, LastStored, NoGroup, ZeroBytes, StaysFormed, RefusedKeeps};
@@ -51,7 +50,7 @@ pub fn tables()
     ensures refused { λ r. ⌜ RefusedKeeps ⌝ }
 {}
 
-// Demand 2 of the shift at a position: the mean plus the nearest whole number, the same from every cell that holds the place and from both calls.
+// Demand 2 of the shift at a position: the mean plus the nearest whole number, the same from every cell that holds the place and from both calls; and the three of one call.
 pub fn shifts()
     ensures answer { λ r. ⌜ GridAnswer ⌝ }
     ensures edges { λ r. ⌜ SharedEdges ⌝ }
@@ -60,6 +59,7 @@ pub fn shifts()
     ensures nodes { λ r. ⌜ OnlyWeighted ⌝ }
     ensures lossless { λ r. ⌜ Lossless ⌝ }
     ensures sum { λ r. ⌜ SumBound ⌝ }
+    ensures three { λ r. ⌜ ThreeParts ⌝ }
 {}
 
 // Demand 3: one Lipschitz bound over the whole grid.
@@ -75,27 +75,22 @@ pub fn antimeridian()
 {}
 
 // The answers to two positions.
-pub struct TwoShifts {
-    pub first: grid::Shift,
-    pub second: grid::Shift,
+pub struct TwoAnswers {
+    pub first: grid::ThreeShifts,
+    pub second: grid::ThreeShifts,
 }
 
-// Demand 3 of two calls on one message and component.
-pub fn two_shifts(
-    message: &[u8],
-    component: u8,
-    north1: i64,
-    east1: i64,
-    north2: i64,
-    east2: i64,
-) -> TwoShifts
-    ensures first { λ r. ⌜ r .first ≡ messageShift (now (message .entry)) component north1 east1 ⌝ }
-    ensures second { λ r. ⌜ r .second ≡ messageShift (now (message .entry)) component north2 east2 ⌝ }
-    ensures bound { λ r. ⌜ (AllPresent (now (message .entry)) component → r .first .refusal ≡ 0 → r .second .refusal ≡ 0 → LipschitzBound (surfaceAt (now (message .entry)) component) (r .first .count) (r .second .count) (stepsNorth north1 north2) (stepsEast (now (message .entry)) east1 east2)) ⌝ }
+// Demand 3 of two calls on one message, for each of the three components.
+pub fn two_answers(message: &[u8], north1: i64, east1: i64, north2: i64, east2: i64) -> TwoAnswers
+    ensures first { λ r. ⌜ r .first ≡ messageShifts (now (message .entry)) north1 east1 ⌝ }
+    ensures second { λ r. ⌜ r .second ≡ messageShifts (now (message .entry)) north2 east2 ⌝ }
+    ensures north { λ r. ⌜ BoundBetween (now (message .entry)) 0 (r .first .parts .north) (r .second .parts .north) north1 east1 north2 east2 ⌝ }
+    ensures east { λ r. ⌜ BoundBetween (now (message .entry)) 1 (r .first .parts .east) (r .second .parts .east) north1 east1 north2 east2 ⌝ }
+    ensures height { λ r. ⌜ BoundBetween (now (message .entry)) 2 (r .first .parts .height) (r .second .parts .height) north1 east1 north2 east2 ⌝ }
 {
-    let first = grid::shift_at(message, component, north1, east1);
-    let second = grid::shift_at(message, component, north2, east2);
-    TwoShifts { first, second }
+    let first = grid::shifts_at(message, north1, east1);
+    let second = grid::shifts_at(message, north2, east2);
+    TwoAnswers { first, second }
 }
 
 // Document 01, "Numbers worked out": P1 to P12.

@@ -24,8 +24,9 @@ use Rattle.wire.specs.Message.{tests, refusal, numberOf, row}
 use Rattle.wire.proofs.Trips.{row-number}
 use Rattle.bilinear.specs.Bilinear.{outside, absent, interpolated}
 use Rattle.grid_refusals.specs.Refusals.{ellipsoidal, fieldTests}
-use Rattle.grid.specs.Shift.{turn, halfTurn, byTurns, stepsOf, surface, northOf, eastOf, gridTests, shiftRefusal, answerOf, outcome, shiftWith, messageShift}
-use Rattle.grid.proofs.Antimeridian.{turnsOf, turned-same, turned-low, turned-high, turned-only}
+use Rattle.position.specs.Position.{turn, halfTurn, byTurns, stepsOf}
+use Rattle.grid.specs.Shift.{surface, northOf, eastOf, gridTests, shiftRefusal, answerOf, outcome, shiftWith, messageShift}
+use Rattle.position.proofs.Antimeridian.{turnsOf, turned-same, turned-low, turned-high, turned-only}
 
 both-turns : (o : ℤ) → byTurns (pos halfTurn -ℤ o) ≡ byTurns (negℤ (pos halfTurn) -ℤ o)
 both-turns o =

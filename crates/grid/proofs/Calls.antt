@@ -5,7 +5,8 @@ use mathlib.Core.Bool.{Bool, false, cond}
 use mathlib.Core.List.{List}
 use Prim.Native.Nat.{ℕ, suc, _*_, _≤_, _<_}
 use lib.IntN.{ℤ, natAbs, _+ℤ_}
-use lib.Ieee.{binary64, ofInt, toSigned}
+use lib.Dec.{T}
+use lib.Ieee.{binary64, whole, ofInt, toSigned}
 use Rattle.arith.specs.First.{first}
 use Rattle.grid_records.specs.declared.Grid.{Grid}
 use Rattle.grid_records.specs.Grids.{gridOf, frameOf}
@@ -17,7 +18,7 @@ use Rattle.grid.specs.Shift.{surface, northOf, eastOf, outcome, inCellSh
 use Rattle.grid_refusals.specs.Refusals.{fieldTests}
 use Rattle.grid.specs.Private.{Held}
 use Rattle.grid.proofs.Floats.{lossless}
-use Rattle.grid.proofs.Places.{early, spacings, both-pass}
+use Rattle.position.proofs.Places.{early, spacings, both-pass}
 use Rattle.grid.proofs.Parts.{in-out, sum-below, whole-most}
 use Rattle.grid.proofs.Accepted.{message-none, message-passed, message-held, message-fields, record-passed}
 use Rattle.grid.proofs.Lipschitz.{placed, counted}
@@ -36,7 +37,7 @@ module _ (s : List ℕ) (c : ℕ) (n e : ℤ) where
         2 * natAbs (exact (surface g c) (natAbs (fromEdge (surface g c .H) (northOf g n))) (natAbs (fromEdge (surface g c .W) (eastOf g e)))) < 8600000000000000000
     sum-below-limit = sum-below g c n e fields (placed s c n e h .found)
 
-    pub count-lossless : toSigned 63 (ofInt binary64 (messageShift s c n e .count)) ≡ messageShift s c n e .count
+    pub count-lossless : T (whole binary64 (ofInt binary64 (messageShift s c n e .count))) × (toSigned 63 (ofInt binary64 (messageShift s c n e .count)) ≡ messageShift s c n e .count)
     count-lossless = rw (counted s c n e h) (lossless _ (whole-most g c n e fields (placed s c n e h .found)))
 
   module _ (h : kindRefusal 1023 1024 s ≡ 0) where

@@ -1,8 +1,7 @@
 pub mod Floats
-pub mod Antimeridian
-pub mod Places
 pub mod Parts
 pub mod Accepted
+pub mod Sides
 pub mod Said
 pub mod BothSides
 pub mod Lipschitz

@@ -14,9 +14,10 @@ use Rattle.wire.specs.Message.{row}
 use Rattle.bilinear.specs.Bilinear.{gap, interpolated, LipschitzBound}
 use Rattle.bilinear.proofs.Gap.{gap-add}
 use Rattle.bilinear.proofs.Lipschitz.{lipschitz}
-use Rattle.grid.specs.Shift.{stepsOf, surface, northOf, byTurns, eastOf, shiftRefusal, outcome, shiftWith, messageShift}
+use Rattle.position.specs.Position.{stepsOf, byTurns}
+use Rattle.grid.specs.Shift.{surface, northOf, eastOf, shiftRefusal, outcome, shiftWith, messageShift}
 use Rattle.grid.specs.Private.{Held}
-use Rattle.grid.proofs.Places.{spacings}
+use Rattle.position.proofs.Places.{spacings}
 use Rattle.grid.proofs.Parts.{Answered, answered}
 use Rattle.grid.proofs.Accepted.{message-none, message-fields}
 

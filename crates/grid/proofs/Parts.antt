@@ -3,10 +3,10 @@
 use mathlib.Core.Path.{_≡_, refl, sym, ap, _∙_, subst}
 use mathlib.Core.Bool.{Bool, true, false, not, cond, _&&_}
 use mathlib.Core.List.{List, [], _∷_}
-use Prim.Native.Nat.{ℕ, _+_, _*_, _-_, _≤_, _<_}
+use Prim.Native.Nat.{ℕ, zero, suc, _+_, _*_, _-_, _≤_, _<_}
 use native.Mathlib.Nat.{le-trans}
 use native.Mathlib.Omega.{arith}
-use borrow.Author.Tests.{ne-eqb}
+use borrow.Author.Tests.{eq-eqb, ne-eqb}
 use lib.Dec.{eqb, ltb, lit≤}
 use lib.IntN.{ℤ, pos, natAbs, _+ℤ_, _*ℤ_}
 use Rattle.arith.specs.First.{Test, first}
@@ -21,18 +21,20 @@ use Rattle.grid_records.specs.declared.Grid.{Grid}
 use Rattle.grid_records.specs.Grids.{frameOf}
 use Rattle.grid_refusals.specs.Refusals.{available}
 use Rattle.bilinear.specs.Bilinear.{nearestWhole, fromEdge, outside, cell, lacks, inCell, exact, interpolated, absentIn, absent}
-use Rattle.cell.specs.Cell.{sumOf}
+use Rattle.cell.specs.Cell.{weightsOf, weightsIn, areaOf, sumBy, sumOf}
 use Rattle.cell.specs.Private.{Within}
 use Rattle.cell.specs.declared.Corners.{Corners}
-use Rattle.cell.proofs.Sum.{area-most, sum-most, near-most}
-use Rattle.cell.proofs.Held.{along-steps, along-cell, count-in-is}
+use Rattle.cell.specs.declared.Weights.{Weights}
+use Rattle.cell.proofs.Sum.{area-most, sum-most, near-by-most, weighed}
+use Rattle.cell.proofs.Held.{along-steps, along-cell, count-by-is, count-at-is, weights-in-is}
+use Rattle.position.specs.Position.{heightOf, widthOf, northFrom, eastFrom, placeTests, located}
 use Rattle.grid.specs.Shift.{part, nodeFactor, meanFactor, surface, northOf, eastOf, gridTests, answerOf, outcome, inCellShift, shiftWith}
-use Rattle.grid.specs.Private.{Held, heightOf, widthOf, northFrom, eastFrom, placeTests, located, asked, nodesIn, valuesIn, lacking, Bounded, countAt, cellShift}
+use Rattle.grid.specs.Private.{Held, asked, nodesIn, valuesIn, lacking, Bounded, countAt, cellShift, partShift}
 use Rattle.grid.specs.declared.Answer.the-variants.{Refused}
-use Rattle.grid.specs.declared.Located.{Located}
-use Rattle.grid.specs.declared.Nodes.{Nodes}
+use Rattle.position.specs.declared.Located.{Located}
+use Rattle.grid_fields.specs.declared.Nodes.{Nodes}
 use Rattle.grid.specs.declared.Shift.{Shift}
-use Rattle.grid.proofs.Places.{Early, inside, spacings, located-refusal, located-in, within, in-grid}
+use Rattle.position.proofs.Places.{Early, inside, spacings, located-refusal, located-in, within, in-grid}
 
 -- ---- a refusal
 
@@ -42,6 +44,10 @@ Refuses r s = (s .refusal ≡ r) × (s .count ≡ pos 0) × (s .answer ≡ Refus
 pub refuses : (number : ℤ) (c r : ℕ) (count : ℤ) (s : Shift) → Refuses r s → (r ≡ 0 → ⊥) → s ≡ outcome number c r count
 unfolding outcome answerOf
 refuses number c r count s h n = (λ i. record { refusal = h .0 i; count = h .1 i; answer = h .2 i }) ∙ rw (ne-eqb r 0 n)
+
+pub refusal-is : (number : ℤ) (c r : ℕ) → (r ≡ 0 → ⊥) → Refuses r (outcome number c r (pos 0))
+unfolding outcome answerOf
+refusal-is number c r n = rw (ne-eqb r 0 n) (refl, refl, refl)
 
 -- ---- what a node of weight w says
 
@@ -69,49 +75,43 @@ module _ (w : ℕ) (r : Reading) {q : Reading} (h : q ≡ asked w r) where
 
 -- ---- the answers in a cell
 
-module _ (number : ℤ) (c : ℕ) (mean : Reading) (n : Nodes) (p : Located) (s : Shift) where
+module _ (number : ℤ) (c : ℕ) (mean : Reading) (n : Nodes) (k : Weights) (s : Shift) where
   abbrev lack : Bool
-  lack = lacking mean n (p .height) (p .width) (p .north) (p .east)
+  lack = lacking mean n k
 
   abbrev count : ℤ
-  count = countAt number c (valueIn mean) (valuesIn n) p
+  count = countAt number c (valueIn mean) (valuesIn n) k
 
-  abbrev u : ℕ
-  u = p .width - p .east
-
-  abbrev v : ℕ
-  v = p .height - p .north
-
-  absent-out : lack ≡ true → Refuses 15 s → s ≡ cellShift number c mean n p
+  absent-out : lack ≡ true → Refuses 15 s → s ≡ cellShift number c mean n k
   unfolding cellShift
   absent-out e r = refuses number c 15 count s r (λ z. absurd (omega arith)) ∙ rw e
 
-  present-out : lack ≡ false → s ≡ outcome number c 0 count → s ≡ cellShift number c mean n p
+  present-out : lack ≡ false → s ≡ outcome number c 0 count → s ≡ cellShift number c mean n k
   unfolding cellShift
   present-out e h = h ∙ rw e
 
-  pub mean-out : available mean ≡ false → Refuses 15 s → s ≡ cellShift number c mean n p
+  pub mean-out : available mean ≡ false → Refuses 15 s → s ≡ cellShift number c mean n k
   mean-out e = absent-out (rw e)
 
   module _ (m : available mean ≡ true) where
-    pub sw-out : lacks (u * v) (available (n .sw)) ≡ true → Refuses 15 s → s ≡ cellShift number c mean n p
+    pub sw-out : lacks (k .sw) (available (n .sw)) ≡ true → Refuses 15 s → s ≡ cellShift number c mean n k
     sw-out e = absent-out (rw (m, e))
 
-    module _ (a : lacks (u * v) (available (n .sw)) ≡ false) where
-      pub se-out : lacks (p .east * v) (available (n .se)) ≡ true → Refuses 15 s → s ≡ cellShift number c mean n p
+    module _ (a : lacks (k .sw) (available (n .sw)) ≡ false) where
+      pub se-out : lacks (k .se) (available (n .se)) ≡ true → Refuses 15 s → s ≡ cellShift number c mean n k
       se-out e = absent-out (rw (m, a, e))
 
-      module _ (b : lacks (p .east * v) (available (n .se)) ≡ false) where
-        pub nw-out : lacks (u * p .north) (available (n .nw)) ≡ true → Refuses 15 s → s ≡ cellShift number c mean n p
+      module _ (b : lacks (k .se) (available (n .se)) ≡ false) where
+        pub nw-out : lacks (k .nw) (available (n .nw)) ≡ true → Refuses 15 s → s ≡ cellShift number c mean n k
         nw-out e = absent-out (rw (m, a, b, e))
 
-        module _ (d : lacks (u * p .north) (available (n .nw)) ≡ false) where
-          pub ne-out : lacks (p .east * p .north) (available (n .ne)) ≡ true → Refuses 15 s → s ≡ cellShift number c mean n p
+        module _ (d : lacks (k .nw) (available (n .nw)) ≡ false) where
+          pub ne-out : lacks (k .ne) (available (n .ne)) ≡ true → Refuses 15 s → s ≡ cellShift number c mean n k
           ne-out e = absent-out (rw (m, a, b, d, e))
 
-          pub all-in : lacks (p .east * p .north) (available (n .ne)) ≡ false → {z y : ℤ} {w : Corners} → s ≡ outcome z c 0 (countAt z c y w p)
-              → z ≡ number → y ≡ valueIn mean → w ≡ valuesIn n → s ≡ cellShift number c mean n p
-          all-in e h i j k = present-out (rw (m, a, b, d, e)) (h ∙ (λ x. outcome (i x) c 0 (countAt (i x) c (j x) (k x) p)))
+          pub all-in : lacks (k .ne) (available (n .ne)) ≡ false → {z y : ℤ} {w : Corners} → s ≡ outcome z c 0 (countAt z c y w k)
+              → z ≡ number → y ≡ valueIn mean → w ≡ valuesIn n → s ≡ cellShift number c mean n k
+          all-in e h i j l = present-out (rw (m, a, b, d, e)) (h ∙ (λ x. outcome (i x) c 0 (countAt (i x) c (j x) (l x) k)))
 
 pub factor-most : (number : ℤ) (c : ℕ) → nodeFactor number c ≤ 10
 factor-most number c = by (sameZ number (pos 1023) && ltb c 2)
@@ -120,25 +120,29 @@ factor-most number c = by (sameZ number (pos 1023) && ltb c 2)
     by true = omega arith
     by false = omega arith
 
-module _ (number : ℤ) (c : ℕ) {m : ℤ} {n : Corners} {p : Located} (b : Bounded m n p) where
+module _ (number : ℤ) (c : ℕ) {m : ℤ} {n : Corners} {k : Weights} (b : Bounded m n k) where
   abbrev means : Num
   means = mul (lit 100 tt) (arg m 16384 (b .mean) tt) tt
 
   abbrev value : ℤ
-  value = pos meanFactor *ℤ m +ℤ nearestWhole (sumOf (nodeFactor number c) (p .height) (p .width) (p .north) (p .east) n) (p .height * p .width)
+  value = pos meanFactor *ℤ m +ℤ nearestWhole (sumBy (nodeFactor number c) k n) (areaOf k)
 
-  pub count-is : countAt number c m n p ≡ value
-  count-is =
-      count-in-is (means .z) (nodeFactor number c) n (p .height) (p .width) (p .north) (p .east) (b .within) (b .nodes) (means .le) (factor-most number c)
+  count-is : countAt number c m n k ≡ value
+  count-is = count-by-is (means .z) (nodeFactor number c) n k (b .weights) (b .nodes) (means .le) (factor-most number c)
 
-  pub count-most : natAbs (countAt number c m n p) ≤ 9007199254740992
+  pub count-most : natAbs (countAt number c m n k) ≤ 9007199254740992
   count-most =
       rw count-is
       (le-trans
       (add means
-      (arg (nearestWhole (sumOf (nodeFactor number c) (p .height) (p .width) (p .north) (p .east) n) (p .height * p .width)) 2560
-      (near-most (b .within) (nodeFactor number c) n (factor-most number c) (b .nodes)) tt) tt .le)
+      (arg (nearestWhole (sumBy (nodeFactor number c) k n) (areaOf k)) 2560
+      (near-by-most k (nodeFactor number c) n (factor-most number c) (b .nodes) (b .weights .some)) tt) tt .le)
       (lit≤ tt))
+
+-- at a place in its cell
+module _ (number : ℤ) (c : ℕ) {m : ℤ} {n : Corners} {h w y x : ℕ} (p : Within h w y x) (b : Bounded m n (weightsOf h w y x)) where
+  pub count-at : countAt number c m n (weightsOf h w y x) ≡ pos meanFactor *ℤ m +ℤ nearestWhole (sumOf (nodeFactor number c) h w y x n) (h * w)
+  count-at = count-at-is p (means number c b .z) (nodeFactor number c) n (b .nodes) (means number c b .le) (factor-most number c)
 
 -- ---- the answer of a grid
 
@@ -155,23 +159,29 @@ placeAt g c k l y x =
       width = surface g c .W;
     }
 
+abbrev pub weightsAt : Located → Weights
+weightsAt p = weightsOf (p .height) (p .width) (p .north) (p .east)
+
+abbrev In : Located → Type 0
+In p = Within (p .height) (p .width) (p .north) (p .east)
+
 -- what is summed there
 abbrev pub Summed : Grid → (c k l : ℕ) → Located → Type 0
-Summed g c k l p = Bounded (valueIn (part c (g .mean))) (valuesIn (nodesIn (g .nodes) c k l)) p
+Summed g c k l p = Bounded (valueIn (part c (g .mean))) (valuesIn (nodesIn (g .nodes) c k l)) (weightsAt p)
 
-summed : (g : Grid) (c k l : ℕ) {p : Located} → Held g → Within (p .height) (p .width) (p .north) (p .east) → Summed g c k l p
-summed g c k l f w =
+summed : (g : Grid) (c k l : ℕ) (p : Located) → Held g → In p → Summed g c k l p
+summed g c k l p f w =
     let a = f .nodes c in
     record {
       mean = f .mean c;
       nodes = record { sw = a (3 - k) l; se = a (3 - k) (l + 1); nw = a (2 - k) l; ne = a (2 - k) (l + 1) };
-      within = w;
+      weights = weighed w;
     }
 
-cell-is : (g : Grid) (c k l y x : ℕ) → Summed g c k l (placeAt g c k l y x)
-    → cellShift (g .number) c (part c (g .mean)) (nodesIn (g .nodes) c k l) (placeAt g c k l y x) ≡ inCellShift g c k l y x
+cell-is : (g : Grid) (c k l y x : ℕ) → In (placeAt g c k l y x) → Summed g c k l (placeAt g c k l y x)
+    → cellShift (g .number) c (part c (g .mean)) (nodesIn (g .nodes) c k l) (weightsAt (placeAt g c k l y x)) ≡ inCellShift g c k l y x
 unfolding cellShift absentIn inCell surface
-cell-is g c k l y x b = ap (outcome (g .number) c (cond (absentIn (surface g c) k l y x) 15 0)) (count-is (g .number) c b)
+cell-is g c k l y x w b = ap (outcome (g .number) c (cond (absentIn (surface g c) k l y x) 15 0)) (count-at (g .number) c w b)
 
 module _ (g : Grid) (c : ℕ) (n e : ℤ) where
   abbrev p : Located
@@ -233,31 +243,39 @@ module _ (g : Grid) (c : ℕ) (n e : ℤ) where
           along-cell (widthOf f) (eastFrom f e) (d .1 .0) (d .1 .1) (i .east),
         )
 
-    pub summed-in : Summed g c (p .row) (p .column) p
-    summed-in = summed g c (p .row) (p .column) k (within (frameOf g) c n e (k .frame) h)
+    in-cell-of : In p
+    in-cell-of = within (frameOf g) c n e (k .frame) h
 
-    pub answered-out : cellShift (g .number) c (part c (g .mean)) (nodesIn (g .nodes) c (p .row) (p .column)) p ≡ shiftWith g c n e (first (gridTests g c n e))
+    pub summed-in : Summed g c (p .row) (p .column) p
+    summed-in = summed g c (p .row) (p .column) p k in-cell-of
+
+    in-place : In (placeAt g c (cell H y) (cell W x) y x)
+    in-place = subst In place-is in-cell-of
+
+    summed-place : Summed g c (cell H y) (cell W x) (placeAt g c (cell H y) (cell W x) y x)
+    summed-place = subst (λ (q : Located). Summed g c (q .row) (q .column) q) place-is summed-in
+
+    pub answered-out : cellShift (g .number) c (part c (g .mean)) (nodesIn (g .nodes) c (p .row) (p .column)) (weightsAt p) ≡ shiftWith g c n e (first (gridTests g c n e))
     answered-out =
-        (λ i. cellShift (g .number) c (part c (g .mean)) (nodesIn (g .nodes) c (place-is i .row) (place-is i .column)) (place-is i))
-        ∙ cell-is g c (cell H y) (cell W x) y x (subst (λ (q : Located). Summed g c (q .row) (q .column) q) place-is summed-in)
+        (λ i. cellShift (g .number) c (part c (g .mean)) (nodesIn (g .nodes) c (place-is i .row) (place-is i .column)) (weightsAt (place-is i)))
+        ∙ cell-is g c (cell H y) (cell W x) y x in-place summed-place
         ∙ in-out none-before
 
     -- twice the sum, and the count
     pub sum-below : 2 * natAbs (exact (surface g c) y x) < 8600000000000000000
     unfolding exact inCell surface
     sum-below =
-        let b = subst (λ (q : Located). Summed g c (q .row) (q .column) q) place-is summed-in in
+        let b = summed-place in
         omega (
           arith,
-          area-most (b .within),
-          sum-most (b .within) (nodeFactor (g .number) c) (valuesIn (nodesIn (g .nodes) c (cell H y) (cell W x))) (factor-most (g .number) c) (b .nodes),
+          area-most in-place,
+          sum-most in-place (nodeFactor (g .number) c) (valuesIn (nodesIn (g .nodes) c (cell H y) (cell W x))) (factor-most (g .number) c) (b .nodes),
         )
 
     pub whole-most : natAbs (interpolated (surface g c) (northOf g n) (eastOf g e)) ≤ 9007199254740992
     unfolding interpolated exact inCell surface
     whole-most =
-        let b = subst (λ (q : Located). Summed g c (q .row) (q .column) q) place-is summed-in in
-        subst (λ (z : ℤ). natAbs z ≤ 9007199254740992) (count-is (g .number) c b) (count-most (g .number) c b)
+        subst (λ (z : ℤ). natAbs z ≤ 9007199254740992) (count-at (g .number) c in-place summed-place) (count-most (g .number) c summed-place)
 
 -- ---- a position that is answered
 
@@ -274,23 +292,35 @@ answered g c n e h =
     let i = inside (frameOf g) c n e p in
     record { early = i .early; north = i .north; east = i .east; found = located-refusal (frameOf g) c n e ∙ p }
 
--- ---- a call: the place, the mean and the nodes that it found are the grid's
+-- ---- one part of a call: r is the refusal of the component's place and t a place that is this one where r is 0
 
-module _ (g : Grid) (c : ℕ) (n e : ℤ) {p : Located} (f : p ≡ located (frameOf g) c n e) where
-  pub call-refused : (s : Shift) → (p .refusal ≡ 0 → ⊥) → Refuses (p .refusal) s → s ≡ shiftWith g c n e (first (gridTests g c n e))
-  call-refused s k h =
-      refused-out g c n e s (subst (λ (q : Located). q .refusal ≡ 0 → ⊥) f k) (subst (λ (q : Located). Refuses (q .refusal) s) f h)
+module _ (g : Grid) (c : ℕ) (n e : ℤ) (f : Held g) {r : ℕ} {t : Located} (a : r ≡ located (frameOf g) c n e .refusal) (b : r ≡ 0 → t ≡ located (frameOf g) c n e) where
+  none-at : r ≡ 0 → located (frameOf g) c n e .refusal ≡ 0
+  none-at z = sym a ∙ z
 
-  module _ (k : Held g) (h : p .refusal ≡ 0) where
-    found : located (frameOf g) c n e .refusal ≡ 0
-    found = sym (ap (λ (q : Located). q .refusal) f) ∙ h
+  pub call-cell : r ≡ 0 → (t .row ≤ 2) × (t .column ≤ 2)
+  call-cell z = rw (b z) (in-grid (frameOf g) c n e (f .frame) (none-at z))
 
-    pub call-cell : (p .row ≤ 2) × (p .column ≤ 2)
-    call-cell = rw f (in-grid (frameOf g) c n e (k .frame) found)
+  weights-of-place : r ≡ 0 → weightsIn (t .height) (t .width) (t .north) (t .east) ≡ weightsAt t
+  weights-of-place z = weights-in-is (subst In (sym (b z)) (within (frameOf g) c n e (f .frame) (none-at z)))
 
-    module _ {m : Reading} {w : Nodes} (a : m ≡ part c (g .mean)) (b : w ≡ nodesIn (g .nodes) c (p .row) (p .column)) where
-      pub call-summed : Bounded (valueIn m) (valuesIn w) p
-      call-summed = rw (a, b, f) (summed-in g c n e k found)
+  module _
+      {m : Reading}
+      {w : Nodes}
+      {k : Weights}
+      (p : m ≡ part c (g .mean))
+      (q : r ≡ 0 → w ≡ nodesIn (g .nodes) c (t .row) (t .column))
+      (l : k ≡ weightsIn (t .height) (t .width) (t .north) (t .east)) where
+    pub call-summed : r ≡ 0 → Bounded (valueIn m) (valuesIn w) k
+    call-summed z = rw (p, q z, l, weights-of-place z, b z) (summed-in g c n e f (none-at z))
 
-      pub call-answered : {s : Shift} {z : ℤ} → s ≡ cellShift z c m w p → z ≡ g .number → s ≡ shiftWith g c n e (first (gridTests g c n e))
-      call-answered h d = h ∙ rw (d, a, b, f) (answered-out g c n e k found)
+    part-is : (x : ℕ) → r ≡ x → partShift (g .number) c r m w k ≡ shiftWith g c n e (first (gridTests g c n e))
+    unfolding partShift
+    part-is zero y = rw (eq-eqb r 0 y) (rw (p, q y, l, weights-of-place y, b y) (answered-out g c n e f (none-at y)))
+    part-is (suc x) y =
+        let o : r ≡ 0 → ⊥ = λ u. absurd (omega (arith, y, u)) in
+        rw (ne-eqb r 0 o)
+        (refused-out g c n e (outcome (g .number) c r (pos 0)) (λ u. o (a ∙ u)) (subst (λ (v : ℕ). Refuses v (outcome (g .number) c r (pos 0))) a (refusal-is (g .number) c r o)))
+
+    pub call-part : {s : Shift} {z : ℤ} → s ≡ partShift z c r m w k → z ≡ g .number → s ≡ shiftWith g c n e (first (gridTests g c n e))
+    call-part h d = h ∙ ap (λ (y : ℤ). partShift y c r m w k) d ∙ part-is r refl

@@ -5,7 +5,7 @@ use mathlib.Core.Path.{_≡_, refl, sym, ap, _∙_}
 use mathlib.Core.List.{List}
 use native.Mathlib.Nat.{min-le-right}
 use native.Mathlib.Omega.{arith}
-use borrow.Author.Tests.{ne-eqb, lt-ltb}
+use borrow.Author.Tests.{ne-eqb, lt-ltb, le-ltb}
 use lib.IntN.{pos}
 use Rattle.arith.proofs.Rows.{getD-upTo}
 use Rattle.field.specs.declared.Reading.{Reading}
@@ -17,11 +17,11 @@ use Rattle.grid_records.specs.declared.Shifts.{Shifts}
 use Rattle.grid_records.specs.Grids.{originAt, spacingAt, shiftsAt, nodesAt, gridOf, frameAt, frameOf}
 use Rattle.grid_records.proofs.Inverse.{frame-of-grid}
 use Rattle.wire.specs.Message.{row, kindRefusal}
-use Rattle.grid_fields.specs.Fields.{gridSays, meanSays, nodeSays}
+use Rattle.grid_fields.specs.Fields.{gridSays, meanSays, nodeSays, cellSays}
 use Rattle.grid_fields.proofs.Says.{grid-says}
 use Rattle.grid.specs.Shift.{part, nodeOf}
-use Rattle.grid.specs.Private.{nodesIn, nodesSaid}
-use Rattle.grid.specs.declared.Nodes.{Nodes}
+use Rattle.grid.specs.Private.{nodesIn}
+use Rattle.grid_fields.specs.declared.Nodes.{Nodes}
 
 -- places that say the same give the same frame
 frame-same : (v w : ℕ → Reading) → ((k : ℕ) → k < 64 → v k ≡ w k) → frameAt v ≡ frameAt w
@@ -66,10 +66,12 @@ module _ (s : List ℕ) (h : kindRefusal 1023 1024 s ≡ 0) where
       rw (lt-ltb k 16 l, getD-upTo (λ i. shiftsAt v (11 + 3 * i)) 16 k d l)
       (grid-says s h (11 + 3 * k + min c 2) (omega (arith, min-le-right c 2)) ∙ part-at v (11 + 3 * k) c)
 
-  pub nodes-said : (c k l : ℕ) → k ≤ 2 → l ≤ 2 → {w : Nodes} → w ≡ nodesSaid s c k l → w ≡ nodesIn (g .nodes) c k l
+  pub nodes-said : (c k l : ℕ) → k ≤ 2 → l ≤ 2 → {w : Nodes} → w ≡ cellSays s c k l → w ≡ nodesIn (g .nodes) c k l
+  unfolding cellSays
   nodes-said c k l a b e =
       e
-      ∙ (λ i. record {
+      ∙ rw (le-ltb 2 k a, le-ltb 2 l b)
+      (λ i. record {
         sw = node-said c (3 - k) l (omega arith) (omega arith) i;
         se = node-said c (3 - k) (l + 1) (omega arith) (omega arith) i;
         nw = node-said c (2 - k) l (omega arith) (omega arith) i;

@@ -1,11 +1,11 @@
 -- The shift at a position from a grid message: document 01, "The grid" and "Refusal numbers".
 -- Assumes nothing.
-use Prim.Native.Nat.{ℕ, _+_, _-_, _*_, _%_}
+use Prim.Native.Nat.{ℕ, _+_, _*_}
 use mathlib.Core.Bool.{not, cond, _&&_, _||_}
 use mathlib.Core.List.{List, [], _∷_, _++_}
 use lib.Dec.{eqb, leb, ltb}
 use lib.Ieee.{Float, binary64, div, ofInt}
-use lib.IntN.{ℤ, pos, negsuc, _+ℤ_, _-ℤ_, _*ℤ_}
+use lib.IntN.{ℤ, pos, _+ℤ_, _-ℤ_, _*ℤ_}
 use lib.ListN.{getD}
 use Rattle.arith.specs.First.{Test, first}
 use Rattle.arith.specs.Whole.{natural}
@@ -19,17 +19,14 @@ use Rattle.row.specs.Numbers.{says}
 use Rattle.wire.specs.Message.{tests, numberOf, row}
 use Rattle.message.specs.Kinds.{gridHeld}
 use Rattle.grid_refusals.specs.Refusals.{ellipsoidal, available, fieldTests}
+use Rattle.position.specs.Position.{stepsOf, eastBy}
 use Rattle.bilinear.specs.Bilinear.{Surface, nearestWhole, outside, inCell, absentIn, absent, interpolated}
 use Rattle.grid.specs.declared.Answer.{Answer}
 use Rattle.grid.specs.declared.Answer.the-variants.{Seconds, Metres, Refused}
 use Rattle.grid.specs.declared.Shift.{Shift}
+use Rattle.grid.specs.declared.ThreeShifts.{ThreeShifts}
 
 -- ---- from values of fields to steps and counts
-
--- "Positions are whole steps: 0.0001 arc second for 1023 (origin and spacing raw times 5,000), 1 mm for 1024 (raw times 10,000)":
--- DF192 to DF195 have a resolution of 0.5", DF202 to DF205 of 10 m
-abbrev pub stepsOf : ℤ → ℕ
-stepsOf number = cond (ellipsoidal number) 5000 10000
 
 -- the components of a shift, document 01's term: 0 north-south, 1 east-west, 2 height
 abbrev pub part : ℕ → Shifts → Reading
@@ -64,25 +61,6 @@ surface g c =
 -- the differences position minus origin, in steps: "rover minus origin"
 unfoldable pub northOf : Grid → ℤ → ℤ
 northOf g n = n -ℤ pos (stepsOf (g .number)) *ℤ valueIn (g .origin .north)
-
--- a whole turn of longitudes, 360 degrees, and half of it; the remainder of z by whole turns, from 0 on
-abbrev pub turn : ℕ
-turn = 12960000000
-
-abbrev pub halfTurn : ℕ
-halfTurn = 6480000000
-
-abbrev pub withoutTurns : ℤ → ℕ
-withoutTurns (pos n) = n % turn
-withoutTurns (negsuc n) = turn - 1 - n % turn
-
--- "brought by whole turns of 12,960,000,000 steps to at least -6,480,000,000 and less than 6,480,000,000"
-unfoldable pub byTurns : ℤ → ℤ
-byTurns z = pos (withoutTurns (z +ℤ pos halfTurn)) -ℤ pos halfTurn
-
--- longitudes are compared across the antimeridian, eastings of 1024 as plain numbers
-abbrev pub eastBy : ℤ → ℤ → ℤ
-eastBy number d = cond (ellipsoidal number) (byTurns d) d
 
 unfoldable pub eastOf : Grid → ℤ → ℤ
 eastOf g e = eastBy (g .number) (e -ℤ pos (stepsOf (g .number)) *ℤ valueIn (g .origin .east))
@@ -137,3 +115,28 @@ recordShift g c n e = shiftWith g c n e (recordShiftRefusal g c n e)
 
 unfoldable pub messageShift : List ℕ → ℕ → ℤ → ℤ → Shift
 messageShift s c n e = shiftWith (gridOf (says (row s))) c n e (shiftRefusal s c n e)
+
+-- ---- one call for the three shifts: request A3, whose words are quoted
+
+-- "a record of the three shifts as floats", "a refused part reading 0.0"
+unfoldable pub floatOf : Answer → Float
+floatOf (Seconds x) = x
+floatOf (Metres x) = x
+floatOf (Refused r) = ofInt binary64 (pos 0)
+
+-- "with their three counts and three numbers", each part with its second answer
+unfoldable pub threeOf : Shift → Shift → Shift → ThreeShifts
+threeOf n e h =
+    record {
+      north = floatOf (n .answer);
+      east = floatOf (e .answer);
+      height = floatOf (h .answer);
+      parts = record { north = n; east = e; height = h };
+    }
+
+-- "Each part is exactly what the single call gave"
+unfoldable pub recordShifts : Grid → ℤ → ℤ → ThreeShifts
+recordShifts g n e = threeOf (recordShift g 0 n e) (recordShift g 1 n e) (recordShift g 2 n e)
+
+unfoldable pub messageShifts : List ℕ → ℤ → ℤ → ThreeShifts
+messageShifts s n e = threeOf (messageShift s 0 n e) (messageShift s 1 n e) (messageShift s 2 n e)

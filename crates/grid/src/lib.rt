@@ -1,18 +1,16 @@
 // The shift at a position from a grid message, 1023 or 1024.
 use cell::Corners;
+use cell::Weights;
 use field::Reading;
-use grid_records::Frame;
+use grid_fields::Nodes;
 use grid_records::Grid;
 use grid_records::Shifts;
 ghost use mathlib.Core.Path.{_≡_};
-ghost use mathlib.Core.Bool.{true};
-ghost use Prim.Native.Nat.{_*_, _≤_};
-ghost use lib.IntN.{pos, natAbs, _-ℤ_, _*ℤ_};
-ghost use Rattle.arith.specs.Whole.{natural};
+ghost use Prim.Native.Nat.{_≤_};
+ghost use lib.IntN.{ℤ, pos, natAbs};
 ghost use Rattle.layout.specs.Layout.{valueIn};
-ghost use Rattle.grid.specs.Shift.{stepsOf, part, nodeOf, nodeFactor, byTurns, eastBy, answerOf, outcome, recordShift, messageShift};
-ghost use Rattle.grid_refusals.specs.Refusals.{ellipsoidal};
-ghost use Rattle.grid.specs.Private.{Fields, Bounded, noPlace, placeOf, located, asked, valuesIn, nodesIn, nodesSaid, countAt, cellShift};
+ghost use Rattle.grid.specs.Shift.{part, nodeOf, nodeFactor, answerOf, outcome, floatOf, threeOf, recordShifts, messageShifts};
+ghost use Rattle.grid.specs.Private.{Bounded, asked, valuesIn, nodesIn, countAt, cellShift, partShift};
 
 // What the add-on gets: arc seconds, metres, or the refusal number.
 pub enum Answer {
@@ -21,30 +19,26 @@ pub enum Answer {
     Refused(u8),
 }
 
-// A refusal number, or 0 with the shift in counts; and the same as the add-on gets it.
+// One part, the shift of a component: a refusal number, or 0 with the shift in counts; and the same as the add-on gets it.
 pub struct Shift {
     pub refusal: u8,
     pub count: i64,
     pub answer: Answer,
 }
 
-// A place in a grid: a refusal number, or 0 with its cell, the steps from the cell's southern and western edge, and the cell's height and width.
-struct Located {
-    refusal: u8,
-    row: u64,
-    column: u64,
-    north: u64,
-    east: u64,
-    height: u64,
-    width: u64,
+// The three parts, component by component.
+pub struct Components {
+    pub north: Shift,
+    pub east: Shift,
+    pub height: Shift,
 }
 
-// What the four nodes of a cell say.
-struct Nodes {
-    sw: Reading,
-    se: Reading,
-    nw: Reading,
-    ne: Reading,
+// The three shifts in arc seconds or metres, 0.0 where a part is refused, and their counts, refusal numbers and second answers.
+pub struct ThreeShifts {
+    pub north: f64,
+    pub east: f64,
+    pub height: f64,
+    pub parts: Components,
 }
 
 // A refusal, with a count of 0.
@@ -58,16 +52,6 @@ fn refused(refusal: u8) -> Shift
     }
 }
 
-// Steps in a unit of the origin and the spacing.
-fn steps_of(number: i64) -> u64
-    ensures { λ r. ⌜ r ≡ stepsOf number ⌝ }
-{
-    if number == 1023 {
-        return 5000;
-    }
-    10000
-}
-
 // Counts in a unit of a node.
 fn factor_of(number: i64, component: u8) -> u64
     ensures { λ r. ⌜ r ≡ nodeFactor number component ⌝ }
@@ -79,22 +63,6 @@ fn factor_of(number: i64, component: u8) -> u64
         return 3;
     }
     10
-}
-
-// A spacing in steps.
-fn spacing_of(raw: i64, steps: u64) -> u64
-    requires { ⌜ (raw ≡ pos (natural raw)) × (natural raw ≤ 4095) × (steps ≤ 10000) ⌝ }
-    ensures { λ r. ⌜ r ≡ natural raw * steps ⌝ }
-{
-    raw as u64 * steps
-}
-
-// The difference position minus origin in steps.
-fn difference(position: i64, origin: i64, steps: u64) -> i64
-    requires { ⌜ (natAbs position ≤ 1000000000000) × (natAbs origin ≤ 67108864) × (steps ≤ 10000) ⌝ }
-    ensures { λ r. ⌜ r ≡ position -ℤ pos steps *ℤ origin ⌝ }
-{
-    position - steps as i64 * origin
 }
 
 // The second answer for a count.
@@ -111,93 +79,6 @@ fn answer_of(number: i64, component: u8, count: i64) -> Answer
     Answer::Metres(count as f64 / 10000.0)
 }
 
-// A difference of longitudes brought to at least minus half a turn and less than half a turn: both longitudes are within half a turn, so one turn is enough.
-fn by_turns(d: i64) -> i64
-    requires { ⌜ natAbs d ≤ 12960000000 ⌝ }
-    ensures { λ r. ⌜ r ≡ byTurns d ⌝ }
-{
-    if d < -6480000000 {
-        return d + 12960000000;
-    }
-    if d < 6480000000 {
-        return d;
-    }
-    d - 12960000000
-}
-
-// The difference east-west, for a message of number `kind`: by longitudes for 1023.
-fn east_difference(kind: i64, position: i64, origin: i64, steps: u64) -> i64
-    requires { ⌜ (natAbs position ≤ 1000000000000) × (natAbs origin ≤ 67108864) × (steps ≤ 10000) × (ellipsoidal kind ≡ true → natAbs (position -ℤ pos steps *ℤ origin) ≤ 12960000000) ⌝ }
-    ensures { λ r. ⌜ r ≡ eastBy kind (position -ℤ pos steps *ℤ origin) ⌝ }
-{
-    let d = difference(position, origin, steps);
-    if kind == 1023 {
-        return by_turns(d);
-    }
-    d
-}
-
-// A refusal, and no place.
-fn no_place(refusal: u8) -> Located
-    ensures { λ r. ⌜ r ≡ noPlace refusal ⌝ }
-{
-    Located {
-        refusal,
-        row: 0,
-        column: 0,
-        north: 0,
-        east: 0,
-        height: 0,
-        width: 0,
-    }
-}
-
-// A place in both directions, in cells h high and w wide.
-fn place_in(n: cell::Place, e: cell::Place, h: u64, w: u64) -> Located
-    requires { ⌜ (n .cell * h ≤ n .steps) × (e .cell * w ≤ e .steps) ⌝ }
-    ensures { λ r. ⌜ r ≡ placeOf n e h w ⌝ }
-{
-    Located {
-        refusal: 0,
-        row: n.cell,
-        column: e.cell,
-        north: n.steps - n.cell * h,
-        east: e.steps - e.cell * w,
-        height: h,
-        width: w,
-    }
-}
-
-// COMPONENT to OUTSIDE, or the place of a position in the grid.
-fn locate(f: Frame, component: u8, north: i64, east: i64) -> Located
-    requires { ⌜ Fields f ⌝ }
-    ensures { λ r. ⌜ r ≡ located f component north east ⌝ }
-{
-    let early = grid_refusals::early_refusal(f, component, north, east);
-    if early != 0 {
-        return no_place(early);
-    }
-    let number = f.number;
-    let steps = steps_of(number);
-    let origin = f.origin;
-    let latitude = origin.north;
-    let spacing = f.spacing;
-    let h = spacing_of(spacing.north, steps);
-    let u = difference(north, layout::value_in(latitude), steps);
-    let n = cell::along(u, h);
-    if n.refusal != 0 {
-        return no_place(14);
-    }
-    let longitude = origin.east;
-    let w = spacing_of(spacing.east, steps);
-    let v = east_difference(number, east, layout::value_in(longitude), steps);
-    let e = cell::along(v, w);
-    if e.refusal != 0 {
-        return no_place(14);
-    }
-    place_in(n, e, h, w)
-}
-
 // What a node says that has this weight: without weight it is not asked for.
 fn weighted(weight: u64, r: Reading) -> Reading
     ensures { λ q. ⌜ q ≡ asked weight r ⌝ }
@@ -208,13 +89,13 @@ fn weighted(weight: u64, r: Reading) -> Reading
     r
 }
 
-// The shift at a place from its mean and its nodes.
-fn count_shift(number: i64, component: u8, mean: i64, n: Corners, p: Located) -> Shift
-    requires { ⌜ Bounded mean n p ⌝ }
-    ensures { λ r. ⌜ r ≡ outcome number component 0 (countAt number component mean n p) ⌝ }
+// The shift at a place from its mean, its nodes and their weights.
+fn count_shift(number: i64, component: u8, mean: i64, n: Corners, k: Weights) -> Shift
+    requires { ⌜ Bounded mean n k ⌝ }
+    ensures { λ r. ⌜ r ≡ outcome number component 0 (countAt number component mean n k) ⌝ }
 {
     let factor = factor_of(number, component);
-    let count = cell::count_in(100 * mean, factor, n, p.height, p.width, p.north, p.east);
+    let count = cell::count_by(100 * mean, factor, n, k);
     Shift {
         refusal: 0,
         count,
@@ -223,49 +104,80 @@ fn count_shift(number: i64, component: u8, mean: i64, n: Corners, p: Located) ->
 }
 
 // ABSENT, or the shift at a place: each field that is asked for is taken apart into its value.
-fn cell_shift(number: i64, component: u8, mean: Reading, n: Nodes, p: Located) -> Shift
-    requires { ⌜ Bounded (valueIn mean) (valuesIn n) p ⌝ }
-    ensures { λ r. ⌜ r ≡ cellShift number component mean n p ⌝ }
+fn cell_shift(number: i64, component: u8, mean: Reading, n: Nodes, k: Weights) -> Shift
+    requires { ⌜ Bounded (valueIn mean) (valuesIn n) k ⌝ }
+    ensures { λ r. ⌜ r ≡ cellShift number component mean n k ⌝ }
 {
     let Reading::Value(m) = mean else {
         return refused(15);
     };
-    let y = p.north;
-    let x = p.east;
-    let v = p.height - y;
-    let u = p.width - x;
     let a = n.sw;
-    let Reading::Value(sw) = weighted(u * v, a) else {
+    let Reading::Value(sw) = weighted(k.sw, a) else {
         return refused(15);
     };
     let b = n.se;
-    let Reading::Value(se) = weighted(x * v, b) else {
+    let Reading::Value(se) = weighted(k.se, b) else {
         return refused(15);
     };
     let c = n.nw;
-    let Reading::Value(nw) = weighted(u * y, c) else {
+    let Reading::Value(nw) = weighted(k.nw, c) else {
         return refused(15);
     };
     let d = n.ne;
-    let Reading::Value(ne) = weighted(x * y, d) else {
+    let Reading::Value(ne) = weighted(k.ne, d) else {
         return refused(15);
     };
-    count_shift(number, component, m, Corners { sw, se, nw, ne }, p)
+    count_shift(number, component, m, Corners { sw, se, nw, ne }, k)
 }
 
-// What the nodes of the cell k from the south and l from the west say in a message.
-fn nodes_in(message: &[u8], component: u8, k: u64, l: u64) -> Nodes
-    requires { ⌜ (k ≤ 2) × (l ≤ 2) ⌝ }
-    ensures { λ r. ⌜ r ≡ nodesSaid (now (message .entry)) component k l ⌝ }
+// One part: the refusal of the position, or the shift at its place.
+fn part_shift(number: i64, component: u8, refusal: u8, mean: Reading, n: Nodes, k: Weights) -> Shift
+    requires { ⌜ (refusal ≡ 0 → Bounded (valueIn mean) (valuesIn n) k) ⌝ }
+    ensures { λ r. ⌜ r ≡ partShift number component refusal mean n k ⌝ }
 {
-    let south = 4 * (3 - k) + l;
-    let north = 4 * (2 - k) + l;
-    Nodes {
-        sw: grid_fields::node_at(message, component, south),
-        se: grid_fields::node_at(message, component, south + 1),
-        nw: grid_fields::node_at(message, component, north),
-        ne: grid_fields::node_at(message, component, north + 1),
+    if refusal != 0 {
+        return refused(refusal);
     }
+    cell_shift(number, component, mean, n, k)
+}
+
+// What a second answer reads as a float: 0.0 where it is a refusal.
+fn float_of(a: Answer) -> f64
+    ensures { λ r. ⌜ r ≡ floatOf a ⌝ }
+{
+    match a {
+        Answer::Seconds(x) => x,
+        Answer::Metres(x) => x,
+        Answer::Refused(_) => 0.0,
+    }
+}
+
+// The three parts as one answer.
+fn three_of(n: Shift, e: Shift, h: Shift) -> ThreeShifts
+    ensures { λ r. ⌜ r ≡ threeOf n e h ⌝ }
+{
+    let a = n.answer;
+    let b = e.answer;
+    let c = h.answer;
+    ThreeShifts {
+        north: float_of(a),
+        east: float_of(b),
+        height: float_of(c),
+        parts: Components {
+            north: n,
+            east: e,
+            height: h,
+        },
+    }
+}
+
+// The same refusal of all three.
+fn all_refused(refusal: u8) -> ThreeShifts
+    requires { ⌜ (refusal ≡ 0 → ⊥) ⌝ }
+    ensures { λ r. ⌜ ((z : ℤ) → r ≡ threeOf (outcome z 0 refusal (pos 0)) (outcome z 1 refusal (pos 0)) (outcome z 2 refusal (pos 0))) ⌝ }
+{
+    let r = refused(refusal);
+    three_of(r, r, r)
 }
 
 // The component of a shift.
@@ -303,38 +215,69 @@ fn nodes_of(nodes: [Shifts; 16], component: u8, k: u64, l: u64) -> Nodes
     }
 }
 
-// The shift of a component at a position from a message's bytes.
-pub fn shift_at(message: &[u8], component: u8, north: i64, east: i64) -> Shift
-    ensures { λ r. ⌜ r ≡ messageShift (now (message .entry)) component north east ⌝ }
+// The three shifts at a position from a message's bytes.
+pub fn shifts_at(message: &[u8], north: i64, east: i64) -> ThreeShifts
+    ensures { λ r. ⌜ r ≡ messageShifts (now (message .entry)) north east ⌝ }
 {
     let refusal = wire::check_kind(message, 1023, 1024);
     if refusal != 0 {
-        return refused(refusal);
+        return all_refused(refusal);
     }
     let f = grid_fields::frame_at(message);
-    let p = locate(f, component, north, east);
-    if p.refusal != 0 {
-        return refused(p.refusal);
-    }
-    let mean = grid_fields::mean_at(message, component);
-    let n = nodes_in(message, component, p.row, p.column);
-    cell_shift(f.number, component, mean, n, p)
+    let number = f.number;
+    let p = position::locate_sides(f, north, east);
+    let t = p.place;
+    let k = cell::weights_in(t.height, t.width, t.north, t.east);
+    let a = grid_fields::nodes_at(message, 0, t.row, t.column);
+    let b = grid_fields::nodes_at(message, 1, t.row, t.column);
+    let c = grid_fields::nodes_at(message, 2, t.row, t.column);
+    three_of(
+        part_shift(
+            number,
+            0,
+            p.horizontal,
+            grid_fields::mean_at(message, 0),
+            a,
+            k,
+        ),
+        part_shift(
+            number,
+            1,
+            p.horizontal,
+            grid_fields::mean_at(message, 1),
+            b,
+            k,
+        ),
+        part_shift(
+            number,
+            2,
+            p.vertical,
+            grid_fields::mean_at(message, 2),
+            c,
+            k,
+        ),
+    )
 }
 
 // The same from a record; RANGE where no grid message holds it.
-pub fn shift_of(grid: Grid, component: u8, north: i64, east: i64) -> Shift
-    ensures { λ r. ⌜ r ≡ recordShift grid component north east ⌝ }
+pub fn shifts_of(grid: Grid, north: i64, east: i64) -> ThreeShifts
+    ensures { λ r. ⌜ r ≡ recordShifts grid north east ⌝ }
 {
     if !message::grid_held(grid) {
-        return refused(5);
+        return all_refused(5);
     }
     let frame = grid_records::frame_of(grid);
-    let p = locate(frame, component, north, east);
-    if p.refusal != 0 {
-        return refused(p.refusal);
-    }
-    let mean = part_of(component, grid.mean);
+    let number = frame.number;
+    let p = position::locate_sides(frame, north, east);
+    let t = p.place;
+    let k = cell::weights_in(t.height, t.width, t.north, t.east);
     let nodes = grid.nodes;
-    let n = nodes_of(nodes, component, p.row, p.column);
-    cell_shift(frame.number, component, mean, n, p)
+    let a = nodes_of(nodes, 0, t.row, t.column);
+    let b = nodes_of(nodes, 1, t.row, t.column);
+    let c = nodes_of(nodes, 2, t.row, t.column);
+    three_of(
+        part_shift(number, 0, p.horizontal, part_of(0, grid.mean), a, k),
+        part_shift(number, 1, p.horizontal, part_of(1, grid.mean), b, k),
+        part_shift(number, 2, p.vertical, part_of(2, grid.mean), c, k),
+    )
 }

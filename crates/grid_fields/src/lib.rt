@@ -11,8 +11,16 @@ ghost use lib.IntN.{pos};
 ghost use Rattle.field.specs.Field.{fieldAt};
 ghost use Rattle.layouts.specs.Layouts.{layout1023, layout1024};
 ghost use Rattle.grid_records.specs.Grids.{frameAt};
-ghost use Rattle.grid_fields.specs.Fields.{gridSays, meanSays, nodeSays};
+ghost use Rattle.grid_fields.specs.Fields.{gridSays, meanSays, nodeSays, nodesSaid, noNodes, cellSays};
 ghost use Rattle.grid_fields.specs.Private.{fieldSays};
+
+// What the four nodes of a cell say of a component.
+pub struct Nodes {
+    pub sw: Reading,
+    pub se: Reading,
+    pub nw: Reading,
+    pub ne: Reading,
+}
 
 // The number in an unsigned field.
 fn number_at(s: &[u8], p: usize, w: usize) -> i64
@@ -155,4 +163,44 @@ pub fn node_at(s: &[u8], component: u8, node: u64) -> Reading
         return field::signed_at(s, node_bit(120, component, node), 9);
     }
     field::signed_at(s, node_bit(132, component, node), 9)
+}
+
+// What the nodes of the cell `row` from the south and `column` from the west say of a component.
+fn nodes_in(s: &[u8], component: u8, row: u64, column: u64) -> Nodes
+    requires { ⌜ (row ≤ 2) × (column ≤ 2) ⌝ }
+    ensures { λ r. ⌜ r ≡ nodesSaid (now (s .entry)) component row column ⌝ }
+{
+    let south = 4 * (3 - row) + column;
+    let north = 4 * (2 - row) + column;
+    Nodes {
+        sw: node_at(s, component, south),
+        se: node_at(s, component, south + 1),
+        nw: node_at(s, component, north),
+        ne: node_at(s, component, north + 1),
+    }
+}
+
+// No cell.
+fn no_nodes() -> Nodes
+    ensures { λ r. ⌜ r ≡ noNodes ⌝ }
+{
+    Nodes {
+        sw: Reading::Value(0),
+        se: Reading::Value(0),
+        nw: Reading::Value(0),
+        ne: Reading::Value(0),
+    }
+}
+
+// The same of any numbers: the value 0 where there is no such cell.
+pub fn nodes_at(s: &[u8], component: u8, row: u64, column: u64) -> Nodes
+    ensures { λ r. ⌜ r ≡ cellSays (now (s .entry)) component row column ⌝ }
+{
+    if 2 < row {
+        return no_nodes();
+    }
+    if 2 < column {
+        return no_nodes();
+    }
+    nodes_in(s, component, row, column)
 }

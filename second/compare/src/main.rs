@@ -17,41 +17,51 @@ const USAGE: &str = "compare [SEED [COUNT]]: COUNT inputs for each kind of call 
 /// The inputs for each kind of call where no count is given.
 const DEFAULT_COUNT: u64 = 15_000;
 
-/// What one input came to: the refusal number both gave, or what differed.
-pub type Compared = Result<u8, String>;
+/// What one input came to: the refusal numbers both gave, one for each part of the answer, or what differed.
+pub type Compared = Result<Vec<u8>, String>;
 
 /// Compares one input of a call that keeps nothing, the turn deciding which kind of input it is.
 type Single = fn(&mut Random, u64) -> Compared;
 
 /// The calls that keep nothing, with the refusal numbers each can give.
-/// E180 and W180 are shift_at on grids across 180 degrees, at positions east and west of Greenwich.
+/// E180 and W180 are shifts_at on grids across 180 degrees, at positions east and west of Greenwich.
 const SINGLES: [(&str, &[u8], Single); 8] = [
     ("read", &[0, 1, 2, 3, 4, 5], reading::compare_header),
     ("read_fields", &[0, 1, 2, 3, 4, 5, 6], reading::compare_row),
     ("write_fields", &[0, 5, 6], writing::compare_written),
-    ("shift_at", &[0, 1, 2, 3, 4, 5, 7, 8, 9, 10, 11, 12, 13, 14, 15], shifting::compare_shift),
-    ("shift_at E180", ACROSS, shifting::compare_east_of_greenwich),
-    ("shift_at W180", ACROSS, shifting::compare_west_of_greenwich),
+    ("shifts_at", &[0, 1, 2, 3, 4, 5, 7, 9, 10, 11, 12, 13, 14, 15], shifting::compare_shifts),
+    ("shifts_at E180", ACROSS, shifting::compare_east_of_greenwich),
+    ("shifts_at W180", ACROSS, shifting::compare_west_of_greenwich),
     ("find_frame", &[0, 19, 20], framing::compare_found),
     ("write_frame", &[0, 3, 6], framing::compare_framed),
 ];
 
-/// The refusal numbers that a shift of a sound grid message can give.
-const ACROSS: &[u8] = &[0, 8, 9, 10, 11, 12, 13, 14, 15];
+/// The refusal numbers that the shifts of a sound grid message can give.
+const ACROSS: &[u8] = &[0, 9, 10, 11, 12, 13, 14, 15];
 
 /// The calls on a table, with the refusal numbers each can give.
 const ON_TABLES: [(&str, &[u8]); 3] =
     [("store", &[0, 1, 2, 3, 4, 5, 16, 18]), ("find", &[0, 17, 18]), ("remove", &[0, 17, 18])];
 
-/// The refusal an answer holds and the two answers where they differ.
+/// The refusal that an answer of one part holds, or the two answers where they differ.
 pub fn same<T: PartialEq + std::fmt::Debug>(
     refusal: u8,
     library: T,
     second: T,
     input: impl Fn() -> String,
 ) -> Compared {
+    same_parts(&[refusal], library, second, input)
+}
+
+/// The refusals that the parts of an answer hold, or the two answers where they differ.
+pub fn same_parts<T: PartialEq + std::fmt::Debug>(
+    refusals: &[u8],
+    library: T,
+    second: T,
+    input: impl Fn() -> String,
+) -> Compared {
     if library == second {
-        Ok(refusal)
+        Ok(refusals.to_vec())
     } else {
         Err(format!("input {}\nlibrary {library:?}\nsecond  {second:?}", input()))
     }
@@ -67,8 +77,8 @@ fn run_single(
     let mut random = Random::new(seed);
     let mut tally = Tally::new(name, possible);
     for turn in 0..count {
-        let refusal = compare(&mut random, turn).map_err(|difference| format!("{name}, turn {turn}: {difference}"))?;
-        tally.add(refusal);
+        let refusals = compare(&mut random, turn).map_err(|difference| format!("{name}, turn {turn}: {difference}"))?;
+        tally.add(&refusals);
         progress.step();
     }
     Ok(tally)
@@ -83,10 +93,10 @@ fn run_tables(seed: u64, count: u64, progress: &mut Progress) -> Result<Vec<Tall
         if history.ended() {
             history = tables::History::new(&mut random, turn);
         }
-        let refusals =
+        let of_calls =
             history.turn(&mut random, turn).map_err(|difference| format!("tables, turn {turn}: {difference}"))?;
-        for (tally, refusal) in tallies.iter_mut().zip(refusals) {
-            tally.add(refusal);
+        for (tally, refusals) in tallies.iter_mut().zip(of_calls) {
+            tally.add(&refusals);
             progress.step();
         }
     }
@@ -122,6 +132,7 @@ fn main() -> ExitCode {
     match run(seed, count) {
         Ok(tallies) => {
             print!("{}", tally::table(&tallies));
+            tally::differing_parts(&tallies).iter().for_each(|line| println!("{line}"));
             let never_met = tally::never_met(&tallies);
             never_met.iter().for_each(|line| println!("{line}"));
             println!("no mismatch");

@@ -1,8 +1,8 @@
-//! Compares the shift at a position.
+//! Compares the shifts at a position, floats by their bits.
 
-use crate::{messages, same, Compared};
+use crate::{messages, same_parts, Compared};
 use second::fields::by_df;
-use second::grid::shift;
+use second::grid::{shifts, COMPONENTS};
 use second::gridsamples::{Grid, HALF_TURN};
 use second::hex::hex;
 use second::random::Random;
@@ -13,7 +13,7 @@ use second::vectors::shifts::random_grid;
 use tarnoklej::ffi;
 
 /// How many kinds of grids there are.
-const GRIDS: u64 = 12;
+const GRIDS: u64 = 14;
 /// The positions made before one on the wanted side of the meridian of 180 degrees is given up.
 const TRIES: usize = 8;
 
@@ -35,7 +35,7 @@ fn any_grid_across(random: &mut Random, kind: u64) -> Grid {
     of_kind(random, grid, kind % (GRIDS - 1))
 }
 
-/// A grid made one of a kind, answered or with a reason to be refused; the last kind has any fields.
+/// A grid made one of a kind, answered or with reasons to be refused; the last kind has any fields.
 fn of_kind(random: &mut Random, grid: Grid, kind: u64) -> Grid {
     let number = grid.sample.number;
     match kind {
@@ -46,6 +46,12 @@ fn of_kind(random: &mut Random, grid: Grid, kind: u64) -> Grid {
         8 => grid.set(grid.spacing_fields()[random.below(2) as usize], 0),
         9 => without_mean(random, &grid),
         10 => at_the_ends(random, number),
+        11 => without_node(random, &grid),
+        12 => {
+            let [one, other] = [0, 1].map(|_| 5 + random.below(5));
+            let changed = of_kind(random, grid, one);
+            of_kind(random, changed, other)
+        }
         _ => Grid { sample: Sample::any(random, number) },
     }
 }
@@ -59,6 +65,13 @@ fn without_origin(random: &mut Random, grid: &Grid) -> Grid {
 /// The grid with a mean that has no value.
 fn without_mean(random: &mut Random, grid: &Grid) -> Grid {
     grid.set(grid.mean_field(random.below(3) as usize), None)
+}
+
+/// The grid with one of the four nodes in its middle that has no value in one component.
+fn without_node(random: &mut Random, grid: &Grid) -> Grid {
+    let component = random.below(COMPONENTS as u64) as usize;
+    let node = messages::pick(random, &[6, 7, 10, 11]);
+    grid.set_node(component, node, None)
 }
 
 /// A grid with origin, spacings, means and nodes at the ends of their ranges.
@@ -122,14 +135,6 @@ fn any_position(random: &mut Random, grid: &Grid) -> [i64; 2] {
     position
 }
 
-/// A component, one in twenty not 0 to 2.
-fn any_component(random: &mut Random) -> u8 {
-    match random.below(20) {
-        0 => 3 + random.below(253) as u8,
-        _ => random.below(3) as u8,
-    }
-}
-
 /// A position east (1) or west (-1) of Greenwich, one in twelve on the meridian of 180 degrees by that side's name.
 fn any_position_on_side(random: &mut Random, grid: &Grid, side: i64) -> [i64; 2] {
     let [north, east] = (0..TRIES)
@@ -139,39 +144,59 @@ fn any_position_on_side(random: &mut Random, grid: &Grid, side: i64) -> [i64; 2]
     [north, if random.below(12) == 0 { side * HALF_TURN } else { east }]
 }
 
-/// Compares one shift, every fourth turn of any message and the others of a grid message.
-pub fn compare_shift(random: &mut Random, turn: u64) -> Compared {
+/// Compares the shifts at one position, every fourth turn of any message and the others of a grid message.
+pub fn compare_shifts(random: &mut Random, turn: u64) -> Compared {
     let grid = any_grid(random, turn / 4 * 3 + turn % 4);
     let position = any_position(random, &grid);
-    let component = any_component(random);
     let bytes = if turn % 4 == 3 { messages::of_kind(random, turn / 4) } else { grid.bytes() };
-    compare_at(bytes, component, position)
+    compare_at(bytes, position)
 }
 
-/// Compares one shift of a grid across 180 degrees, at a position east of Greenwich.
+/// Compares the shifts of a grid across 180 degrees, at a position east of Greenwich.
 pub fn compare_east_of_greenwich(random: &mut Random, turn: u64) -> Compared {
     compare_across(random, turn, 1)
 }
 
-/// Compares one shift of a grid across 180 degrees, at a position west of Greenwich.
+/// Compares the shifts of a grid across 180 degrees, at a position west of Greenwich.
 pub fn compare_west_of_greenwich(random: &mut Random, turn: u64) -> Compared {
     compare_across(random, turn, -1)
 }
 
-/// Compares one shift of a grid across 180 degrees, at a position on one side of Greenwich.
+/// Compares the shifts of a grid across 180 degrees, at a position on one side of Greenwich.
 fn compare_across(random: &mut Random, turn: u64, side: i64) -> Compared {
     let grid = any_grid_across(random, turn);
     let position = any_position_on_side(random, &grid, side);
-    let component = any_component(random);
-    compare_at(grid.bytes(), component, position)
+    compare_at(grid.bytes(), position)
 }
 
-/// Compares the shift of one message and component at one position.
-fn compare_at(bytes: Vec<u8>, component: u8, [north, east]: [i64; 2]) -> Compared {
+/// One part of an answer: refusal number, count, and the bits of the float.
+#[derive(PartialEq, Debug)]
+struct Part {
+    refusal: u8,
+    count: i64,
+    bits: u64,
+}
+
+/// The parts of the library's answer.
+fn parts_of(at: ffi::Shifts) -> [Part; COMPONENTS] {
+    let part = |refusal: u8, count: i64, float: f64| Part { refusal, count, bits: float.to_bits() };
+    [
+        part(at.north_refusal, at.north_count, at.north),
+        part(at.east_refusal, at.east_count, at.east),
+        part(at.height_refusal, at.height_count, at.height),
+    ]
+}
+
+/// Compares the shifts of one message at one position.
+fn compare_at(bytes: Vec<u8>, [north, east]: [i64; 2]) -> Compared {
     let bytes = bytes.into_boxed_slice();
-    let answer = shift(&bytes, component, north, east);
-    let second = ffi::Shift { refusal: number_of(&answer), count: answer.unwrap_or(0) };
+    let second = shifts(&bytes, north, east).map(|part| Part {
+        refusal: number_of(&part.count),
+        count: part.count.unwrap_or(0),
+        bits: part.float().to_bits(),
+    });
     // SAFETY: the pointer and the length are those of a slice.
-    let library = unsafe { ffi::tarnoklej_shift_at(bytes.as_ptr(), bytes.len(), component, north, east) };
-    same(second.refusal, library, second, || format!("{} component {component} at {north} {east}", hex(&bytes)))
+    let library = parts_of(unsafe { ffi::tarnoklej_shifts_at(bytes.as_ptr(), bytes.len(), north, east) });
+    let refusals = [0, 1, 2].map(|component: usize| second[component].refusal);
+    same_parts(&refusals, library, second, || format!("{} at {north} {east}", hex(&bytes)))
 }

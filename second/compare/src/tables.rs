@@ -91,7 +91,7 @@ impl History {
     }
 
     /// Compares one store, one find and one remove, every sixth turn on a damaged table that is then put back.
-    pub fn turn(&mut self, random: &mut Random, turn: u64) -> Result<[u8; 3], String> {
+    pub fn turn(&mut self, random: &mut Random, turn: u64) -> Result<[Vec<u8>; 3], String> {
         self.turns += 1;
         if !self.turns.is_multiple_of(6) {
             return self.calls(random, turn);
@@ -106,7 +106,7 @@ impl History {
     }
 
     /// Compares one call of each kind.
-    fn calls(&mut self, random: &mut Random, turn: u64) -> Result<[u8; 3], String> {
+    fn calls(&mut self, random: &mut Random, turn: u64) -> Result<[Vec<u8>; 3], String> {
         Ok([self.store(random, turn)?, self.find(random)?, self.remove(random)?])
     }
 

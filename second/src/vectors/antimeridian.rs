@@ -13,22 +13,20 @@ pub fn cases() -> Vec<Case> {
     let mut cases = Vec::new();
     for (name, grid) in grids() {
         let name = format!("antimeridian-{name}");
-        cases.extend(nodes(&name, &grid, &[0, 1, 2]));
-        cases.extend(middles(&name, &grid, &[0, 1, 2]));
+        cases.extend(nodes(&name, &grid));
+        cases.extend(middles(&name, &grid));
         cases.extend(opposite(&name, &grid));
     }
     for (name, grid) in grids().into_iter().chain(touching()) {
         cases.extend(on_the_meridian(&format!("antimeridian-{name}"), &grid));
         cases.extend(at_the_edges(&format!("antimeridian-{name}"), &grid));
     }
-    cases.extend(lines_and_corners("antimeridian-col", &grid_at(RAW_HALF_TURN - 360, 720), 0));
+    cases.extend(lines_and_corners("antimeridian-col", &grid_at(RAW_HALF_TURN - 360, 720)));
     cases.extend(absent_nodes());
     cases.extend(halves());
-    for component in 0..3 {
-        let grid = grid_at(RAW_HALF_TURN, 720);
-        let position = [grid.origin()[0], 1_000 - HALF_TURN];
-        cases.extend(refusal_cases("antimeridian", &Call { grid, component, position }));
-    }
+    let grid = grid_at(RAW_HALF_TURN, 720);
+    let position = [grid.origin()[0], 1_000 - HALF_TURN];
+    cases.extend(refusal_cases("antimeridian", &Call { grid, position }));
     cases.extend(random_grids());
     cases.extend(plane());
     cases
@@ -77,9 +75,9 @@ fn on_the_meridian(name: &str, grid: &Grid) -> Vec<Case> {
     ];
     let mut cases = Vec::new();
     for (word, east) in longitudes {
-        for component in 0..3 {
-            let north = grid.origin()[0] + 1_234 * i64::from(component);
-            cases.push(case(format!("{name}-{word}-c{component}"), &grid.bytes(), component, [north, east]));
+        for steps in [0, 1_234, 2_468] {
+            let north = grid.origin()[0] + steps;
+            cases.push(case(format!("{name}-{word}-n{steps}"), &grid.bytes(), [north, east]));
         }
     }
     cases
@@ -92,7 +90,7 @@ fn at_the_edges(name: &str, grid: &Grid) -> Vec<Case> {
     for (side, steps) in [("west", -edge), ("east", edge)] {
         for step in -1..=1 {
             let position = grid.moved(grid.origin(), [77, steps + step]);
-            cases.push(case(format!("{name}-{side}-edge-e{}", word(step)), &grid.bytes(), 1, position));
+            cases.push(case(format!("{name}-{side}-edge-e{}", word(step)), &grid.bytes(), position));
         }
     }
     cases
@@ -104,12 +102,11 @@ fn opposite(name: &str, grid: &Grid) -> Vec<Case> {
     let mut cases = Vec::new();
     for step in -1..=1 {
         let across = grid.moved([north, east - east.signum() * HALF_TURN], [0, step]);
-        cases.push(case(format!("{name}-opposite-e{}", word(step)), &grid.bytes(), 2, across));
-        cases.push(case(format!("{name}-greenwich-e{}", word(step)), &grid.bytes(), 2, [north, step]));
+        cases.push(case(format!("{name}-opposite-e{}", word(step)), &grid.bytes(), across));
+        cases.push(case(format!("{name}-greenwich-e{}", word(step)), &grid.bytes(), [north, step]));
         cases.push(case(
             format!("{name}-mirrored-e{}", word(step)),
             &grid.bytes(),
-            2,
             grid.moved([north, -east], [0, step]),
         ));
     }
@@ -135,7 +132,7 @@ fn absent_nodes() -> Vec<Case> {
             ("before-next-east", -HALF_TURN + wide - 1),
         ];
         for (word, east) in around {
-            cases.push(case(format!("antimeridian-absent-{node}-{word}"), &bytes, 1, [north, east]));
+            cases.push(case(format!("antimeridian-absent-{node}-{word}"), &bytes, [north, east]));
         }
     }
     cases
@@ -145,12 +142,12 @@ fn absent_nodes() -> Vec<Case> {
 fn halves() -> Vec<Case> {
     let mut cases = Vec::new();
     for (sign_word, sign) in [("plus", 1), ("minus", -1)] {
-        for (component, longitude, wide, parts) in [(0, RAW_HALF_TURN, 12, 6), (2, RAW_HALF_TURN - 1, 20, 20)] {
+        for (longitude, wide, parts) in [(RAW_HALF_TURN, 12, 6), (RAW_HALF_TURN - 1, 20, 20)] {
             let nodes = |_, node: usize| sign * (node as i64 % 4);
             let grid = Grid::of(1023, [100, longitude], [12, wide], [0, 0, 0], nodes);
             let mut ask = |word: String, position: [i64; 2]| {
-                let name = format!("antimeridian-half-{sign_word}-c{component}-{word}");
-                cases.push(case(name, &grid.bytes(), component, position));
+                let name = format!("antimeridian-half-{sign_word}-of-{parts}-{word}");
+                cases.push(case(name, &grid.bytes(), position));
             };
             for part in (1..parts).step_by(2) {
                 for step in -1..=1 {
@@ -171,13 +168,13 @@ fn random_grids() -> Vec<Case> {
     let mut cases = Vec::new();
     for i in 0..40 {
         let grid = random_grid_across(&mut random);
-        for component in 0..3 {
+        for place in 1..=3 {
             let position = random_position(&mut random, &grid);
-            cases.push(case(format!("antimeridian-grid-{i}-c{component}"), &grid.bytes(), component, position));
+            cases.push(case(format!("antimeridian-grid-{i}-at-{place}"), &grid.bytes(), position));
         }
         let north = random_position(&mut random, &grid)[0];
         for (word, east) in [("plus", HALF_TURN), ("minus", -HALF_TURN)] {
-            cases.push(case(format!("antimeridian-grid-{i}-{word}"), &grid.bytes(), (i % 3) as u8, [north, east]));
+            cases.push(case(format!("antimeridian-grid-{i}-{word}"), &grid.bytes(), [north, east]));
         }
     }
     cases
@@ -215,9 +212,9 @@ fn plane() -> Vec<Case> {
             ("past-half-turn", HALF_TURN + 1),
             ("minus-half-turn", -HALF_TURN),
         ];
-        for (i, (word, easting)) in eastings.into_iter().enumerate() {
+        for (word, easting) in eastings {
             let name = format!("antimeridian-plane-{origin}-{word}");
-            cases.push(case(name, &grid.bytes(), (i % 3) as u8, [north + 5, easting]));
+            cases.push(case(name, &grid.bytes(), [north + 5, easting]));
         }
     }
     cases

@@ -2,6 +2,7 @@
 
 pub mod antimeridian;
 mod frames;
+mod parts;
 mod reads;
 mod record_shifts;
 mod records;
@@ -18,7 +19,7 @@ use std::path::Path;
 /// The longest line of the standard input.
 const LONGEST_LINE: usize = 900;
 /// The most cases.
-const MOST_CASES: usize = 20_000;
+const MOST_CASES: usize = 30_000;
 /// The longest name of a case.
 const LONGEST_NAME: usize = 40;
 
@@ -47,7 +48,7 @@ impl Case {
 /// Which cases are made.
 #[derive(Clone, Copy, Default)]
 pub struct Wanted {
-    /// Cases of the shift at a position.
+    /// Cases of the shifts at a position.
     pub shift: bool,
     /// Cases of the table.
     pub table: bool,

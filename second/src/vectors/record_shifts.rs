@@ -1,23 +1,24 @@
-//! Cases of the shift from a grid record that is made from a row.
+//! Cases of the shifts from a grid record that is made from a row.
 
 use super::reads::{label, plain_places};
 use super::shifts::{
-    absent_means, absent_nodes, both_answers, good_call, pairs, random_grid, random_position, worked, Call,
+    absent_means, absent_nodes, good_call, pairs, parts_text, random_grid, random_position, worked, Call,
 };
-use super::{row_words, Case};
+use super::{parts, row_words, Case};
 use crate::fields::by_df;
-use crate::grid::{answer_of, shift_of};
+use crate::grid::shifts_of;
 use crate::random::Random;
 use crate::record::{made_of, GRID_KIND};
 use crate::samples::{end_by_turns, not_taken};
 use crate::vectors::antimeridian::random_grid_across;
 
-/// All cases of the shift from a record.
+/// All cases of the shifts from a record.
 pub fn cases() -> Vec<Case> {
     let mut calls = worked();
     for number in [1023, 1024] {
         calls.extend(absent_nodes(number));
         calls.extend(absent_means(number));
+        calls.extend(parts::calls(number));
         calls.extend(pairs(number));
         calls.extend(nones_for_numbers(number));
         calls.extend(values_outside(number));
@@ -28,30 +29,23 @@ pub fn cases() -> Vec<Case> {
     calls.into_iter().map(|(name, call)| case(&name, call)).collect()
 }
 
-/// A case of the shift from the record made from the row of a call's grid.
-fn case(name: &str, Call { grid, component, position: [north, east] }: Call) -> Case {
+/// A case of the shifts from the record made from the row of a call's grid.
+fn case(name: &str, Call { grid, position: [north, east] }: Call) -> Case {
     let row = grid.sample.row();
     let record = made_of(GRID_KIND, &row);
-    let count = shift_of(&record, component, north, east);
     Case {
         name: format!("of-{name}"),
-        call: format!("shiftof {component} {north} {east} {}", row_words(&row)),
-        answer: both_answers(count, answer_of(&record, component, north, east)),
+        call: format!("shiftof {north} {east} {}", row_words(&row)),
+        answer: parts_text(&shifts_of(&record, north, east)),
     }
 }
 
 /// Each unsigned field of a grid made from a none, which counts as 0 but for DF203, whose none is kept.
 fn nones_for_numbers(number: u16) -> Vec<(String, Call)> {
-    let mut calls = Vec::new();
-    for component in [0, 2] {
-        let good = good_call(number, component);
-        let sample = &good.grid.sample;
-        for place in plain_places(sample).into_iter().filter(|&place| !by_df(sample.dfs[place]).signed()) {
-            let name = format!("{}-none-c{component}", label(sample, place));
-            calls.push((name, with_field(&good, place, None)));
-        }
-    }
-    calls
+    let good = good_call(number);
+    let sample = &good.grid.sample;
+    let unsigned = plain_places(sample).into_iter().filter(|&place| !by_df(sample.dfs[place]).signed());
+    unsigned.map(|place| (format!("{}-none", label(sample, place)), with_field(&good, place, None))).collect()
 }
 
 /// The call with another reading at one place of its grid's row.
@@ -63,7 +57,7 @@ fn with_field(call: &Call, place: usize, reading: impl Into<Option<i64>>) -> Cal
 
 /// Each field at a value that no grid message holds: outside its range, its pattern, or an end of 64 bits.
 fn values_outside(number: u16) -> Vec<(String, Call)> {
-    let good = good_call(number, 1);
+    let good = good_call(number);
     let sample = &good.grid.sample;
     let mut calls = Vec::new();
     for place in plain_places(sample) {
@@ -76,20 +70,19 @@ fn values_outside(number: u16) -> Vec<(String, Call)> {
 
 /// Records under other message numbers.
 fn numbers_of_another_kind(number: u16) -> Vec<(String, Call)> {
-    let good = good_call(number, 2);
+    let good = good_call(number);
     let others = [0, 1, 1_020, 1_021, 1_022, 1_023, 1_024, 1_025, 1_026, 1_027, 1_028, 5_119, 5_120, 66_559, i64::MAX];
     others.into_iter().map(|other| (format!("{number}-number-{other}"), with_field(&good, 0, other))).collect()
 }
 
-/// Records that no message holds, with a component or a position that would be refused, or nothing else right.
+/// Records that no message holds, with a position that would be refused, or nothing else right.
 fn range_first(number: u16) -> Vec<(String, Call)> {
-    let mut good = good_call(number, 0);
+    let mut good = good_call(number);
     good.grid = good.grid.set(147, 256);
-    let component = Call { component: 3, ..good.clone() };
     let position = Call { position: [i64::MIN, i64::MAX], ..good.clone() };
-    let mut wrong = Call { component: 255, ..position.clone() };
+    let mut wrong = position.clone();
     wrong.grid = wrong.grid.set(190, 0).set(212, 1).set(wrong.grid.origin_fields()[0], None);
-    let calls = [("alone", good), ("component", component), ("position", position), ("all", wrong)];
+    let calls = [("alone", good), ("position", position), ("all", wrong)];
     calls.into_iter().map(|(word, call)| (format!("{number}-range-{word}"), call)).collect()
 }
 
@@ -103,9 +96,9 @@ fn random_records() -> Vec<(String, Call)> {
             1 => random_grid(&mut random, 1024),
             _ => random_grid_across(&mut random),
         };
-        for component in 0..3 {
+        for place in 1..=3 {
             let position = random_position(&mut random, &grid);
-            calls.push((format!("grid-{i}-c{component}"), Call { grid: grid.clone(), component, position }));
+            calls.push((format!("grid-{i}-at-{place}"), Call { grid: grid.clone(), position }));
         }
     }
     calls

@@ -1,31 +1,33 @@
-//! Cases of the shift at a position.
+//! Cases of the shifts at a position.
 
-use super::{antimeridian, Case};
-use crate::grid::{answer, shift, Answer};
+use super::{antimeridian, parts, Case};
+use crate::grid::{shifts, Answer, Part, HEIGHT};
 use crate::gridsamples::Grid;
 use crate::hex::hex;
 use crate::message::read;
 use crate::random::Random;
-use crate::refusal::{number_of, Refusal};
+use crate::refusal::number_of;
 use crate::samples::Sample;
 use crate::services::services;
+use std::collections::HashSet;
 
-/// All cases of the shift.
+/// All cases of the shifts from a message.
 pub fn cases() -> Vec<Case> {
     let mut cases = on_messages(worked());
-    cases.extend(nodes("k", &Grid::k(), &[2]));
-    cases.extend(middles("k", &Grid::k(), &[2]));
+    cases.extend(nodes("k", &Grid::k()));
+    cases.extend(middles("k", &Grid::k()));
     for (name, grid) in named_grids() {
-        cases.extend(nodes(&name, &grid, &[0, 1, 2]));
-        cases.extend(middles(&name, &grid, &[0, 1, 2]));
+        cases.extend(nodes(&name, &grid));
+        cases.extend(middles(&name, &grid));
     }
-    cases.extend(lines_and_corners("k", &Grid::k(), 2));
-    cases.extend(lines_and_corners("steep", &steep(1023), 0));
-    cases.extend(lines_and_corners("plane", &steep(1024), 1));
+    cases.extend(lines_and_corners("k", &Grid::k()));
+    cases.extend(lines_and_corners("steep", &steep(1023)));
+    cases.extend(lines_and_corners("plane", &steep(1024)));
     for number in [1023, 1024] {
         cases.extend(halves(number));
         cases.extend(on_messages(absent_nodes(number)));
         cases.extend(on_messages(absent_means(number)));
+        cases.extend(on_messages(parts::calls(number)));
         cases.extend(mean_factors(number));
         cases.extend(on_messages(pairs(number)));
         cases.extend(limits(number));
@@ -38,23 +40,24 @@ pub fn cases() -> Vec<Case> {
     cases
 }
 
-/// A case of the shift on any bytes.
-pub(super) fn case(name: String, bytes: &[u8], component: u8, [north, east]: [i64; 2]) -> Case {
-    Case {
-        name,
-        call: format!("shift {} {component} {north} {east}", hex(bytes)),
-        answer: both_answers(shift(bytes, component, north, east), answer(bytes, component, north, east)),
-    }
+/// A case of the shifts on any bytes.
+pub(super) fn case(name: String, bytes: &[u8], [north, east]: [i64; 2]) -> Case {
+    Case { name, call: format!("shift {} {north} {east}", hex(bytes)), answer: parts_text(&shifts(bytes, north, east)) }
 }
 
-/// What is printed of a shift: refusal and count, and the answer a second time.
-pub(super) fn both_answers(count: Result<i64, Refusal>, answer: Answer) -> String {
-    let (kind, value) = match answer {
+/// What is printed of three parts.
+pub(super) fn parts_text(parts: &[Part]) -> String {
+    parts.iter().map(part_text).collect::<Vec<String>>().join(" ")
+}
+
+/// What is printed of a part: refusal and count, the answer as the add-on receives it, and the bits of the float.
+fn part_text(part: &Part) -> String {
+    let (kind, value) = match part.answer {
         Answer::Seconds(value) => ("seconds", value.to_bits()),
         Answer::Metres(value) => ("metres", value.to_bits()),
         Answer::Refused(number) => ("refused", u64::from(number)),
     };
-    format!("{} {} {kind} {value}", number_of(&count), count.unwrap_or(0))
+    format!("{} {} {kind} {value} {}", number_of(&part.count), part.count.unwrap_or(0), part.float().to_bits())
 }
 
 /// A signed number as a word for a name.
@@ -62,20 +65,18 @@ pub(super) fn word(number: i64) -> String {
     number.to_string().replace('-', "m")
 }
 
-/// A call: a grid, a component and a position.
+/// A call: a grid and a position.
 #[derive(Clone)]
 pub(super) struct Call {
     /// The grid of the message or the record.
     pub grid: Grid,
-    /// The component asked for.
-    pub component: u8,
     /// The position asked for.
     pub position: [i64; 2],
 }
 
 /// The cases of named calls on messages.
 fn on_messages(calls: Vec<(String, Call)>) -> Vec<Case> {
-    calls.into_iter().map(|(name, call)| case(name, &call.grid.bytes(), call.component, call.position)).collect()
+    calls.into_iter().map(|(name, call)| case(name, &call.grid.bytes(), call.position)).collect()
 }
 
 /// P1 to P11.
@@ -87,26 +88,23 @@ pub(super) fn worked() -> Vec<(String, Call)> {
     let absent = k.set_node(2, 7, None);
     let east_of = |[north, east]: [i64; 2], steps: i64| [north, east + steps];
     let north_of = |[north, east]: [i64; 2], steps: i64| [north + steps, east];
-    let call = |name: &str, grid: &Grid, component: u8, position: [i64; 2]| {
-        (name.to_string(), Call { grid: grid.clone(), component, position })
-    };
+    let call = |name: &str, grid: &Grid, position: [i64; 2]| (name.to_string(), Call { grid: grid.clone(), position });
     vec![
-        call("p1", &k, 2, middle),
-        call("p2", &k, 2, k.at_node(1)),
-        call("p3", &k, 2, north_of(k.at_node(1), 1)),
-        call("p4", &k, 2, k.at_node(16)),
-        call("p5", &k, 2, east_of(six, 180_000)),
-        call("p6", &k, 2, east_of(six, 179_999)),
-        call("p7", &negated, 2, east_of(six, 180_000)),
-        call("p7-one-step-less", &negated, 2, east_of(six, 179_999)),
-        call("p7-one-step-more", &negated, 2, east_of(six, 180_001)),
-        call("p8", &absent, 2, six),
-        call("p9", &absent, 2, east_of(six, 1)),
-        call("p10", &k, 0, middle),
-        call("p10-east", &k, 1, middle),
-        call("p11-north", &k.set(194, 0), 2, middle),
-        call("p11-east", &k.set(195, 0), 2, middle),
-        call("p11-both", &k.set(194, 0).set(195, 0), 2, middle),
+        call("p1", &k, middle),
+        call("p2", &k, k.at_node(1)),
+        call("p3", &k, north_of(k.at_node(1), 1)),
+        call("p4", &k, k.at_node(16)),
+        call("p5", &k, east_of(six, 180_000)),
+        call("p6", &k, east_of(six, 179_999)),
+        call("p7", &negated, east_of(six, 180_000)),
+        call("p7-one-step-less", &negated, east_of(six, 179_999)),
+        call("p7-one-step-more", &negated, east_of(six, 180_001)),
+        call("p8", &absent, six),
+        call("p9", &absent, east_of(six, 1)),
+        call("p10", &k, middle),
+        call("p11-north", &k.set(194, 0), middle),
+        call("p11-east", &k.set(195, 0), middle),
+        call("p11-both", &k.set(194, 0).set(195, 0), middle),
     ]
 }
 
@@ -120,7 +118,7 @@ fn steep(number: u16) -> Grid {
     })
 }
 
-/// Grids whose sixteen nodes and nine middles are asked for in all components.
+/// Grids whose sixteen nodes and nine middles are asked for.
 fn named_grids() -> Vec<(String, Grid)> {
     let mut random = Random::new(11);
     let mut grids = Vec::new();
@@ -133,38 +131,24 @@ fn named_grids() -> Vec<(String, Grid)> {
 }
 
 /// The sixteen nodes, whose shift is mean and node alone.
-pub(super) fn nodes(name: &str, grid: &Grid, components: &[u8]) -> Vec<Case> {
-    let mut cases = Vec::new();
-    for &component in components {
-        for node in 1..=16 {
-            let name = format!("{name}-c{component}-node-{node}");
-            cases.push(case(name, &grid.bytes(), component, grid.at_node(node)));
-        }
-    }
-    cases
+pub(super) fn nodes(name: &str, grid: &Grid) -> Vec<Case> {
+    (1..=16).map(|node| case(format!("{name}-node-{node}"), &grid.bytes(), grid.at_node(node))).collect()
 }
 
 /// The middles of the nine cells, row by row from the north.
-pub(super) fn middles(name: &str, grid: &Grid, components: &[u8]) -> Vec<Case> {
+pub(super) fn middles(name: &str, grid: &Grid) -> Vec<Case> {
     let [high, wide] = grid.spacing();
-    let mut cases = Vec::new();
-    for &component in components {
-        for cell in 0..9usize {
-            let northwest = grid.at_node(cell / 3 * 4 + cell % 3 + 1);
-            let name = format!("{name}-c{component}-cell-{}", cell + 1);
-            cases.push(case(name, &grid.bytes(), component, grid.moved(northwest, [-high / 2, wide / 2])));
-        }
-    }
-    cases
+    let middle = |cell: usize| grid.moved(grid.at_node(cell / 3 * 4 + cell % 3 + 1), [-high / 2, wide / 2]);
+    (0..9).map(|cell| case(format!("{name}-cell-{}", cell + 1), &grid.bytes(), middle(cell))).collect()
 }
 
 /// Every crossing of a row and a column by one step on either side, and the middles of the edges.
-pub(super) fn lines_and_corners(name: &str, grid: &Grid, component: u8) -> Vec<Case> {
+pub(super) fn lines_and_corners(name: &str, grid: &Grid) -> Vec<Case> {
     let [high, wide] = grid.spacing();
     let mut cases = Vec::new();
     for node in 1..=16 {
         let mut near = |name: String, steps: [i64; 2]| {
-            cases.push(case(name, &grid.bytes(), component, grid.moved(grid.at_node(node), steps)));
+            cases.push(case(name, &grid.bytes(), grid.moved(grid.at_node(node), steps)));
         };
         for (y, x) in (-1..=1).flat_map(|y| (-1..=1).map(move |x| (y, x))) {
             near(format!("{name}-near-{node}-n{}-e{}", word(y), word(x)), [y, x]);
@@ -183,14 +167,14 @@ fn halves(number: u16) -> Vec<Case> {
     for (word, sign) in [("plus", 1), ("minus", -1)] {
         let grid = Grid::of(number, [100, 200], [12, 12], [0, 0, 0], |_, node| sign * (node as i64 % 4));
         let wide = grid.spacing()[1];
-        for component in [0u8, 2] {
-            let parts = if number == 1023 && component == 0 { 6 } else { 20 };
+        let of_a_cell: &[i64] = if number == 1023 { &[6, 20] } else { &[20] };
+        for &parts in of_a_cell {
             for part in (1..parts).step_by(2) {
                 for step in -1..=1 {
                     let [north, east] = grid.at_node(5);
                     let at = [north, east + wide * part / parts + step];
-                    let name = format!("{number}-half-{word}-c{component}-{part}-e{}", self::word(step));
-                    cases.push(case(name, &grid.bytes(), component, at));
+                    let name = format!("{number}-half-{word}-{part}-of-{parts}-e{}", self::word(step));
+                    cases.push(case(name, &grid.bytes(), at));
                 }
             }
         }
@@ -208,137 +192,127 @@ fn halves_across_zero(number: u16) -> Vec<Case> {
         for step in -1..=1 {
             let [north, east] = grid.at_node(9);
             let at = [north, east + wide * part / 20 + step];
-            cases.push(case(format!("{number}-zero-{part}-e{}", word(step)), &grid.bytes(), 2, at));
+            cases.push(case(format!("{number}-zero-{part}-e{}", word(step)), &grid.bytes(), at));
         }
     }
     cases
 }
 
-/// Each node not available, asked for at the node, beside it, and at its neighbours.
+/// Each node of one component not available, asked for at the node, beside it, and at its neighbours.
 pub(super) fn absent_nodes(number: u16) -> Vec<(String, Call)> {
     let grid = Grid::of(number, [100, 200], [6, 8], [1, 2, 3], |component, node| 10 * component as i64 - node as i64);
     let [high, wide] = grid.spacing();
+    let around = [
+        ("at", [0, 0]),
+        ("north", [1, 0]),
+        ("south", [-1, 0]),
+        ("east", [0, 1]),
+        ("west", [0, -1]),
+        ("next-north", [high, 0]),
+        ("next-south", [-high, 0]),
+        ("next-east", [0, wide]),
+        ("next-west", [0, -wide]),
+        ("before-north", [high - 1, 0]),
+        ("before-east", [0, wide - 1]),
+        ("inside", [1 - high, wide - 1]),
+        ("edge", [-high, wide / 2]),
+    ];
     let mut calls = Vec::new();
     for node in 1..=16 {
-        let component = (node % 3) as u8;
-        let absent = grid.set_node(component as usize, node, None);
-        let mut call = |word: &str, component: u8, position: [i64; 2]| {
-            calls.push((format!("{number}-absent-{node}-{word}"), Call { grid: absent.clone(), component, position }));
-        };
+        let absent = grid.set_node(node % 3, node, None);
         let [north, east] = grid.at_node(node);
-        let around = [
-            ("at", [0, 0]),
-            ("north", [1, 0]),
-            ("south", [-1, 0]),
-            ("east", [0, 1]),
-            ("west", [0, -1]),
-            ("next-north", [high, 0]),
-            ("next-south", [-high, 0]),
-            ("next-east", [0, wide]),
-            ("next-west", [0, -wide]),
-            ("before-north", [high - 1, 0]),
-            ("before-east", [0, wide - 1]),
-            ("inside", [1 - high, wide - 1]),
-            ("edge", [-high, wide / 2]),
-        ];
         for (word, [y, x]) in around {
-            call(word, component, [north + y, east + x]);
+            let position = [north + y, east + x];
+            calls.push((format!("{number}-absent-{node}-{word}"), Call { grid: absent.clone(), position }));
         }
-        call("other", (component + 1) % 3, [north, east]);
     }
     calls
 }
 
-/// Each mean not available, asked for in every component.
+/// Each mean not available.
 pub(super) fn absent_means(number: u16) -> Vec<(String, Call)> {
-    let mut calls = Vec::new();
-    for mean in 0..3 {
-        for component in 0..3 {
-            let mut call = good_call(number, component);
-            call.grid = call.grid.set(call.grid.mean_field(mean), None);
-            calls.push((format!("{number}-absent-mean-{mean}-c{component}"), call));
-        }
-    }
-    calls
+    let good = good_call(number);
+    let call = |mean: usize| Call { grid: good.grid.set(good.grid.mean_field(mean), None), ..good.clone() };
+    (0..3).map(|mean| (format!("{number}-absent-mean-{mean}"), call(mean))).collect()
 }
 
-/// Each mean at its ends and at plus and minus one, nodes being zero, so that the mean's factor shows.
+/// Each mean at its ends and at plus and minus one, nodes being zero, and all nodes so, so that the factors show.
 fn mean_factors(number: u16) -> Vec<Case> {
+    let grid = Grid::of(number, [0, 500], [10, 10], [0, 0, 0], |_, _| 0);
     let mut cases = Vec::new();
     for component in 0..3 {
-        let grid = Grid::of(number, [0, 500], [10, 10], [0, 0, 0], |_, _| 0);
         let df = grid.mean_field(component);
         let most = crate::fields::by_df(df).greatest();
         for mean in [-most, -1, 0, 1, most] {
             let bytes = grid.set(df, mean).bytes();
-            cases.push(case(format!("{number}-mean-df{df}-{}", word(mean)), &bytes, component as u8, grid.origin()));
+            cases.push(case(format!("{number}-mean-df{df}-{}", word(mean)), &bytes, grid.origin()));
         }
-        for node in [-255, -1, 1, 255] {
-            let bytes = grid.set_nodes(|_, _| node).bytes();
-            let name = format!("{number}-node-df{}-{}", grid.node_field(component), word(node));
-            cases.push(case(name, &bytes, component as u8, grid.origin()));
-        }
+    }
+    for node in [-255, -1, 1, 255] {
+        let bytes = grid.set_nodes(|_, _| node).bytes();
+        cases.push(case(format!("{number}-nodes-{}", word(node)), &bytes, grid.origin()));
     }
     cases
 }
 
-/// Gives a call one more reason to be refused, by the refusal's number.
-fn with_reason(mut call: Call, refusal: u8) -> Call {
-    let vertical = call.component == 2;
+/// Gives a component of a call one more reason to be refused, by the refusal's number.
+fn with_reason(mut call: Call, component: usize, refusal: u8) -> Call {
+    let vertical = component == HEIGHT;
     let far = if call.grid.ellipsoidal() { 3_240_000_000 } else { 1_000_000_000_000 };
     match refusal {
-        8 => call.component = 3,
         9 => call.position[0] = far + 1,
         10 => call.grid = call.grid.set(if vertical { 191 } else { 190 }, 0),
         11 => call.grid = call.grid.set(if vertical { 213 } else { 212 }, 1),
         12 => call.grid = call.grid.set(call.grid.origin_fields()[0], None),
         13 => call.grid = call.grid.set(call.grid.spacing_fields()[1], 0),
         14 => call.position[1] = far,
-        _ => {
-            let df = call.grid.mean_field(call.component.min(2) as usize);
-            call.grid = call.grid.set(df, None);
-        }
+        _ => call.grid = call.grid.set(call.grid.mean_field(component), None),
     }
     call
 }
 
-/// A call that is answered.
-pub(super) fn good_call(number: u16, component: u8) -> Call {
+/// A call that is answered in all parts.
+pub(super) fn good_call(number: u16) -> Call {
     let grid = steep(number);
-    Call { component, position: grid.origin(), grid }
+    Call { position: grid.origin(), grid }
 }
 
-/// The refusals of a component, and single fields of the grid.
+/// The refusals of each component, and single fields of the grid.
 pub(super) fn pairs(number: u16) -> Vec<(String, Call)> {
-    let mut calls = Vec::new();
-    for component in 0..3 {
-        let good = good_call(number, component);
-        calls.extend(refusals(&number.to_string(), &good));
-        calls.extend(single_fields(number, &good));
-    }
+    let good = good_call(number);
+    let mut calls = refusals(&number.to_string(), &good);
+    calls.extend(single_fields(number, &good));
     calls
 }
 
-/// Each of refusals 8 to 15 alone and every pair of them, the later one being put in first, on a call that is answered.
+/// A call that is answered, and the reasons of refusals 9 to 15 for each component, alone and in pairs, the later first.
 fn refusals(name: &str, good: &Call) -> Vec<(String, Call)> {
-    let component = good.component;
-    let mut calls = Vec::new();
-    for first in 8..=15 {
-        calls.push((format!("{name}-refusal-{first}-c{component}"), with_reason(good.clone(), first)));
-        for second in first + 1..=15 {
-            let call = with_reason(with_reason(good.clone(), second), first);
-            calls.push((format!("{name}-refusals-{first}-{second}-c{component}"), call));
+    let mut calls = vec![(format!("{name}-answered"), good.clone())];
+    for component in 0..3 {
+        for first in 9..=15 {
+            let call = with_reason(good.clone(), component, first);
+            calls.push((format!("{name}-refusal-{first}-c{component}"), call));
+            for second in first + 1..=15 {
+                let call = with_reason(with_reason(good.clone(), component, second), component, first);
+                calls.push((format!("{name}-refusals-{first}-{second}-c{component}"), call));
+            }
         }
     }
-    calls
+    without_repeats(calls)
 }
 
-/// The cases of a message's refusals 8 to 15, alone and in pairs.
+/// The calls without those whose message and position stood before.
+fn without_repeats(calls: Vec<(String, Call)>) -> Vec<(String, Call)> {
+    let mut seen = HashSet::new();
+    calls.into_iter().filter(|(_, call)| seen.insert((call.grid.bytes(), call.position))).collect()
+}
+
+/// The cases of a message's refusals 9 to 15, alone and in pairs.
 pub(super) fn refusal_cases(name: &str, good: &Call) -> Vec<Case> {
     on_messages(refusals(name, good))
 }
 
-/// Indicators, methods, origins and spacings one by one, those of the other components included.
+/// Indicators, methods, origins and spacings one by one.
 fn single_fields(number: u16, good: &Call) -> Vec<(String, Call)> {
     let [north, east] = good.grid.origin_fields();
     let [high, wide] = good.grid.spacing_fields();
@@ -365,13 +339,12 @@ fn single_fields(number: u16, good: &Call) -> Vec<(String, Call)> {
         .iter()
         .map(|&(df, reading)| {
             let to = reading.map_or("none".to_string(), word);
-            let name = format!("{number}-c{}-df{df}-{to}", good.component);
-            (name, Call { grid: good.grid.set(df, reading), ..good.clone() })
+            (format!("{number}-df{df}-{to}"), Call { grid: good.grid.set(df, reading), ..good.clone() })
         })
         .collect()
 }
 
-/// Positions at the limits and at the ends of 64 bits, components 3 and 255, and grids that reach a limit.
+/// Positions at the limits and at the ends of 64 bits, and grids that reach a limit.
 fn limits(number: u16) -> Vec<Case> {
     let bytes = steep(number).bytes();
     let [far_north, far_east] = if number == 1023 { [3_240_000_000i64, 6_480_000_000] } else { [1_000_000_000_000; 2] };
@@ -386,14 +359,10 @@ fn limits(number: u16) -> Vec<Case> {
                 _ if value == i64::MIN + 1 => "least-and-one".to_string(),
                 _ => word(value),
             };
-            cases.push(case(format!("{number}-limit-{axis}-{text}"), &bytes, 2, at));
+            cases.push(case(format!("{number}-limit-{axis}-{text}"), &bytes, at));
         }
     }
-    for component in [3, 4, 127, 128, 255] {
-        cases.push(case(format!("{number}-component-{component}"), &bytes, component, steep(number).origin()));
-        let ends = [i64::MIN, i64::MAX];
-        cases.push(case(format!("{number}-component-{component}-far"), &bytes, component, ends));
-    }
+    cases.push(case(format!("{number}-limit-both-ends"), &bytes, [i64::MIN, i64::MAX]));
     cases.extend(grids_at_limits(number, far_north, far_east));
     cases
 }
@@ -423,7 +392,7 @@ fn grids_at_limits(number: u16, far_north: i64, far_east: i64) -> Vec<Case> {
             ("other-side", [north, -east]),
         ];
         for (word, position) in at {
-            cases.push(case(format!("{number}-end-{i}-{word}"), &grid.bytes(), 1, position));
+            cases.push(case(format!("{number}-end-{i}-{word}"), &grid.bytes(), position));
         }
     }
     cases
@@ -437,19 +406,19 @@ fn widest(number: u16) -> Vec<Case> {
         let grid = Grid::of(number, [1, 2], [4_095, 4_095], [0, 0, 0], |_, _| node);
         for i in 0..12 {
             let position = random_position(&mut random, &grid);
-            cases.push(case(format!("{number}-widest-{word}-{i}"), &grid.bytes(), (i % 3) as u8, position));
+            cases.push(case(format!("{number}-widest-{word}-{i}"), &grid.bytes(), position));
         }
     }
     let mixed = Grid::of(number, [1, 2], [4_095, 4_095], [0, 0, 0], |_, node| if node % 3 == 0 { 255 } else { -255 });
     for i in 0..24 {
         let position = random_position(&mut random, &mixed);
-        cases.push(case(format!("{number}-widest-mixed-{i}"), &mixed.bytes(), (i % 3) as u8, position));
+        cases.push(case(format!("{number}-widest-mixed-{i}"), &mixed.bytes(), position));
     }
     cases
 }
 
 /// A position inside a grid or a little outside.
-pub(super) fn random_position(random: &mut Random, grid: &Grid) -> [i64; 2] {
+pub fn random_position(random: &mut Random, grid: &Grid) -> [i64; 2] {
     let [high, wide] = grid.spacing();
     let off = |random: &mut Random, spacing: i64| match random.below(6) {
         0 => spacing / 2 * random.within(-3, 3),
@@ -466,9 +435,9 @@ fn random_grids(number: u16) -> Vec<Case> {
     let mut cases = Vec::new();
     for i in 0..70 {
         let grid = random_grid(&mut random, number);
-        for component in 0..3 {
+        for place in 1..=3 {
             let position = random_position(&mut random, &grid);
-            cases.push(case(format!("{number}-grid-{i}-c{component}"), &grid.bytes(), component, position));
+            cases.push(case(format!("{number}-grid-{i}-at-{place}"), &grid.bytes(), position));
         }
     }
     cases
@@ -495,14 +464,13 @@ pub fn random_grid(random: &mut Random, number: u16) -> Grid {
     })
 }
 
-/// Messages of other numbers, refused messages, and both together with bad components and positions.
+/// Messages of other numbers, refused messages, and both together with bad positions.
 fn other_messages() -> Vec<Case> {
     let mut cases = Vec::new();
     for number in [1021, 1022, 1025, 1026, 1027] {
         let bytes = Sample::usual(number).bytes();
-        cases.push(case(format!("shift-kind-{number}"), &bytes, 0, [0, 0]));
-        cases.push(case(format!("shift-kind-{number}-component"), &bytes, 3, [0, 0]));
-        cases.push(case(format!("shift-kind-{number}-position"), &bytes, 2, [i64::MAX, i64::MIN]));
+        cases.push(case(format!("shift-kind-{number}"), &bytes, [0, 0]));
+        cases.push(case(format!("shift-kind-{number}-position"), &bytes, [i64::MAX, i64::MIN]));
     }
     let grid = steep(1023);
     let sound = grid.bytes();
@@ -517,9 +485,8 @@ fn other_messages() -> Vec<Case> {
         ("range", grid.set(192, 648_001).bytes()),
     ];
     for (word, bytes) in refused {
-        cases.push(case(format!("shift-{word}"), &bytes, 2, grid.origin()));
-        cases.push(case(format!("shift-{word}-component"), &bytes, 9, grid.origin()));
-        cases.push(case(format!("shift-{word}-position"), &bytes, 1, [i64::MIN, 0]));
+        cases.push(case(format!("shift-{word}"), &bytes, grid.origin()));
+        cases.push(case(format!("shift-{word}-position"), &bytes, [i64::MIN, 0]));
     }
     cases
 }
@@ -538,10 +505,7 @@ fn service_grids() -> Vec<Case> {
                 middle = sound.origin();
                 cases.extend(service_positions(letter, &sound, &mut random));
             }
-            for component in 0..3 {
-                let name = format!("service-{letter}-{}-c{component}", file.name);
-                cases.push(case(name, &file.bytes, component, middle));
-            }
+            cases.push(case(format!("service-{letter}-{}-middle", file.name), &file.bytes, middle));
         }
     }
     cases
@@ -556,10 +520,10 @@ fn grid_of(bytes: &[u8]) -> Grid {
 
 /// Sixteen nodes and random positions of one service's grid.
 fn service_positions(letter: &str, grid: &Grid, random: &mut Random) -> Vec<Case> {
-    let mut cases = nodes(&format!("service-{letter}"), grid, &[0, 1, 2]);
+    let mut cases = nodes(&format!("service-{letter}"), grid);
     for i in 0..20 {
         let position = random_position(random, grid);
-        cases.push(case(format!("service-{letter}-at-{i}"), &grid.bytes(), (i % 3) as u8, position));
+        cases.push(case(format!("service-{letter}-at-{i}"), &grid.bytes(), position));
     }
     cases
 }

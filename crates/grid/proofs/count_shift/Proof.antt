@@ -8,10 +8,9 @@ use mir.Syntax.{w64}
 use mir.Val.{toZ, ofZ}
 use Rattle.arith.proofs.Back.{held}
 use Rattle.arith.proofs.Machine.{Num, lit, arg, mul, fits, is-back}
-use Rattle.cell.specs.Cell.{countIn}
+use Rattle.cell.specs.Cell.{countBy}
 use Rattle.grid.specs.Shift.{nodeFactor, answerOf, outcome}
 use Rattle.grid.specs.Private.{countAt}
-use Rattle.grid.specs.declared.Located.{Located}
 use Rattle.grid.proofs.Parts.{count-most}
 use Rattle.grid.proofs.count_shift.Statement.{statement}
 use Rattle.grid.proofs.count_shift.Tie as tie
@@ -20,21 +19,18 @@ use Rattle.grid.proofs.count_shift.Tie as tie
 abbrev means : tie.Start → Num
 means s = mul (lit 100 tt) (arg (s .args .mean) 16384 (s .pre .mean) tt) tt
 
-module _ (k : tie.After-count-in) where
+module _ (k : tie.After-count-by) where
   abbrev s : tie.Start
   s = k .before .before
-
-  abbrev p : Located
-  p = s .args .p
 
   factor : k .before .factor-of .result ≡ nodeFactor (s .args .number) (s .args .component)
   factor = k .before .factor-of .ensures ∙ ap (λ (z : ℤ). nodeFactor z (s .args .component)) (is-back (s .fits .number))
 
-  count : toZ w64 (ofZ w64 (k .count-in .result)) ≡ countAt (s .args .number) (s .args .component) (s .args .mean) (s .args .n) p
+  count : toZ w64 (ofZ w64 (k .count-by .result)) ≡ countAt (s .args .number) (s .args .component) (s .args .mean) (s .args .n) (s .args .k)
   count =
-      held (k .count-in .result) (k .count-in .ok)
-      ∙ k .count-in .ensures
-      ∙ (λ i. countIn (means s .held i) (factor i) (s .args .n) (p .height) (p .width) (p .north) (p .east))
+      held (k .count-by .result) (k .count-by .ok)
+      ∙ k .count-by .ensures
+      ∙ (λ i. countBy (means s .held i) (factor i) (s .args .n) (s .args .k))
 
 answer-of-requires : tie.Need-answer-of-requires
 answer-of-requires k κs =

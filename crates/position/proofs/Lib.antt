@@ -1,0 +1,3 @@
+pub mod Antimeridian
+pub mod Places
+pub mod Held
