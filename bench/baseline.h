@@ -31,8 +31,8 @@ typedef struct {
                         tarnoklej_shifts *shifts);
     /* The shift of one component: in plain C without the others, of the library that part of the three. */
     shift (*one_shift)(const uint8_t *message, size_t length, uint8_t component, int64_t north, int64_t east);
-    uint8_t (*store)(uint8_t *table, size_t size, const uint8_t *message, size_t length);
-    tarnoklej_found (*find)(const uint8_t *table, size_t size, uint8_t sin, uint8_t group);
+    uint8_t (*store)(uint8_t *table, size_t size, uint8_t owner, const uint8_t *message, size_t length);
+    tarnoklej_found (*find)(const uint8_t *table, size_t size, uint8_t owner, uint8_t sin, uint8_t group);
     tarnoklej_frame (*find_frame)(const uint8_t *bytes, size_t size, size_t from);
     tarnoklej_written (*write_frame)(const uint8_t *message, size_t length, uint8_t *out, size_t room);
 } baseline;

@@ -195,17 +195,24 @@ static int same_one_shift(const baseline *by, size_t turn, size_t size)
     return one.refusal == other.refusal && one.count == other.count;
 }
 
+/* The owner of the message of a system identification number: by turns 1 and 2. */
+static uint8_t owner_of(size_t sin)
+{
+    return (uint8_t)(1 + sin % 2);
+}
+
 static uint64_t run_find(const baseline *by, size_t turn, size_t size)
 {
-    tarnoklej_found found = by->find(table, sizeof table, (uint8_t)(turn % size), TARNOKLEJ_GRID);
+    size_t sin = turn % size;
+    tarnoklej_found found = by->find(table, sizeof table, owner_of(sin), (uint8_t)sin, TARNOKLEJ_GRID);
     return found.refusal + found.at + found.length;
 }
 
 static int same_find(const baseline *by, size_t turn, size_t size)
 {
     uint8_t sin = (uint8_t)(turn % size);
-    tarnoklej_found one = LIBRARY.find(table, sizeof table, sin, TARNOKLEJ_GRID);
-    tarnoklej_found other = by->find(table, sizeof table, sin, TARNOKLEJ_GRID);
+    tarnoklej_found one = LIBRARY.find(table, sizeof table, owner_of(sin), sin, TARNOKLEJ_GRID);
+    tarnoklej_found other = by->find(table, sizeof table, owner_of(sin), sin, TARNOKLEJ_GRID);
     return one.refusal == other.refusal && one.at == other.at && one.length == other.length;
 }
 
@@ -217,7 +224,8 @@ static const uint8_t *stored_in(size_t turn, size_t size)
 
 static uint64_t run_store(const baseline *by, size_t turn, size_t size)
 {
-    return by->store(table, sizeof table, stored_in(turn, size), BYTES) + table[turn % sizeof table];
+    uint8_t refusal = by->store(table, sizeof table, owner_of(turn % size), stored_in(turn, size), BYTES);
+    return refusal + table[turn % sizeof table];
 }
 
 /* The store must also change the table. */
@@ -226,8 +234,9 @@ static int same_store(const baseline *by, size_t turn, size_t size)
     uint8_t before[TARNOKLEJ_TABLE_SIZE], other[TARNOKLEJ_TABLE_SIZE];
     memcpy(before, table, sizeof table);
     memcpy(other, table, sizeof table);
-    uint8_t refusal = LIBRARY.store(table, sizeof table, stored_in(turn, size), BYTES);
-    return refusal == by->store(other, sizeof other, stored_in(turn, size), BYTES) &&
+    uint8_t owner = owner_of(turn % size);
+    uint8_t refusal = LIBRARY.store(table, sizeof table, owner, stored_in(turn, size), BYTES);
+    return refusal == by->store(other, sizeof other, owner, stored_in(turn, size), BYTES) &&
            memcmp(table, other, sizeof table) == 0 && memcmp(table, before, sizeof table) != 0;
 }
 
@@ -331,7 +340,7 @@ static void fill_table(size_t slots)
 {
     memset(table, 0, sizeof table);
     for (size_t i = 0; i < slots; i++)
-        if (tarnoklej_store(table, sizeof table, inputs[i].message, BYTES) != TARNOKLEJ_DONE)
+        if (tarnoklej_store(table, sizeof table, owner_of(i), inputs[i].message, BYTES) != TARNOKLEJ_DONE)
             stop("a message was refused", "table");
 }
 

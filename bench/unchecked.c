@@ -2,45 +2,54 @@
 #include <string.h>
 #include "baseline.h"
 
-/* The first slot of a system identification number, 256 asking for a free one, or no slot. */
-static int slot_of(const uint8_t *table, unsigned sin)
+/* The first slot of an owner and a system identification number, owner 0 asking for a free one, or no slot. */
+static int slot_of(const uint8_t *table, uint8_t owner, unsigned sin)
 {
     for (int slot = 0; slot < TARNOKLEJ_SLOTS; slot++) {
         const uint8_t *bytes = table + slot * TARNOKLEJ_SLOT_SIZE;
-        unsigned held = bytes[0] == 0 ? 256u : (bytes[2] << 4 & 0xf0u) | bytes[3] >> 4;
-        if (held == sin)
+        if (bytes[0] == owner && ((bytes[3] << 4 & 0xf0u) | bytes[4] >> 4) == sin)
             return slot;
     }
     return -1;
 }
 
+/* How many slots an owner holds. */
+static int slots_of(const uint8_t *table, uint8_t owner)
+{
+    int slots = 0;
+    for (int slot = 0; slot < TARNOKLEJ_SLOTS; slot++)
+        slots += table[slot * TARNOKLEJ_SLOT_SIZE] == owner;
+    return slots;
+}
+
 /* Stores a message in a table that is taken to be well formed. */
-static uint8_t store(uint8_t *table, size_t size, const uint8_t *message, size_t length)
+static uint8_t store(uint8_t *table, size_t size, uint8_t owner, const uint8_t *message, size_t length)
 {
     (void)size;
-    int slot = slot_of(table, (message[1] << 4 & 0xf0u) | message[2] >> 4);
-    if (slot < 0)
-        slot = slot_of(table, 256);
+    int slot = slot_of(table, owner, (message[1] << 4 & 0xf0u) | message[2] >> 4);
+    if (slot < 0 && slots_of(table, owner) < TARNOKLEJ_OWNER_SLOTS)
+        slot = slot_of(table, 0, 0);
     if (slot < 0)
         return TARNOKLEJ_FULL;
     uint8_t *bytes = table + slot * TARNOKLEJ_SLOT_SIZE;
     memset(bytes, 0, TARNOKLEJ_SLOT_SIZE);
-    bytes[0] = (uint8_t)length;
-    memcpy(bytes + 1, message, length);
+    bytes[0] = owner;
+    bytes[1] = (uint8_t)length;
+    memcpy(bytes + 2, message, length);
     return TARNOKLEJ_DONE;
 }
 
 /* Finds a message in a table that is taken to be well formed. */
-static tarnoklej_found find(const uint8_t *table, size_t size, uint8_t sin, uint8_t group)
+static tarnoklej_found find(const uint8_t *table, size_t size, uint8_t owner, uint8_t sin, uint8_t group)
 {
     (void)size;
     tarnoklej_found found = {TARNOKLEJ_NONE, 0, 0};
-    int slot = group == TARNOKLEJ_GRID ? slot_of(table, sin) : -1;
+    int slot = group == TARNOKLEJ_GRID ? slot_of(table, owner, sin) : -1;
     if (slot < 0)
         return found;
     found.refusal = TARNOKLEJ_DONE;
-    found.at = (size_t)slot * TARNOKLEJ_SLOT_SIZE + 1;
-    found.length = table[slot * TARNOKLEJ_SLOT_SIZE];
+    found.at = (size_t)slot * TARNOKLEJ_SLOT_SIZE + 2;
+    found.length = table[slot * TARNOKLEJ_SLOT_SIZE + 1];
     return found;
 }
 

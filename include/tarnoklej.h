@@ -37,18 +37,20 @@ enum {
     TARNOKLEJ_SPACING = 13,   /* a spacing is 0 */
     TARNOKLEJ_OUTSIDE = 14,   /* the position is not on or within the grid's outer rectangle */
     TARNOKLEJ_ABSENT = 15,    /* the mean, or a node of non-zero weight, has no value */
-    TARNOKLEJ_FULL = 16,      /* no slot of that key and no free slot */
-    TARNOKLEJ_NONE = 17,      /* no such key, or group not 0 to 2 */
-    TARNOKLEJ_TABLE = 18,     /* the table has a wrong size or is not well formed */
+    TARNOKLEJ_FULL = 16,      /* the key is new to the owner, who holds 20 slots or finds no slot free */
+    TARNOKLEJ_NONE = 17,      /* no such key of the owner, or group not 0 to 2 */
+    TARNOKLEJ_TABLE = 18,     /* the table has a wrong size or is not well formed, see tarnoklej_store */
     TARNOKLEJ_NEED = 19,      /* an unfinished frame calls for bytes that have not arrived */
-    TARNOKLEJ_NOFRAME = 20    /* neither a frame nor an unfinished one, or a start past the end */
+    TARNOKLEJ_NOFRAME = 20,   /* neither a frame nor an unfinished one, or a start past the end */
+    TARNOKLEJ_OWNER = 21      /* an owner other than 1 or 2 */
 };
 
 /* Sizes. */
 enum {
-    TARNOKLEJ_TABLE_SIZE = 4096, /* bytes of a table; 4,096 zeros are an empty table */
+    TARNOKLEJ_TABLE_SIZE = 4224, /* bytes of a table; 4,224 zeros are an empty table */
     TARNOKLEJ_SLOTS = 32,        /* messages that a table holds */
-    TARNOKLEJ_SLOT_SIZE = 128,   /* bytes of a slot: a length byte, a message, zeros */
+    TARNOKLEJ_OWNER_SLOTS = 20,  /* slots that an owner holds at most, so that 12 are always there for the other */
+    TARNOKLEJ_SLOT_SIZE = 132,   /* bytes of a slot: owner, length, 127 message bytes, three zeros */
     TARNOKLEJ_MOST_BYTES = 127,  /* bytes of the longest message, a 1022 of two names of 31 characters */
     TARNOKLEJ_MOST_FIELDS = 90,  /* fields of the longest row, of the same message */
     TARNOKLEJ_FRAME_HEAD = 3,    /* bytes of a frame before its message: D3, six zero bits, a ten-bit length */
@@ -150,26 +152,32 @@ tarnoklej_frame tarnoklej_find_frame(const uint8_t *bytes, size_t size, size_t f
  */
 tarnoklej_written tarnoklej_write_frame(const uint8_t *message, size_t message_length, uint8_t *out, size_t room);
 
-/* Stores a message under its key, system identification number and group: in the slot of that key, otherwise in the
- * first free slot.
- * Refusals in order: TABLE, SHORT, NUMBER, LENGTH, FILL, RANGE, FULL.
- * Buffers: message is only read and must not lie in the table; the slot holds the message and zeros behind it, and
- * the other slots keep their bytes; with a refusal all of the table keeps its bytes.
+/* Stores a message for owner 1 or 2 under its key, that is owner, system identification number and group: in the slot
+ * of that key, otherwise in the first free slot.
+ * Two owners share a table, and the same system identification number and group may stand once for each. No call by one
+ * owner shows, replaces or removes a message of the other. Whatever the other owner does, a key is refused with FULL
+ * only where its owner holds 12 keys or more.
+ * A slot is free where all of its bytes are zero. A used one is an owner byte, 1 or 2, a length byte, an accepted
+ * message of that length, and zeros. A table is well formed where every slot is free or used so, no key stands twice,
+ * and no owner holds more than 20 slots.
+ * Refusals in order: TABLE, OWNER, SHORT, NUMBER, LENGTH, FILL, RANGE, FULL.
+ * Buffers: message is only read and must not lie in the table; the slot holds owner, length, message and zeros behind
+ * it, and the other slots keep their bytes; with a refusal all of the table keeps its bytes.
  */
-uint8_t tarnoklej_store(uint8_t *table, size_t size, const uint8_t *message, size_t message_length);
+uint8_t tarnoklej_store(uint8_t *table, size_t size, uint8_t owner, const uint8_t *message, size_t message_length);
 
-/* Gives where the message of a key stands in the table: at is the place of its first byte, length its bytes.
- * Refusals in order: TABLE, NONE.
+/* Gives where the message of an owner's key stands in the table: at is the place of its first byte, length its bytes.
+ * Refusals in order: TABLE, OWNER, NONE.
  * Buffers: table is only read.
  */
-tarnoklej_found tarnoklej_find(const uint8_t *table, size_t size, uint8_t sin, uint8_t group);
+tarnoklej_found tarnoklej_find(const uint8_t *table, size_t size, uint8_t owner, uint8_t sin, uint8_t group);
 
-/* Removes the message of a key.
- * Refusals in order: TABLE, NONE.
+/* Removes the message of an owner's key.
+ * Refusals in order: TABLE, OWNER, NONE.
  * Buffers: the slot of the key is all zero and the other slots keep their bytes; with a refusal all of the table
  * keeps its bytes.
  */
-uint8_t tarnoklej_remove(uint8_t *table, size_t size, uint8_t sin, uint8_t group);
+uint8_t tarnoklej_remove(uint8_t *table, size_t size, uint8_t owner, uint8_t sin, uint8_t group);
 
 /* Positions in a row by DF number: position, field, type, resolution, name.
  * N is the value at position 1, M the value at position 2+N; i is 0 to 15 for nodes 1 to 16.

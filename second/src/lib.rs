@@ -1,7 +1,7 @@
 //! An independent second program for RTCM messages 1021 to 1027.
 //!
-//! It is written from document 01, from requests A1, A2, A3 and A5 of document 02, from source documents 000, 003 and 004, and from
-//! docs/DECISIONS.md where these leave a choice. It shares no code with the proved library.
+//! It is written from document 01, from requests A1, A2, A3, A5, A7 and A8 of document 02, from source documents 000, 003
+//! and 004, and from docs/DECISIONS.md where these leave a choice. It shares no code with the proved library.
 
 pub mod bits;
 pub mod damage;
@@ -13,6 +13,7 @@ pub mod frames;
 pub mod grid;
 pub mod gridsamples;
 pub mod hex;
+pub mod history;
 pub mod layouts;
 pub mod message;
 pub mod page;

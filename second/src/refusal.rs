@@ -33,16 +33,18 @@ pub enum Refusal {
     Outside = 14,
     /// The mean, or a node of non-zero weight, is not available.
     Absent = 15,
-    /// No slot of that key and no free slot.
+    /// A key that is new to the owner, who holds 20 slots or finds no slot free.
     Full = 16,
     /// No such key, or group not 0 to 2.
     None = 17,
-    /// Wrong size or not well formed.
+    /// Wrong size or not well formed, an owner with more than 20 slots included.
     Table = 18,
     /// An unfinished frame calls for bytes that have not arrived.
     Need = 19,
     /// Neither a frame nor an unfinished one.
     NoFrame = 20,
+    /// An owner other than 1 or 2.
+    Owner = 21,
 }
 
 impl Refusal {

@@ -99,10 +99,10 @@ extern "C" {
     pub fn tarnoklej_find_frame(bytes: *const u8, size: usize, from: usize) -> Frame;
     /// Writes the frame of a message.
     pub fn tarnoklej_write_frame(message: *const u8, message_length: usize, out: *mut u8, room: usize) -> Written;
-    /// Stores a message under its key.
-    pub fn tarnoklej_store(table: *mut u8, size: usize, message: *const u8, message_length: usize) -> u8;
-    /// Gives where the message of a key stands in the table.
-    pub fn tarnoklej_find(table: *const u8, size: usize, sin: u8, group: u8) -> Found;
-    /// Removes the message of a key.
-    pub fn tarnoklej_remove(table: *mut u8, size: usize, sin: u8, group: u8) -> u8;
+    /// Stores an owner's message under its key.
+    pub fn tarnoklej_store(table: *mut u8, size: usize, owner: u8, message: *const u8, message_length: usize) -> u8;
+    /// Gives where the message of an owner's key stands in the table.
+    pub fn tarnoklej_find(table: *const u8, size: usize, owner: u8, sin: u8, group: u8) -> Found;
+    /// Removes the message of an owner's key.
+    pub fn tarnoklej_remove(table: *mut u8, size: usize, owner: u8, sin: u8, group: u8) -> u8;
 }

@@ -5,6 +5,7 @@
 //! A row holds the fields of a message in wire order, DF002 first; a field is a value, or `None` where it is not available.
 //! Only fields of type intN can be `None`. A name is its counter and then its characters, one field each.
 //! include/tarnoklej.h lists the positions of the data fields in a row.
+//! Two owners, numbers 1 and 2, share a table; no call by one shows, replaces or removes a message of the other.
 
 pub mod ffi;
 mod frames;
@@ -13,10 +14,14 @@ mod refusal;
 pub use frames::{find_frame, frames, write_frame, Frame, Frames, Missing, FRAME_HEAD, FRAME_TAIL, MOST_FRAMED};
 pub use refusal::{NotARefusal, Refusal};
 
-/// The bytes of a table; 4,096 zeros are an empty table.
-pub const TABLE_SIZE: usize = 4_096;
+/// The bytes of a table; 4,224 zeros are an empty table.
+pub const TABLE_SIZE: usize = 4_224;
 /// The messages that a table holds.
 pub const SLOTS: usize = 32;
+/// The slots that an owner holds at most, so that 12 are always there for the other.
+pub const OWNER_SLOTS: usize = 20;
+/// The bytes of a slot: owner, length, 127 message bytes, three zeros.
+pub const SLOT_SIZE: usize = 132;
 /// The bytes of the longest message, a 1022 of two names of 31 characters.
 pub const MOST_BYTES: usize = 127;
 /// The fields of the longest row, of the same message.
@@ -80,7 +85,7 @@ pub struct Found<'table> {
 fn done(refusal: u8) -> Result<(), Refusal> {
     match refusal {
         0 => Ok(()),
-        number => Err(Refusal::try_from(number).expect("the library gives 0 to 20")),
+        number => Err(Refusal::try_from(number).expect("the library gives 0 to 21")),
     }
 }
 
@@ -265,9 +270,12 @@ pub fn shifts_at(message: &[u8], north: i64, east: i64) -> Shifts {
     }
 }
 
-/// Stores a message under its key, system identification number and group, in a table.
+/// Stores an owner's message under its key, that is owner, system identification number and group, in a table.
 ///
-/// Refusals: TABLE, SHORT, NUMBER, LENGTH, FILL, RANGE, FULL; with a refusal the table stays as it was.
+/// FULL is given exactly where the key is new to the owner and the owner holds [`OWNER_SLOTS`] or no slot is free.
+/// While an owner holds fewer than 12 keys it never gets it, whatever the other owner does.
+///
+/// Refusals: TABLE, OWNER, SHORT, NUMBER, LENGTH, FILL, RANGE, FULL; with a refusal the table stays as it was.
 ///
 /// ```
 /// use tarnoklej::{store, Refusal, TABLE_SIZE};
@@ -275,18 +283,19 @@ pub fn shifts_at(message: &[u8], north: i64, east: i64) -> Shifts {
 /// let mut message = vec![0x40, 0x10, 0x50];
 /// message.resize(25, 0);
 /// let mut table = [0; TABLE_SIZE];
-/// assert_eq!(store(&mut table, &message), Ok(()));
-/// assert_eq!(table[..4], [25, 0x40, 0x10, 0x50]);
-/// assert_eq!(store(&mut table[1..], &message), Err(Refusal::Table));
+/// assert_eq!(store(&mut table, 2, &message), Ok(()));
+/// assert_eq!(table[..5], [2, 25, 0x40, 0x10, 0x50]);
+/// assert_eq!(store(&mut table, 3, &message), Err(Refusal::Owner));
+/// assert_eq!(store(&mut table[1..], 3, &message), Err(Refusal::Table));
 /// ```
-pub fn store(table: &mut [u8], message: &[u8]) -> Result<(), Refusal> {
+pub fn store(table: &mut [u8], owner: u8, message: &[u8]) -> Result<(), Refusal> {
     // SAFETY: both pointers and lengths are those of slices, and a slice lent for writing overlaps no other.
-    done(unsafe { ffi::tarnoklej_store(table.as_mut_ptr(), table.len(), message.as_ptr(), message.len()) })
+    done(unsafe { ffi::tarnoklej_store(table.as_mut_ptr(), table.len(), owner, message.as_ptr(), message.len()) })
 }
 
-/// Gives the message of a key as the part of the table where it stands.
+/// Gives the message of an owner's key as the part of the table where it stands.
 ///
-/// Refusals: TABLE, NONE.
+/// Refusals: TABLE, OWNER, NONE.
 ///
 /// ```
 /// use tarnoklej::{find, store, Refusal, PROJECTION, TABLE_SIZE, TRANSFORMATION};
@@ -294,23 +303,24 @@ pub fn store(table: &mut [u8], message: &[u8]) -> Result<(), Refusal> {
 /// let mut message = vec![0x40, 0x10, 0x50];
 /// message.resize(25, 0);
 /// let mut table = [0; TABLE_SIZE];
-/// store(&mut table, &message)?;
-/// let found = find(&table, 5, PROJECTION)?;
-/// assert_eq!(found.at, 1);
+/// store(&mut table, 1, &message)?;
+/// let found = find(&table, 1, 5, PROJECTION)?;
+/// assert_eq!(found.at, 2);
 /// assert_eq!(found.message, message);
-/// assert_eq!(find(&table, 5, TRANSFORMATION), Err(Refusal::None));
+/// assert_eq!(find(&table, 1, 5, TRANSFORMATION), Err(Refusal::None));
+/// assert_eq!(find(&table, 2, 5, PROJECTION), Err(Refusal::None));
 /// # Ok::<(), Refusal>(())
 /// ```
-pub fn find(table: &[u8], sin: u8, group: u8) -> Result<Found<'_>, Refusal> {
+pub fn find(table: &[u8], owner: u8, sin: u8, group: u8) -> Result<Found<'_>, Refusal> {
     // SAFETY: the pointer and the length are those of a slice, which the call only reads.
-    let found = unsafe { ffi::tarnoklej_find(table.as_ptr(), table.len(), sin, group) };
+    let found = unsafe { ffi::tarnoklej_find(table.as_ptr(), table.len(), owner, sin, group) };
     done(found.refusal)?;
     Ok(Found { at: found.at, message: &table[found.at..found.at + found.length] })
 }
 
-/// Removes the message of a key from a table.
+/// Removes the message of an owner's key from a table.
 ///
-/// Refusals: TABLE, NONE; with a refusal the table stays as it was.
+/// Refusals: TABLE, OWNER, NONE; with a refusal the table stays as it was.
 ///
 /// ```
 /// use tarnoklej::{remove, store, Refusal, PROJECTION, TABLE_SIZE};
@@ -318,13 +328,14 @@ pub fn find(table: &[u8], sin: u8, group: u8) -> Result<Found<'_>, Refusal> {
 /// let mut message = vec![0x40, 0x10, 0x50];
 /// message.resize(25, 0);
 /// let mut table = [0; TABLE_SIZE];
-/// store(&mut table, &message)?;
-/// assert_eq!(remove(&mut table, 5, PROJECTION), Ok(()));
+/// store(&mut table, 1, &message)?;
+/// assert_eq!(remove(&mut table, 2, 5, PROJECTION), Err(Refusal::None));
+/// assert_eq!(remove(&mut table, 1, 5, PROJECTION), Ok(()));
 /// assert_eq!(table, [0; TABLE_SIZE]);
-/// assert_eq!(remove(&mut table, 5, PROJECTION), Err(Refusal::None));
+/// assert_eq!(remove(&mut table, 1, 5, PROJECTION), Err(Refusal::None));
 /// # Ok::<(), Refusal>(())
 /// ```
-pub fn remove(table: &mut [u8], sin: u8, group: u8) -> Result<(), Refusal> {
+pub fn remove(table: &mut [u8], owner: u8, sin: u8, group: u8) -> Result<(), Refusal> {
     // SAFETY: the pointer and the length are those of a slice lent for writing.
-    done(unsafe { ffi::tarnoklej_remove(table.as_mut_ptr(), table.len(), sin, group) })
+    done(unsafe { ffi::tarnoklej_remove(table.as_mut_ptr(), table.len(), owner, sin, group) })
 }

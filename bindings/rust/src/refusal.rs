@@ -36,25 +36,27 @@ pub enum Refusal {
     Outside = 14,
     /// The mean, or a node of non-zero weight, has no value.
     Absent = 15,
-    /// No slot of that key and no free slot.
+    /// The key is new to the owner, who holds 20 slots or finds no slot free.
     Full = 16,
-    /// No such key, or group not 0 to 2.
+    /// No such key of the owner, or group not 0 to 2.
     None = 17,
-    /// The table has a wrong size or is not well formed.
+    /// The table has a wrong size or is not well formed, an owner with more than 20 slots included.
     Table = 18,
     /// An unfinished frame calls for bytes that have not arrived.
     Need = 19,
     /// Neither a frame nor an unfinished one, or a start past the end.
     NoFrame = 20,
+    /// An owner other than 1 or 2.
+    Owner = 21,
 }
 
-/// A number that is no refusal: 0, which is done, or above 20.
+/// A number that is no refusal: 0, which is done, or above 21.
 #[derive(Clone, Copy, PartialEq, Eq, Debug)]
 pub struct NotARefusal(pub u8);
 
 impl Refusal {
     /// All refusals with the names of documents 01 and 02, in the order of their numbers.
-    pub const ALL: [(Refusal, &'static str); 20] = [
+    pub const ALL: [(Refusal, &'static str); 21] = [
         (Refusal::Short, "SHORT"),
         (Refusal::Number, "NUMBER"),
         (Refusal::Length, "LENGTH"),
@@ -75,9 +77,10 @@ impl Refusal {
         (Refusal::Table, "TABLE"),
         (Refusal::Need, "NEED"),
         (Refusal::NoFrame, "NOFRAME"),
+        (Refusal::Owner, "OWNER"),
     ];
 
-    /// The refusal's number, 1 to 20.
+    /// The refusal's number, 1 to 21.
     pub fn number(self) -> u8 {
         self as u8
     }
@@ -91,7 +94,7 @@ impl Refusal {
 impl TryFrom<u8> for Refusal {
     type Error = NotARefusal;
 
-    /// The refusal of a number from 1 to 20.
+    /// The refusal of a number from 1 to 21.
     fn try_from(number: u8) -> Result<Self, NotARefusal> {
         let place = (number as usize).checked_sub(1).ok_or(NotARefusal(number))?;
         Refusal::ALL.get(place).map(|entry| entry.0).ok_or(NotARefusal(number))

@@ -70,7 +70,7 @@ fn every_refusal_has_its_number_and_name() {
         assert_eq!(refusal.to_string(), name);
         assert_eq!(format!("{refusal:?}").to_uppercase(), name);
     }
-    for number in (21..=255).chain([0]) {
+    for number in (22..=255).chain([0]) {
         assert_eq!(Refusal::try_from(number), Err(NotARefusal(number)));
     }
 }
@@ -80,8 +80,17 @@ fn the_header_names_the_same_numbers() {
     let text = std::fs::read_to_string(in_repository("include/tarnoklej.h")).expect("the header");
     let starts: Vec<String> =
         text.lines().map(|line| line.split([',', '/']).next().unwrap_or("").trim().to_string()).collect();
-    for (refusal, name) in Refusal::ALL {
-        let line = format!("TARNOKLEJ_{name} = {}", refusal.number());
+    let sizes = [
+        ("TABLE_SIZE", TABLE_SIZE),
+        ("SLOTS", SLOTS),
+        ("OWNER_SLOTS", OWNER_SLOTS),
+        ("SLOT_SIZE", SLOT_SIZE),
+        ("MOST_BYTES", MOST_BYTES),
+        ("MOST_FIELDS", MOST_FIELDS),
+    ];
+    let refusals = Refusal::ALL.map(|(refusal, name)| (name, refusal.number() as usize));
+    for (name, number) in refusals.into_iter().chain(sizes) {
+        let line = format!("TARNOKLEJ_{name} = {number}");
         assert!(starts.contains(&line), "{line}");
     }
 }
@@ -328,29 +337,92 @@ fn empty_slices_are_refused() {
     assert_eq!(read_fields_into(&[], &mut []), Err(Refusal::Short));
     assert_eq!(write_fields(&[], &mut []), Err(Refusal::Range));
     assert_eq!(refusals(&[], (0, 0)), [1, 1, 1]);
-    assert_eq!(store(&mut [], &[]), Err(Refusal::Table));
-    assert_eq!(find(&[], 0, 0), Err(Refusal::Table));
-    assert_eq!(remove(&mut [], 0, 0), Err(Refusal::Table));
+    assert_eq!(store(&mut [], 1, &[]), Err(Refusal::Table));
+    assert_eq!(find(&[], 1, 0, 0), Err(Refusal::Table));
+    assert_eq!(remove(&mut [], 1, 0, 0), Err(Refusal::Table));
+}
+
+/// Stores the projections of the first system identification numbers for an owner.
+fn fill(table: &mut [u8], owner: u8, sins: u8) {
+    (0..sins).for_each(|sin| store(table, owner, &projection(sin)).expect("a slot for the owner"));
 }
 
 #[test]
-fn the_33rd_key_finds_the_table_full() {
+fn the_21st_key_of_an_owner_is_refused_and_12_slots_are_there_for_the_other() {
+    for (owner, other) in [(1, 2), (2, 1)] {
+        let mut table = [0; TABLE_SIZE];
+        fill(&mut table, owner, 20);
+        let before = table;
+        assert_eq!(store(&mut table, owner, &projection(20)), Err(Refusal::Full));
+        assert_eq!(table, before);
+        fill(&mut table, other, 12);
+        assert_eq!(store(&mut table, other, &projection(12)), Err(Refusal::Full));
+        assert_eq!(store(&mut table, other, &projection(11)), Ok(()));
+        assert_eq!(remove(&mut table, owner, 9, PROJECTION), Ok(()));
+        assert_eq!(store(&mut table, other, &projection(12)), Ok(()));
+        let at = 9 * SLOT_SIZE + 2;
+        assert_eq!(find(&table, other, 12, PROJECTION), Ok(Found { at, message: &projection(12) }));
+        assert_eq!(store(&mut table, owner, &projection(9)), Err(Refusal::Full));
+    }
+}
+
+#[test]
+fn neither_owner_shows_replaces_or_removes_what_the_other_has() {
     let mut table = [0; TABLE_SIZE];
-    (0..SLOTS as u8).for_each(|sin| store(&mut table, &projection(sin)).expect("a free slot"));
+    let (one, other) = (projection(5), written(&row_of(&[1025, 5, 3, 0, 0, 0, 0, 0])));
+    assert_eq!(store(&mut table, 1, &one), Ok(()));
+    assert_eq!(find(&table, 2, 5, PROJECTION), Err(Refusal::None));
+    assert_eq!(remove(&mut table, 2, 5, PROJECTION), Err(Refusal::None));
+    assert_eq!(store(&mut table, 2, &other), Ok(()));
+    assert_eq!(find(&table, 1, 5, PROJECTION), Ok(Found { at: 2, message: &one }));
+    assert_eq!(find(&table, 2, 5, PROJECTION), Ok(Found { at: SLOT_SIZE + 2, message: &other }));
+    assert_eq!(remove(&mut table, 1, 5, PROJECTION), Ok(()));
+    assert_eq!(find(&table, 2, 5, PROJECTION), Ok(Found { at: SLOT_SIZE + 2, message: &other }));
+}
+
+#[test]
+fn an_owner_other_than_1_or_2_is_refused_behind_the_table() {
+    let mut table = [0; TABLE_SIZE];
+    fill(&mut table, 1, 20);
     let before = table;
-    assert_eq!(store(&mut table, &projection(32)), Err(Refusal::Full));
+    for owner in (3..=255).chain([0]) {
+        assert_eq!(store(&mut table, owner, &[]), Err(Refusal::Owner));
+        assert_eq!(find(&table, owner, 5, PROJECTION), Err(Refusal::Owner));
+        assert_eq!(remove(&mut table, owner, 5, 9), Err(Refusal::Owner));
+        assert_eq!(store(&mut table[1..], owner, &[]), Err(Refusal::Table));
+        assert_eq!(find(&table[1..], owner, 5, PROJECTION), Err(Refusal::Table));
+        assert_eq!(remove(&mut table[1..], owner, 5, 9), Err(Refusal::Table));
+    }
     assert_eq!(table, before);
-    assert_eq!(remove(&mut table, 9, PROJECTION), Ok(()));
-    assert_eq!(store(&mut table, &projection(32)), Ok(()));
-    assert_eq!(find(&table, 32, PROJECTION), Ok(Found { at: 9 * 128 + 1, message: &projection(32) }));
+}
+
+#[test]
+fn a_table_that_is_not_well_formed_is_refused() {
+    let mut sound = [0; TABLE_SIZE];
+    fill(&mut sound, 1, 20);
+    store(&mut sound, 2, &projection(20)).expect("a free slot");
+    let last = 20 * SLOT_SIZE;
+    let changes = [(0, 0), (0, 3), (1, 24), (last, 1), (last, 255), (last + 129, 1), (last + 130, 1), (last + 131, 1)];
+    for (at, byte) in changes.into_iter().chain([(TABLE_SIZE - 1, 1), (31 * SLOT_SIZE, 1)]) {
+        let mut table = sound;
+        table[at] = byte;
+        let before = table;
+        assert_eq!(store(&mut table, 2, &projection(20)), Err(Refusal::Table), "byte {at} is {byte}");
+        assert_eq!(find(&table, 2, 20, PROJECTION), Err(Refusal::Table));
+        assert_eq!(remove(&mut table, 2, 20, PROJECTION), Err(Refusal::Table));
+        assert_eq!(table, before);
+    }
+    let mut table = sound;
+    table[0] = 2;
+    assert_eq!(find(&table, 2, 0, PROJECTION), Ok(Found { at: 2, message: &projection(0) }));
 }
 
 #[test]
 fn a_found_message_is_the_table_itself() {
     let mut table = [0; TABLE_SIZE];
-    store(&mut table, &projection(5)).expect("a free slot");
-    let found = find(&table, 5, PROJECTION).expect("stored");
-    assert_eq!(found.message.as_ptr(), table[1..].as_ptr());
+    store(&mut table, 1, &projection(5)).expect("a free slot");
+    let found = find(&table, 1, 5, PROJECTION).expect("stored");
+    assert_eq!(found.message.as_ptr(), table[2..].as_ptr());
 }
 
 /// The sound messages of the made-up services.
@@ -367,12 +439,12 @@ fn services_are_read_written_and_stored() {
     let messages = sound_services();
     assert_eq!(messages.len(), 15);
     let mut table = [0; TABLE_SIZE];
-    for message in &messages {
+    for (message, owner) in messages.iter().zip([1, 2].into_iter().cycle()) {
         let header = read(message).expect("a sound message");
         assert_eq!(header.length, message.len());
         assert_eq!(&written(&read_fields(message).expect("a sound message")), message);
-        assert_eq!(store(&mut table, message), Ok(()));
+        assert_eq!(store(&mut table, owner, message), Ok(()));
         let group = [0, 0, 1, 1, 2, 2, 2][header.number as usize - 1021];
-        assert_eq!(find(&table, header.sin, group).map(|found| found.message), Ok(&message[..]));
+        assert_eq!(find(&table, owner, header.sin, group).map(|found| found.message), Ok(&message[..]));
     }
 }

@@ -1,4 +1,4 @@
-// Every public function of the table, of the shift and of the exported interface, called once with its promise restated: a promise that is weakened there is missed here.
+// Every public function of the slots, of the table, of the shift and of the exported interface, called once with its promise restated: a promise that is weakened there is missed here.
 ghost use mathlib.Core.Path.{_≡_};
 ghost use lib.ListN.{length};
 ghost use Rattle.arith.specs.First.{first};
@@ -11,9 +11,54 @@ ghost use Rattle.grid_refusals.specs.Refusals.{fieldTests};
 ghost use Rattle.grid.specs.Shift.{messageShifts, recordShifts};
 ghost use Rattle.layout.specs.Layout.{answered, stored};
 ghost use Rattle.frame.specs.Frames.{frame, frameRefusal, findFrame};
+ghost use Prim.Native.Nat.{suc};
+ghost use Rattle.slots.specs.Slots.{slots, isOwner, groupOf, key, joined};
+ghost use Rattle.slots.specs.Marks.{marks, markPlace, soundMarks, markOrFree};
 ghost use Rattle.table.specs.Table.{wellFormed, storeRefusal, storeTable, findRefusal, foundOf, removeTable};
 ghost use Rattle.table.specs.Shown.{Shows};
 ghost use Rattle.capi.specs.Exported.{exportedShifts};
+
+pub fn group_of(number: u16) -> u8
+    ensures { λ r. ⌜ r ≡ groupOf number ⌝ }
+{
+    slots::group_of(number)
+}
+
+pub fn is_owner(owner: u8) -> bool
+    ensures { λ r. ⌜ r ≡ isOwner owner ⌝ }
+{
+    slots::is_owner(owner)
+}
+
+pub fn tag_of(owner: u8, sin: u8, group: u8) -> usize
+    ensures { λ r. ⌜ r ≡ suc (joined owner (key sin group)) ⌝ }
+{
+    slots::tag_of(owner, sin, group)
+}
+
+pub fn table_marks(t: &[u8]) -> [usize; 32]
+    ensures { λ r. ⌜ r ≡ marks (now (t .entry)) ⌝ }
+{
+    slots::table_marks(t)
+}
+
+pub fn mark_place(row: &[usize; 32], g: usize) -> usize
+    ensures { λ r. ⌜ r ≡ markPlace (now (row .entry)) g slots ⌝ }
+{
+    slots::mark_place(row, g)
+}
+
+pub fn sound_marks(row: &[usize; 32]) -> bool
+    ensures { λ r. ⌜ r ≡ soundMarks (now (row .entry)) ⌝ }
+{
+    slots::sound_marks(row)
+}
+
+pub fn mark_or_free(row: &[usize; 32], g: usize, holds: usize) -> usize
+    ensures { λ r. ⌜ r ≡ markOrFree (now (row .entry)) g holds ⌝ }
+{
+    slots::mark_or_free(row, g, holds)
+}
 
 pub fn well_formed(t: &[u8]) -> bool
     ensures { λ r. ⌜ r ≡ wellFormed (now (t .entry)) ⌝ }
@@ -21,30 +66,30 @@ pub fn well_formed(t: &[u8]) -> bool
     table::well_formed(t)
 }
 
-pub fn store(t: &mut [u8], s: &[u8]) -> u8
-    ensures answer { λ r. ⌜ r ≡ storeRefusal (now (t .entry)) (now (s .entry)) ⌝ }
-    ensures output { λ r. ⌜ now (t .exit) ≡ storeTable (now (t .entry)) (now (s .entry)) ⌝ }
+pub fn store(t: &mut [u8], owner: u8, s: &[u8]) -> u8
+    ensures answer { λ r. ⌜ r ≡ storeRefusal (now (t .entry)) owner (now (s .entry)) ⌝ }
+    ensures output { λ r. ⌜ now (t .exit) ≡ storeTable (now (t .entry)) owner (now (s .entry)) ⌝ }
 {
-    table::store(t, s)
+    table::store(t, owner, s)
 }
 
-pub fn find(t: &[u8], sin: u8, group: u8) -> table::Found
-    ensures { λ r. ⌜ r ≡ foundOf (now (t .entry)) sin group ⌝ }
+pub fn find(t: &[u8], owner: u8, sin: u8, group: u8) -> table::Found
+    ensures { λ r. ⌜ r ≡ foundOf (now (t .entry)) owner sin group ⌝ }
 {
-    table::find(t, sin, group)
+    table::find(t, owner, sin, group)
 }
 
-pub fn shown(t: &[u8], sin: u8, group: u8) -> &[u8]
-    ensures { λ r. ⌜ Shows (t .entry) sin group r ⌝ }
+pub fn shown(t: &[u8], owner: u8, sin: u8, group: u8) -> &[u8]
+    ensures { λ r. ⌜ Shows (t .entry) owner sin group r ⌝ }
 {
-    table::shown(t, sin, group)
+    table::shown(t, owner, sin, group)
 }
 
-pub fn remove(t: &mut [u8], sin: u8, group: u8) -> u8
-    ensures answer { λ r. ⌜ r ≡ findRefusal (now (t .entry)) sin group ⌝ }
-    ensures output { λ r. ⌜ now (t .exit) ≡ removeTable (now (t .entry)) sin group ⌝ }
+pub fn remove(t: &mut [u8], owner: u8, sin: u8, group: u8) -> u8
+    ensures answer { λ r. ⌜ r ≡ findRefusal (now (t .entry)) owner sin group ⌝ }
+    ensures output { λ r. ⌜ now (t .exit) ≡ removeTable (now (t .entry)) owner sin group ⌝ }
 {
-    table::remove(t, sin, group)
+    table::remove(t, owner, sin, group)
 }
 
 pub fn along(difference: i64, spacing: u64) -> cell::Place
@@ -152,24 +197,24 @@ pub fn tarnoklej_shifts_at(s: &[u8], north: i64, east: i64) -> capi::Shifts
     capi::tarnoklej_shifts_at(s, north, east)
 }
 
-pub fn tarnoklej_store(t: &mut [u8], s: &[u8]) -> u8
-    ensures answer { λ r. ⌜ r ≡ storeRefusal (now (t .entry)) (now (s .entry)) ⌝ }
-    ensures output { λ r. ⌜ now (t .exit) ≡ storeTable (now (t .entry)) (now (s .entry)) ⌝ }
+pub fn tarnoklej_store(t: &mut [u8], owner: u8, s: &[u8]) -> u8
+    ensures answer { λ r. ⌜ r ≡ storeRefusal (now (t .entry)) owner (now (s .entry)) ⌝ }
+    ensures output { λ r. ⌜ now (t .exit) ≡ storeTable (now (t .entry)) owner (now (s .entry)) ⌝ }
 {
-    capi::tarnoklej_store(t, s)
+    capi::tarnoklej_store(t, owner, s)
 }
 
-pub fn tarnoklej_find(t: &[u8], sin: u8, group: u8) -> table::Found
-    ensures { λ r. ⌜ r ≡ foundOf (now (t .entry)) sin group ⌝ }
+pub fn tarnoklej_find(t: &[u8], owner: u8, sin: u8, group: u8) -> table::Found
+    ensures { λ r. ⌜ r ≡ foundOf (now (t .entry)) owner sin group ⌝ }
 {
-    capi::tarnoklej_find(t, sin, group)
+    capi::tarnoklej_find(t, owner, sin, group)
 }
 
-pub fn tarnoklej_remove(t: &mut [u8], sin: u8, group: u8) -> u8
-    ensures answer { λ r. ⌜ r ≡ findRefusal (now (t .entry)) sin group ⌝ }
-    ensures output { λ r. ⌜ now (t .exit) ≡ removeTable (now (t .entry)) sin group ⌝ }
+pub fn tarnoklej_remove(t: &mut [u8], owner: u8, sin: u8, group: u8) -> u8
+    ensures answer { λ r. ⌜ r ≡ findRefusal (now (t .entry)) owner sin group ⌝ }
+    ensures output { λ r. ⌜ now (t .exit) ≡ removeTable (now (t .entry)) owner sin group ⌝ }
 {
-    capi::tarnoklej_remove(t, sin, group)
+    capi::tarnoklej_remove(t, owner, sin, group)
 }
 
 pub fn tarnoklej_find_frame(bytes: &[u8], from: usize) -> frame::Frame

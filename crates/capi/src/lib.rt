@@ -75,30 +75,30 @@ pub extern "C" fn tarnoklej_shifts_at(s: &[u8], north: i64, east: i64) -> Shifts
     }
 }
 
-// Stores a message under its key.
+// Stores a message under its key for an owner.
 #[no_mangle]
-pub extern "C" fn tarnoklej_store(t: &mut [u8], s: &[u8]) -> u8
-    ensures answer { λ r. ⌜ r ≡ storeRefusal (now (t .entry)) (now (s .entry)) ⌝ }
-    ensures output { λ r. ⌜ now (t .exit) ≡ storeTable (now (t .entry)) (now (s .entry)) ⌝ }
+pub extern "C" fn tarnoklej_store(t: &mut [u8], owner: u8, s: &[u8]) -> u8
+    ensures answer { λ r. ⌜ r ≡ storeRefusal (now (t .entry)) owner (now (s .entry)) ⌝ }
+    ensures output { λ r. ⌜ now (t .exit) ≡ storeTable (now (t .entry)) owner (now (s .entry)) ⌝ }
 {
-    table::store(t, s)
+    table::store(t, owner, s)
 }
 
-// Where the message of a key stands in the table.
+// Where the message of an owner's key stands in the table.
 #[no_mangle]
-pub extern "C" fn tarnoklej_find(t: &[u8], sin: u8, group: u8) -> table::Found
-    ensures { λ r. ⌜ r ≡ foundOf (now (t .entry)) sin group ⌝ }
+pub extern "C" fn tarnoklej_find(t: &[u8], owner: u8, sin: u8, group: u8) -> table::Found
+    ensures { λ r. ⌜ r ≡ foundOf (now (t .entry)) owner sin group ⌝ }
 {
-    table::find(t, sin, group)
+    table::find(t, owner, sin, group)
 }
 
-// Removes the message of a key.
+// Removes the message of an owner's key.
 #[no_mangle]
-pub extern "C" fn tarnoklej_remove(t: &mut [u8], sin: u8, group: u8) -> u8
-    ensures answer { λ r. ⌜ r ≡ findRefusal (now (t .entry)) sin group ⌝ }
-    ensures output { λ r. ⌜ now (t .exit) ≡ removeTable (now (t .entry)) sin group ⌝ }
+pub extern "C" fn tarnoklej_remove(t: &mut [u8], owner: u8, sin: u8, group: u8) -> u8
+    ensures answer { λ r. ⌜ r ≡ findRefusal (now (t .entry)) owner sin group ⌝ }
+    ensures output { λ r. ⌜ now (t .exit) ≡ removeTable (now (t .entry)) owner sin group ⌝ }
 {
-    table::remove(t, sin, group)
+    table::remove(t, owner, sin, group)
 }
 
 // The first frame at or after a place.

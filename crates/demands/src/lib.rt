@@ -8,7 +8,6 @@ ghost use Rattle.demands.specs.Grids.{GridAnswer, SharedEdges, BothCalls
 ghost use Rattle.grid.specs.Shift.{messageShifts};
 ghost use Rattle.demands.specs.Absent.{NoneIsThePattern, UnsignedHasValue, PatternRefused, RefusedIsZero, MeanFormed};
 ghost use Rattle.demands.specs.Frames.{WrittenFound, ReadBack, FoundStays, NeedGoesOn, NeedNotEarlier, Exactly, WriterRefusals, PublishedFrames};
-ghost use Rattle.demands.specs.Tables.{LikeADictionary, LastStored, NoGroup, ZeroBytes, StaysFormed, RefusedKeeps};
 
 // Demand 1 of reading: the first refusal that applies, and only then.
 pub fn refusals()
@@ -38,16 +37,6 @@ pub fn absences()
     ensures written { λ r. ⌜ PatternRefused ⌝ }
     ensures refused { λ r. ⌜ ((s : List ℕ) → RefusedIsZero s) ⌝ }
     ensures mean { λ r. ⌜ MeanFormed ⌝ }
-{}
-
-// Demands 1 and 2 of the table, over any list of calls.
-pub fn tables()
-    ensures dictionary { λ r. ⌜ LikeADictionary ⌝ }
-    ensures last { λ r. ⌜ LastStored ⌝ }
-    ensures group { λ r. ⌜ NoGroup ⌝ }
-    ensures zero { λ r. ⌜ ZeroBytes ⌝ }
-    ensures formed { λ r. ⌜ StaysFormed ⌝ }
-    ensures refused { λ r. ⌜ RefusedKeeps ⌝ }
 {}
 
 // Demand 2 of the shift at a position: the mean plus the nearest whole number, the same from every cell that holds the place and from both calls; and the three of one call.

@@ -1,7 +1,7 @@
--- Laws of dictionaries and of counts. Rest on their definitions.
+-- Laws of dictionaries. Rest on their definitions.
 -- Assumes nothing.
-use Prim.Native.Nat.{ℕ, zero, suc, _≤_, _<_}
-use mathlib.Core.Bool.{Bool, true, false, cond}
+use Prim.Native.Nat.{ℕ, suc, _<_}
+use mathlib.Core.Bool.{cond}
 use mathlib.Core.List.{List, [], _∷_}
 use mathlib.Core.Path.{_≡_, refl, sym, ap, subst, _∙_}
 use native.Mathlib.Omega.{arith}
@@ -9,7 +9,7 @@ use native.Mathlib.Decide.{ℕ-discrete}
 use lib.ListN.{length}
 use lib.Dec.{eqb}
 use borrow.Author.Tests.{eq-eqb, ne-eqb}
-use Rattle.table.specs.Table.{keyOf}
+use Rattle.slots.specs.Slots.{keyOf}
 use Rattle.history.specs.Dict.{Dict, storedUnder, without}
 
 -- no empty message, and no key twice
@@ -94,60 +94,3 @@ lookup-removed d k j = go (ℕ-discrete k j)
     go : Dec (k ≡ j) → storedUnder (without d k) j ≡ cond (eqb k j) [] (storedUnder d j)
     go (yes q) = rw (eq-eqb k j q) (ap (λ (x : ℕ). storedUnder (without d x) j) q ∙ lookup-without-same d j)
     go (no n) = rw (ne-eqb k j n) (lookup-without-other d k j (λ e. n (sym e)))
-
--- how many of the places below n fail a test
-unfoldable pub countOf : (ℕ → Bool) → ℕ → ℕ
-countOf p zero = 0
-countOf p (suc n) = cond (p n) (countOf p n) (suc (countOf p n))
-
-pub count-same : (p r : ℕ → Bool) (n : ℕ) → ((j : ℕ) → j < n → p j ≡ r j) → countOf p n ≡ countOf r n
-unfolding countOf
-count-same p r zero h = refl
-count-same p r (suc n) h =
-    rw (h n (omega arith), count-same p r n (λ j l. h j (omega arith)))
-
-pub count-up : (p r : ℕ → Bool) (n i : ℕ) → i < n → ((j : ℕ) → j < n → (j ≡ i → ⊥) → p j ≡ r j) → p i ≡ true → r i ≡ false
-    → countOf r n ≡ suc (countOf p n)
-unfolding countOf
-count-up p r zero i l h a b = absurd (omega arith)
-count-up p r (suc n) i l h a b = go (ℕ-discrete i n) (λ k. count-up p r n i k (λ j m. h j (omega arith)) a b)
-  where
-    go : Dec (i ≡ n) → (i < n → countOf r n ≡ suc (countOf p n)) → cond (r n) (countOf r n) (suc (countOf r n)) ≡ suc (cond (p n) (countOf p n) (suc (countOf p n)))
-    go (yes e) f =
-        let x : p n ≡ true = ap p (sym e) ∙ a in
-        let y : r n ≡ false = ap r (sym e) ∙ b in
-        rw (x, y) (ap suc (sym (count-same p r n (λ j m. h j (omega arith) (λ q. omega arith)))))
-    go (no k) f =
-        let x : p n ≡ r n = h n (omega arith) (λ q. k (sym q)) in
-        rw x (by (r n) (f (omega arith)))
-      where
-        by : (c : Bool) → countOf r n ≡ suc (countOf p n) → cond c (countOf r n) (suc (countOf r n)) ≡ suc (cond c (countOf p n) (suc (countOf p n)))
-        by true e = e
-        by false e = ap suc e
-
-pub count-le : (p : ℕ → Bool) (n : ℕ) → countOf p n ≤ n
-unfolding countOf
-count-le p zero = omega arith
-count-le p (suc n) = go (p n) (count-le p n)
-  where
-    go : (b : Bool) → countOf p n ≤ n → cond b (countOf p n) (suc (countOf p n)) ≤ suc n
-    go true h = omega arith
-    go false h = omega arith
-
-pub count-all : (p : ℕ → Bool) (n : ℕ) → ((j : ℕ) → j < n → p j ≡ false) → countOf p n ≡ n
-unfolding countOf
-count-all p zero h = refl
-count-all p (suc n) h = rw (h n (omega arith)) (ap suc (count-all p n (λ j l. h j (omega arith))))
-
-pub count-lt : (p : ℕ → Bool) (n i : ℕ) → i < n → p i ≡ true → countOf p n < n
-unfolding countOf
-count-lt p zero i l e = absurd (omega arith)
-count-lt p (suc n) i l e = go (ℕ-discrete i n) (λ k. count-lt p n i k e) (count-le p n)
-  where
-    go : Dec (i ≡ n) → (i < n → countOf p n < n) → countOf p n ≤ n → cond (p n) (countOf p n) (suc (countOf p n)) < suc n
-    go (yes q) f u = rw (ap p (sym q) ∙ e) (omega arith)
-    go (no k) f u = by (p n) (f (omega arith))
-      where
-        by : (c : Bool) → countOf p n < n → cond c (countOf p n) (suc (countOf p n)) < suc n
-        by true h = omega arith
-        by false h = omega arith

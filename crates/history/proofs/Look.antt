@@ -9,9 +9,10 @@ use native.Mathlib.Omega.{arith}
 use native.Mathlib.Decide.{decLt, ℕ-discrete}
 use lib.Dec.{ltb, eqb}
 use borrow.Author.Tests.{eqb-true, eqb-false, eq-eqb, ne-eqb, lt-ltb}
-use Rattle.table.specs.Table.{slots, key, slot, held, tag, hasTag, place, newKey}
+use Rattle.slots.specs.Slots.{slots, key, slot, held, tag}
+use Rattle.table.specs.Table.{hasTag, place, newKey}
 use Rattle.arith.proofs.Places.{first, first-is}
-use Rattle.table.proofs.Slot.{or-right}
+use Rattle.slots.proofs.Slot.{or-right}
 use Rattle.table.proofs.Whole.{Formed}
 
 -- the place of a tag

@@ -1,4 +1,4 @@
-pub mod Slot
+pub mod Count
 pub mod Whole
 pub mod Marks
 pub mod Calls

@@ -6,8 +6,8 @@ use mathlib.Core.Path.{_≡_}
 use denote.Ref.{RefT, now, ptr}
 use Rattle.table.specs.Table.{found, foundAt}
 
--- r is the part of t with the message of the key: its bytes, and where it points (a block and an offset in it)
-pub record Shows (t : RefT (List ℕ)) (sin group : ℕ) (r : RefT (List ℕ)) : Type 0 where
-  pub bytes : now r ≡ found (now t) sin group
+-- r is the part of t with the message of the owner's key: its bytes, and where it points (a block and an offset in it)
+pub record Shows (t : RefT (List ℕ)) (owner sin group : ℕ) (r : RefT (List ℕ)) : Type 0 where
+  pub bytes : now r ≡ found (now t) owner sin group
   pub block : ptr r .0 ≡ ptr t .0
-  pub offset : ptr r .1 ≡ foundAt (now t) sin group + ptr t .1
+  pub offset : ptr r .1 ≡ foundAt (now t) owner sin group + ptr t .1

@@ -86,22 +86,26 @@ fn poke(given: &[u8], table: &mut [u8]) -> Change {
     Change::Done
 }
 
-// `NAME store HEX`
+// `NAME store OWNER HEX`
 fn store(given: &[u8], table: &mut [u8]) -> Change {
-    let mut bytes = [0u8; 400];
-    let Count::Is(n) = numerals::hex(given, &mut bytes) else {
+    let Byte::Is(owner) = numerals::small(words::word(given)) else {
         return Change::Bad;
     };
-    Change::Refusal(store_first(&bytes, n, table))
+    let mut bytes = [0u8; 400];
+    let Count::Is(n) = numerals::hex(words::rest(given), &mut bytes) else {
+        return Change::Bad;
+    };
+    Change::Refusal(store_first(&bytes, n, owner, table))
 }
 
 // What storing the first `n` bytes answers.
-fn store_first(bytes: &Bytes, n: usize, table: &mut [u8]) -> u8 {
-    table::store(table, words::before(bytes, n))
+fn store_first(bytes: &Bytes, n: usize, owner: u8, table: &mut [u8]) -> u8 {
+    table::store(table, owner, words::before(bytes, n))
 }
 
-// The SIN and the group that are given.
+// The owner, the SIN and the group that are given.
 struct Key {
+    owner: u8,
     sin: u8,
     group: u8,
 }
@@ -112,38 +116,45 @@ enum Asked {
 }
 
 fn key_of(given: &[u8]) -> Asked {
+    let Byte::Is(owner) = numerals::small(words::word(given)) else {
+        return Asked::Bad;
+    };
+    owned_key(owner, words::rest(given))
+}
+
+fn owned_key(owner: u8, given: &[u8]) -> Asked {
     let Byte::Is(sin) = numerals::small(words::word(given)) else {
         return Asked::Bad;
     };
     let Byte::Is(group) = numerals::small(words::rest(given)) else {
         return Asked::Bad;
     };
-    Asked::Is(Key { sin, group })
+    Asked::Is(Key { owner, sin, group })
 }
 
-// `NAME remove SIN GROUP`
+// `NAME remove OWNER SIN GROUP`
 fn remove(given: &[u8], table: &mut [u8]) -> Change {
     let Asked::Is(key) = key_of(given) else {
         return Change::Bad;
     };
-    Change::Refusal(table::remove(table, key.sin, key.group))
+    Change::Refusal(table::remove(table, key.owner, key.sin, key.group))
 }
 
-// `NAME find SIN GROUP`
+// `NAME find OWNER SIN GROUP`
 fn find(given: &[u8], table: &[u8], out: &mut Out, at: usize) -> usize {
     let Asked::Is(key) = key_of(given) else {
         return output::put(out, at, b'?');
     };
-    put_found(table, key.sin, key.group, out, at)
+    put_found(table, key.owner, key.sin, key.group, out, at)
 }
 
 // REFUSAL PLACE LENGTH HEX
-fn put_found(table: &[u8], sin: u8, group: u8, out: &mut Out, at: usize) -> usize {
-    let f = table::find(table, sin, group);
+fn put_found(table: &[u8], owner: u8, sin: u8, group: u8, out: &mut Out, at: usize) -> usize {
+    let f = table::find(table, owner, sin, group);
     let to = output::put_field(out, at, f.refusal as u64);
     let to = output::put_field(out, to, f.at as u64);
     let to = output::put_field(out, to, f.length as u64);
-    output::put_hex(out, to, table::shown(table, sin, group))
+    output::put_hex(out, to, table::shown(table, owner, sin, group))
 }
 
 // `NAME sum`: two sums that tell of every byte of the table.

@@ -6,6 +6,7 @@ mod reading;
 mod shifting;
 mod tables;
 mod tally;
+mod two_owners;
 mod writing;
 
 use second::random::Random;
@@ -41,7 +42,31 @@ const ACROSS: &[u8] = &[0, 9, 10, 11, 12, 13, 14, 15];
 
 /// The calls on a table, with the refusal numbers each can give.
 const ON_TABLES: [(&str, &[u8]); 3] =
-    [("store", &[0, 1, 2, 3, 4, 5, 16, 18]), ("find", &[0, 17, 18]), ("remove", &[0, 17, 18])];
+    [("store", &[0, 1, 2, 3, 4, 5, 16, 18, 21]), ("find", &[0, 17, 18, 21]), ("remove", &[0, 17, 18, 21])];
+
+/// What a whole run met.
+struct Met {
+    tallies: Vec<Tally>,
+    fulls: tables::Fulls,
+    two_owners: two_owners::Met,
+}
+
+impl Met {
+    /// A line for each thing that is to be met and that no input met.
+    fn never(&self) -> Vec<String> {
+        let mut lines = tally::never_met(&self.tallies);
+        let others = [
+            (self.fulls.most_held, "no store met FULL with 20 slots of the owner's and a slot free"),
+            (self.fulls.none_free, "no store met FULL with fewer than 20 slots of the owner's and no slot free"),
+            (
+                self.two_owners.only_one_full,
+                "no pair of histories has twelve keys and a full table in one of them alone",
+            ),
+        ];
+        lines.extend(others.iter().filter(|other| other.0 == 0).map(|other| other.1.to_string()));
+        lines
+    }
+}
 
 /// The refusal that an answer of one part holds, or the two answers where they differ.
 pub fn same<T: PartialEq + std::fmt::Debug>(
@@ -85,34 +110,39 @@ fn run_single(
 }
 
 /// Runs histories of calls on tables until each call had its inputs.
-fn run_tables(seed: u64, count: u64, progress: &mut Progress) -> Result<Vec<Tally>, String> {
+fn run_tables(seed: u64, count: u64, progress: &mut Progress) -> Result<(Vec<Tally>, tables::Fulls), String> {
     let mut random = Random::new(seed);
+    let mut fulls = tables::Fulls::default();
     let mut tallies = ON_TABLES.map(|(name, possible)| Tally::new(name, possible));
     let mut history = tables::History::new(&mut random, 0);
     for turn in 0..count {
         if history.ended() {
             history = tables::History::new(&mut random, turn);
         }
-        let of_calls =
-            history.turn(&mut random, turn).map_err(|difference| format!("tables, turn {turn}: {difference}"))?;
+        let of_calls = history
+            .turn(&mut random, turn, &mut fulls)
+            .map_err(|difference| format!("tables, turn {turn}: {difference}"))?;
         for (tally, refusals) in tallies.iter_mut().zip(of_calls) {
             tally.add(&refusals);
             progress.step();
         }
     }
-    Ok(tallies.into())
+    Ok((tallies.into(), fulls))
 }
 
-/// Runs every kind of call.
-fn run(seed: u64, count: u64) -> Result<Vec<Tally>, String> {
-    let mut progress = Progress::new(count * (SINGLES.len() + ON_TABLES.len()) as u64);
+/// Runs every kind of call, and pairs of histories of two owners.
+fn run(seed: u64, count: u64) -> Result<Met, String> {
+    let calls = count * (SINGLES.len() + ON_TABLES.len()) as u64;
+    let mut progress = Progress::new(calls + two_owners::pairs_for(count));
     let mut seeds = Random::new(seed);
     let mut tallies = Vec::new();
     for single in SINGLES {
         tallies.push(run_single(single, seeds.bits(), count, &mut progress)?);
     }
-    tallies.extend(run_tables(seeds.bits(), count, &mut progress)?);
-    Ok(tallies)
+    let (on_tables, fulls) = run_tables(seeds.bits(), count, &mut progress)?;
+    tallies.extend(on_tables);
+    let two_owners = two_owners::run(seeds.bits(), count, &mut progress)?;
+    Ok(Met { tallies, fulls, two_owners })
 }
 
 /// The seed and the count from the arguments.
@@ -130,10 +160,11 @@ fn main() -> ExitCode {
     };
     println!("seed {seed}, {count} inputs for each kind of call");
     match run(seed, count) {
-        Ok(tallies) => {
-            print!("{}", tally::table(&tallies));
-            tally::differing_parts(&tallies).iter().for_each(|line| println!("{line}"));
-            let never_met = tally::never_met(&tallies);
+        Ok(met) => {
+            print!("{}", tally::table(&met.tallies));
+            tally::differing_parts(&met.tallies).iter().for_each(|line| println!("{line}"));
+            println!("{}\n{}", met.fulls.line(), met.two_owners.line());
+            let never_met = met.never();
             never_met.iter().for_each(|line| println!("{line}"));
             println!("no mismatch");
             ExitCode::from(u8::from(!never_met.is_empty()))

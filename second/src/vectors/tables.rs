@@ -1,4 +1,4 @@
-//! Cases of the table: histories of calls, each beginning with a fresh table.
+//! Cases of the table with two owners: histories of calls, each beginning with a fresh table.
 
 use super::{sums, Case};
 use crate::hex::hex;
@@ -6,7 +6,16 @@ use crate::layouts::NUMBERS;
 use crate::random::Random;
 use crate::refusal::number_of;
 use crate::samples::Sample;
-use crate::table::{find, group_of, remove, store, SIZE, SLOT, SLOTS};
+use crate::table::{
+    find, group_of, other_than, remove, store, MOST_HELD, OWNERS, SIZE, SLOT, SLOTS, SLOT_HEAD, SLOT_ROOM,
+};
+
+/// Numbers that are no owner.
+const NO_OWNERS: [u8; 5] = [0, 3, 127, 128, 255];
+/// The system identification numbers from 0 on that one owner can hold in one group.
+const SINS_OF_ONE: u8 = MOST_HELD as u8;
+/// The system identification numbers from 0 on that the other owner can hold beside them.
+const SINS_OF_OTHER: u8 = SLOTS as u8 - SINS_OF_ONE;
 
 /// A history under way: the table, and the cases so far.
 struct History {
@@ -26,13 +35,21 @@ impl History {
         history
     }
 
+    /// Begins a history of an owner with a full table: 20 slots of the owner, then 12 of the other.
+    fn full(name: &str, owner: u8) -> Self {
+        let mut history = History::new(name, SIZE);
+        history.fill(owner, SINS_OF_ONE);
+        history.fill(other_than(owner), SINS_OF_OTHER);
+        history
+    }
+
     /// Adds a case, numbered in its history.
     fn add(&mut self, what: &str, call: String, answer: String) {
         let name = format!("table-{}-{}-{what}", self.name, self.cases.len());
         self.cases.push(Case { name, call, answer });
     }
 
-    /// Gives the last case the name that document 01 has for it.
+    /// Gives the last case the name that the papers have for it.
     fn call_last(&mut self, name: &str) {
         self.cases.last_mut().expect("a case").name = name.to_string();
     }
@@ -50,15 +67,20 @@ impl History {
     }
 
     /// Stores a message.
-    fn store(&mut self, message: &[u8]) {
-        let refusal = number_of(&store(&mut self.table, message));
-        self.add("store", format!("store {}", hex(message)), refusal.to_string());
+    fn store(&mut self, owner: u8, message: &[u8]) {
+        let refusal = number_of(&store(&mut self.table, owner, message));
+        self.add("store", format!("store {owner} {}", hex(message)), refusal.to_string());
     }
 
     /// Stores a random message of a number and a system identification number.
-    fn store_any(&mut self, number: u16, sin: u8) {
+    fn store_any(&mut self, owner: u8, number: u16, sin: u8) {
         let message = self.message(number, sin);
-        self.store(&message);
+        self.store(owner, &message);
+    }
+
+    /// Stores random messages 1025 under the first system identification numbers.
+    fn fill(&mut self, owner: u8, sins: u8) {
+        (0..sins).for_each(|sin| self.store_any(owner, 1025, sin));
     }
 
     /// A random message of short names, a number and a system identification number.
@@ -71,18 +93,23 @@ impl History {
     }
 
     /// Removes a key.
-    fn remove(&mut self, sin: u8, group: u8) {
-        let refusal = number_of(&remove(&mut self.table, sin, group));
-        self.add("remove", format!("remove {sin} {group}"), refusal.to_string());
+    fn remove(&mut self, owner: u8, sin: u8, group: u8) {
+        let refusal = number_of(&remove(&mut self.table, owner, sin, group));
+        self.add("remove", format!("remove {owner} {sin} {group}"), refusal.to_string());
     }
 
     /// Finds a key.
-    fn find(&mut self, sin: u8, group: u8) {
-        let found = find(&self.table, sin, group);
+    fn find(&mut self, owner: u8, sin: u8, group: u8) {
+        let found = find(&self.table, owner, sin, group);
         let refusal = number_of(&found);
         let (at, length) = found.unwrap_or((0, 0));
         let shown = hex(&self.table[at..at + length]);
-        self.add("find", format!("find {sin} {group}"), format!("{refusal} {at} {length} {shown}"));
+        self.add("find", format!("find {owner} {sin} {group}"), format!("{refusal} {at} {length} {shown}"));
+    }
+
+    /// Finds a key for both owners.
+    fn find_for_both(&mut self, sin: u8, group: u8) {
+        OWNERS.into_iter().for_each(|owner| self.find(owner, sin, group));
     }
 
     /// Sums all bytes of the table.
@@ -92,10 +119,10 @@ impl History {
     }
 
     /// Makes every kind of call on a table that should be refused, and sums it.
-    fn all_calls(&mut self, sin: u8, group: u8) {
-        self.find(sin, group);
-        self.store_any(1025, sin);
-        self.remove(sin, group);
+    fn all_calls(&mut self, owner: u8, sin: u8, group: u8) {
+        self.find(owner, sin, group);
+        self.store_any(owner, 1025, sin);
+        self.remove(owner, sin, group);
         self.sum();
     }
 }
@@ -103,112 +130,212 @@ impl History {
 /// All cases of the table.
 pub fn cases() -> Vec<Case> {
     let histories = [
-        filling(),
+        filling("fill", 1),
+        filling("fill-2", 2),
+        no_free_slot(),
         replacing(),
         freeing(),
         equal_sins(),
+        both_owners(),
+        no_owners(),
         groups(),
         refused_messages(),
         wrong_sizes(),
+        wrong_owner_bytes(),
         wrong_lengths(),
         stray_bytes(),
+        last_zeros(),
         same_key_twice(),
+        crowded(),
         refused_inside(),
         held_from_start(),
         longest_messages(),
-        random_calls("random-few", 6, 200),
-        random_calls("random-many", 16, 260),
+        behind_the_other("alone", 12, 0),
+        behind_the_other("behind", 12, SINS_OF_ONE),
+        behind_the_other("alone-13", 13, 0),
+        behind_the_other("behind-13", 13, SINS_OF_ONE),
+        random_calls("random-few", 6, 240),
+        random_calls("random-more", 9, 400),
+        random_calls("random-many", 24, 400),
     ];
     histories.into_iter().flat_map(|history| history.cases).collect()
 }
 
-/// Fills the table to the 33rd key.
-fn filling() -> History {
-    let mut history = History::new("fill", SIZE);
+/// Fills the table to one owner's 21st key, then to the other's 13th.
+fn filling(name: &str, owner: u8) -> History {
+    let other = other_than(owner);
+    let mut history = History::new(name, SIZE);
     history.sum();
-    for sin in 0..SLOTS as u8 {
-        history.store_any(1025, sin);
+    for sin in 0..SINS_OF_ONE {
+        history.store_any(owner, 1025, sin);
         history.sum();
     }
-    history.store_any(1025, 32);
-    history.call_last("run-33rd-key");
-    history.store_any(1021, 0);
-    history.store_any(1023, 31);
+    history.store_any(owner, 1025, SINS_OF_ONE);
+    if owner == 1 {
+        history.call_last("run-21st-key");
+    }
+    history.store_any(owner, 1021, 0);
+    history.store_any(owner, 1023, SINS_OF_ONE - 1);
     history.sum();
-    for sin in 0..=SLOTS as u8 {
-        history.find(sin, 2);
+    for sin in 0..SINS_OF_OTHER {
+        history.store_any(other, 1025, sin);
+        history.sum();
+    }
+    history.store_any(other, 1025, SINS_OF_OTHER);
+    history.store_any(other, 1024, 0);
+    history.store_any(owner, 1025, SINS_OF_ONE);
+    history.sum();
+    (0..=SINS_OF_ONE).for_each(|sin| history.find_for_both(sin, 2));
+    history
+}
+
+/// No slot is free while both owners hold fewer than 20; a slot that one frees is there for both.
+fn no_free_slot() -> History {
+    let mut history = History::new("no-free", SIZE);
+    for first in [16, 13, 19] {
+        history.fresh(SIZE);
+        history.fill(1, first);
+        history.fill(2, SLOTS as u8 - first);
+        history.sum();
+        for owner in OWNERS {
+            history.store_any(owner, 1025, 99);
+            history.store_any(owner, 1021, 0);
+            history.store_any(owner, 1027, 5);
+            history.find_for_both(5, 2);
+        }
+        history.sum();
+        history.remove(1, 3, 2);
+        history.store_any(2, 1026, 99);
+        history.find_for_both(99, 2);
+        history.store_any(1, 1026, 99);
+        history.remove(2, 4, 2);
+        history.store_any(1, 1026, 99);
+        history.find_for_both(99, 2);
+        history.sum();
     }
     history
 }
 
 /// Replaces the message in every slot of a full table by one of another length.
 fn replacing() -> History {
-    let mut history = History::new("replace", SIZE);
-    for sin in 0..SLOTS as u8 {
-        history.store_any(1027, 200 - sin);
-    }
+    let mut history = History::full("replace", 2);
     history.sum();
-    for sin in 0..SLOTS as u8 {
-        let number = if sin % 2 == 0 { 1025 } else { 1026 };
-        history.store_any(number, 200 - sin);
-        history.find(200 - sin, 2);
+    for slot in 0..SLOTS as u8 {
+        let (owner, sin) = if slot < SINS_OF_ONE { (2, slot) } else { (1, slot - SINS_OF_ONE) };
+        let number = if sin % 2 == 0 { 1026 } else { 1027 };
+        history.store_any(owner, number, sin);
+        history.find_for_both(sin, 2);
         history.sum();
     }
-    history.store_any(1026, 201);
+    history.store_any(1, 1026, 201);
+    history.store_any(2, 1026, 201);
     history.sum();
     history
 }
 
 /// Removes first, middle and last slots and stores again, so that the first freed slot is taken.
 fn freeing() -> History {
-    let mut history = History::new("free", SIZE);
-    for sin in 0..SLOTS as u8 {
-        history.store_any(1025, sin);
-    }
-    for sin in [31, 0, 17, 5] {
-        history.remove(sin, 2);
-        history.find(sin, 2);
-        history.remove(sin, 2);
+    let mut history = History::full("free", 1);
+    for (owner, sin) in [(2, 11), (1, 0), (1, 17), (2, 5), (1, 5)] {
+        history.remove(owner, sin, 2);
+        history.find_for_both(sin, 2);
+        history.remove(owner, sin, 2);
         history.sum();
     }
-    for sin in [100, 101, 102, 103, 104] {
-        history.store_any(1026, sin);
-        history.find(sin, 2);
+    for (owner, sin) in [(2, 100), (1, 101), (1, 102), (2, 103), (1, 104), (2, 105), (1, 106)] {
+        history.store_any(owner, 1026, sin);
+        history.find_for_both(sin, 2);
         history.sum();
     }
     for sin in 1..17 {
-        history.remove(sin, 2);
+        history.remove(1, sin, 2);
     }
-    history.store_any(1024, 1);
-    history.find(1, 1);
-    history.store_any(1025, 17);
+    history.store_any(2, 1024, 1);
+    history.find_for_both(1, 1);
+    history.store_any(1, 1025, 17);
+    history.find_for_both(17, 2);
     history.sum();
     history
 }
 
-/// All seven numbers under one system identification number, which are three keys.
+/// All seven numbers under one system identification number, which are three keys for each owner.
 fn equal_sins() -> History {
     let mut history = History::new("equal-sins", SIZE);
-    for sin in [0, 255] {
+    for (owner, sin) in [(1, 0), (2, 255), (2, 0), (1, 255)] {
         for number in NUMBERS {
-            history.store_any(number, sin);
-            for group in 0..3 {
-                history.find(sin, group);
-            }
+            history.store_any(owner, number, sin);
+            (0..3).for_each(|group| history.find_for_both(sin, group));
             history.sum();
         }
         for number in NUMBERS.into_iter().rev() {
-            history.store_any(number, sin);
-            history.find(sin, group_of(number));
+            history.store_any(owner, number, sin);
+            history.find(owner, sin, group_of(number));
         }
         history.sum();
     }
-    history.remove(0, 1);
-    history.find(0, 0);
-    history.find(0, 1);
-    history.find(0, 2);
-    history.find(255, 1);
+    history.remove(1, 0, 1);
+    (0..3).for_each(|group| history.find_for_both(0, group));
+    history.find_for_both(255, 1);
     history.sum();
+    history
+}
+
+/// Both owners under the same system identification number: neither sees, replaces or removes what the other has.
+fn both_owners() -> History {
+    let mut history = History::new("both", SIZE);
+    for (turn, number) in NUMBERS.into_iter().enumerate() {
+        let owner = OWNERS[turn % 2];
+        let (other, group) = (other_than(owner), group_of(number));
+        history.store_any(owner, number, 7);
+        history.find_for_both(7, group);
+        history.remove(other, 7, group);
+        history.sum();
+        history.store_any(other, number, 7);
+        history.find_for_both(7, group);
+        history.sum();
+        history.store_any(owner, number, 7);
+        history.find_for_both(7, group);
+        history.remove(other, 7, group);
+        history.find_for_both(7, group);
+        history.sum();
+        history.remove(owner, 7, group);
+        history.find_for_both(7, group);
+        history.sum();
+    }
+    history
+}
+
+/// Numbers that are no owner on empty, used, full and damaged tables, with sound and refused messages and bad groups.
+fn no_owners() -> History {
+    let mut history = History::new("no-owner", SIZE);
+    for owner in NO_OWNERS {
+        history.all_calls(owner, 3, 2);
+    }
+    history = no_owner_calls(history);
+    history.fresh(SIZE);
+    history.fill(1, SINS_OF_ONE);
+    history = no_owner_calls(history);
+    history.fill(2, SINS_OF_OTHER);
+    history = no_owner_calls(history);
+    history.poke(SIZE - 1, 1);
+    no_owner_calls(history)
+}
+
+/// Calls with numbers that are no owner, of a key that may be there and of one that is not.
+fn no_owner_calls(mut history: History) -> History {
+    for owner in NO_OWNERS {
+        history.store_any(owner, 1025, 3);
+        history.store_any(owner, 1025, 77);
+        history.store(owner, &[]);
+        for message in refused_list().iter().skip(2).step_by(2) {
+            history.store(owner, message);
+        }
+        for (sin, group) in [(3, 2), (77, 2), (3, 3), (3, 255)] {
+            history.find(owner, sin, group);
+            history.remove(owner, sin, group);
+        }
+        history.sum();
+    }
     history
 }
 
@@ -216,38 +343,46 @@ fn equal_sins() -> History {
 fn groups() -> History {
     let mut history = History::new("groups", SIZE);
     for group in [0, 1, 2, 3, 4, 127, 128, 255] {
-        history.find(0, group);
-        history.remove(0, group);
+        history.find_for_both(0, group);
+        history.remove(1, 0, group);
+        history.remove(2, 0, group);
     }
-    history.store_any(1025, 7);
-    for group in [0, 1, 3, 4, 255] {
-        history.find(7, group);
-        history.remove(7, group);
+    for owner in OWNERS {
+        history.store_any(owner, 1025, 7);
+        for group in [0, 1, 3, 4, 255] {
+            history.find_for_both(7, group);
+            history.remove(owner, 7, group);
+        }
+        for sin in [6, 8, 0, 255] {
+            history.find_for_both(sin, 2);
+            history.remove(owner, sin, 2);
+        }
+        history.sum();
+        history.find_for_both(7, 2);
     }
-    for sin in [6, 8, 0, 255] {
-        history.find(sin, 2);
-        history.remove(sin, 2);
-    }
-    history.sum();
-    history.find(7, 2);
     history
 }
 
-/// Refused messages stored in an empty, a used and a full table.
+/// Refused messages stored in an empty table, in a used one, where the owner holds 20 slots and where no slot is free.
 fn refused_messages() -> History {
     let mut history = History::new("refused", SIZE);
     let refused = refused_list();
-    refused.iter().for_each(|message| history.store(message));
-    history.sum();
-    history.store_any(1025, 5);
-    refused.iter().for_each(|message| history.store(message));
-    history.find(5, 2);
-    for sin in 6..37 {
-        history.store_any(1025, sin);
-    }
-    history.sum();
-    refused.iter().for_each(|message| history.store(message));
-    history.store_any(1025, 99);
+    let store_all = |history: &mut History| {
+        for owner in OWNERS {
+            refused.iter().for_each(|message| history.store(owner, message));
+        }
+        history.sum();
+    };
+    store_all(&mut history);
+    history.store_any(1, 1025, 5);
+    store_all(&mut history);
+    history.find_for_both(5, 2);
+    history.fill(1, SINS_OF_ONE);
+    store_all(&mut history);
+    history.store_any(1, 1025, 99);
+    history.fill(2, SINS_OF_OTHER);
+    store_all(&mut history);
+    history.store_any(2, 1025, 99);
     history.sum();
     history
 }
@@ -273,28 +408,29 @@ fn refused_list() -> Vec<Vec<u8>> {
     ]
 }
 
-/// Tables of wrong sizes, with sound and refused messages and bad groups.
+/// Tables of wrong sizes, with sound and refused messages, bad groups and numbers that are no owner.
 fn wrong_sizes() -> History {
     let mut history = History::new("sizes", 0);
-    for size in [0, 1, 127, 128, 129, 4_095, 4_097, 4_224, 4_300] {
+    for size in [0, 1, 128, 131, 132, 133, 4_092, 4_096, 4_223, 4_225, 4_300] {
         history.fresh(size);
-        history.all_calls(3, 2);
-        history.store(&[]);
-        history.find(3, 9);
-        history.remove(3, 255);
-        history.sum();
+        OWNERS.into_iter().for_each(|owner| history.all_calls(owner, 3, 2));
+        history.store(1, &[]);
+        history.find(2, 3, 9);
+        history.remove(1, 3, 255);
+        history.all_calls(0, 3, 2);
+        history.all_calls(3, 3, 9);
     }
     history.fresh(SIZE);
-    history.all_calls(3, 2);
+    history.all_calls(1, 3, 2);
     history
 }
 
 /// A table of three messages, of which the middle one is to be damaged.
 fn three_messages(name: &str) -> History {
     let mut history = History::new(name, SIZE);
-    history.store_any(1025, 1);
-    history.store_any(1027, 2);
-    history.store_any(1026, 3);
+    history.store_any(1, 1025, 1);
+    history.store_any(2, 1027, 2);
+    history.store_any(1, 1026, 3);
     history
 }
 
@@ -302,21 +438,44 @@ fn three_messages(name: &str) -> History {
 fn damage(history: &mut History, at: usize, value: u8) {
     let before = history.table[at];
     history.poke(at, value);
-    history.all_calls(1, 2);
+    history.all_calls(1, 1, 2);
+    history.find(2, 2, 2);
     history.poke(at, before);
+}
+
+/// Owner bytes that are wrong, in used and in free slots, and one that gives a message to the other owner.
+fn wrong_owner_bytes() -> History {
+    let mut history = three_messages("owner-bytes");
+    for owner in NO_OWNERS {
+        damage(&mut history, SLOT, owner);
+        damage(&mut history, 0, owner);
+    }
+    for owner in [1, 2, 3, 255] {
+        damage(&mut history, 3 * SLOT, owner);
+        damage(&mut history, 31 * SLOT, owner);
+    }
+    history.sum();
+    for owner in [1, 2] {
+        history.poke(SLOT, owner);
+        history.find_for_both(2, 2);
+        history.store_any(1, 1026, 2);
+        history.find_for_both(2, 2);
+        history.sum();
+    }
+    history
 }
 
 /// Length bytes that are wrong.
 fn wrong_lengths() -> History {
     let mut history = three_messages("lengths");
-    for length in [0, 1, 2, 32, 34, 52, 127, 128, 129, 255] {
-        damage(&mut history, SLOT, length);
+    for length in [0, 1, 2, 32, 34, 52, 127, 128, 129, 130, 131, 255] {
+        damage(&mut history, SLOT + 1, length);
     }
     for length in [1, 25, 127, 128, 255] {
-        damage(&mut history, 3 * SLOT, length);
-        damage(&mut history, 31 * SLOT, length);
+        damage(&mut history, 3 * SLOT + 1, length);
+        damage(&mut history, 31 * SLOT + 1, length);
     }
-    history.find(2, 2);
+    history.find_for_both(2, 2);
     history.sum();
     history
 }
@@ -324,47 +483,100 @@ fn wrong_lengths() -> History {
 /// Stray bytes behind a message and in free slots.
 fn stray_bytes() -> History {
     let mut history = three_messages("strays");
-    for at in [26, 27, 127, SLOT + 34, SLOT + 127, 2 * SLOT + 31, 2 * SLOT + 100, 2 * SLOT + 127] {
+    for at in [27, 28, 128, SLOT + 35, SLOT + 128, 2 * SLOT + 32, 2 * SLOT + 100, 2 * SLOT + 128] {
         damage(&mut history, at, 1);
     }
-    for at in [3 * SLOT + 1, 3 * SLOT + 127, 4 * SLOT + 64, 31 * SLOT, 31 * SLOT + 1, SIZE - 2, SIZE - 1] {
+    for at in [3 * SLOT + 2, 3 * SLOT + 128, 4 * SLOT + 64, 31 * SLOT + 2, SIZE - 4] {
         damage(&mut history, at, 128);
     }
-    history.store(&[]);
+    history.store(1, &[]);
     history.poke(SIZE - 1, 255);
-    history.store(&[]);
-    history.find(2, 3);
-    history.remove(9, 9);
+    history.store(1, &[]);
+    history.find(2, 2, 3);
+    history.remove(1, 9, 9);
     history.poke(SIZE - 1, 0);
-    history.find(2, 2);
+    history.find(2, 2, 2);
     history
 }
 
-/// Puts a slot's length and message into the table byte by byte.
-fn poke_slot(history: &mut History, slot: usize, message: &[u8]) {
-    history.poke(slot * SLOT, message.len() as u8);
+/// Each of the three zeros at the end of a slot set, behind a short and a longest message and in free slots.
+fn last_zeros() -> History {
+    let mut history = three_messages("zeros");
+    history.store(2, &longest(1022, 4));
+    history.find(2, 4, 0);
+    history.sum();
+    for slot in [0, 1, 3, 4, 31] {
+        for zero in 0..3 {
+            let at = slot * SLOT + SLOT_HEAD + SLOT_ROOM + zero;
+            damage(&mut history, at, [1, 128, 255][zero]);
+        }
+    }
+    history.find(2, 4, 0);
+    history.sum();
+    history
+}
+
+/// Puts an owner's message into a slot of the table byte by byte.
+fn poke_slot(history: &mut History, slot: usize, owner: u8, message: &[u8]) {
+    history.poke(slot * SLOT, owner);
+    history.poke(slot * SLOT + 1, message.len() as u8);
     for (i, &byte) in message.iter().enumerate() {
         if byte != 0 {
-            history.poke(slot * SLOT + 1 + i, byte);
+            history.poke(slot * SLOT + SLOT_HEAD + i, byte);
         }
     }
 }
 
-/// The same key in two slots, by the same number and by two numbers of one group.
+/// The same key in two slots, by the same number and by two numbers of one group; for both owners it is sound.
 fn same_key_twice() -> History {
     let mut history = History::new("twice", SIZE);
-    for (first, second) in [(1025, 1025), (1025, 1027), (1021, 1022), (1023, 1024)] {
+    for (owner, first, second) in [(1, 1025, 1025), (2, 1025, 1027), (1, 1021, 1022), (2, 1023, 1024)] {
         history.fresh(SIZE);
-        let group = group_of(first);
-        history.store(&Sample::zeros(first).with(147, 77).bytes());
-        poke_slot(&mut history, 20, &Sample::zeros(second).with(147, 77).bytes());
-        history.all_calls(77, group);
-        history.find(78, group);
-        history.store(&Sample::zeros(1025).with(147, 78).bytes());
-        let sin_byte = 20 * SLOT + if group == 0 { 4 } else { 3 };
+        let (other, group) = (other_than(owner), group_of(first));
+        history.store(owner, &Sample::zeros(first).with(147, 77).bytes());
+        poke_slot(&mut history, 20, owner, &Sample::zeros(second).with(147, 77).bytes());
+        history.all_calls(owner, 77, group);
+        history.find(other, 78, group);
+        history.store(other, &Sample::zeros(1025).with(147, 78).bytes());
+        history.poke(20 * SLOT, other);
+        history.find_for_both(77, group);
+        history.all_calls(other, 77, group);
+        history.find_for_both(77, group);
+        let sin_byte = SLOT_HEAD + if group == 0 { 3 } else { 2 };
         let value = history.table[sin_byte];
         history.poke(sin_byte, value ^ 0x10);
-        history.all_calls(77, group);
+        history.all_calls(owner, 77, group);
+    }
+    history
+}
+
+/// More than 20 slots of one owner in an otherwise sound table.
+fn crowded() -> History {
+    let mut history = History::new("crowded", SIZE);
+    for owner in OWNERS {
+        let other = other_than(owner);
+        history.fresh(SIZE);
+        history.fill(owner, SINS_OF_ONE);
+        (100..112).for_each(|sin| history.store_any(other, 1025, sin));
+        for slot in [20, 31] {
+            history.poke(slot * SLOT, owner);
+            OWNERS.into_iter().for_each(|owner| history.all_calls(owner, 3, 2));
+            history.all_calls(0, 3, 2);
+            history.poke(slot * SLOT, other);
+        }
+        history.sum();
+        (20..SLOTS).for_each(|slot| history.poke(slot * SLOT, owner));
+        history.all_calls(owner, 3, 2);
+        (12..SLOTS).for_each(|slot| history.poke(slot * SLOT, other));
+        history.all_calls(other, 100, 2);
+        history.store_any(other, 1025, 200);
+        history.store_any(other, 1025, 201);
+        history.store_any(owner, 1025, 201);
+        history.sum();
+        history.fresh(SIZE);
+        history.fill(owner, SINS_OF_ONE);
+        poke_slot(&mut history, 25, owner, &Sample::zeros(1025).with(147, 99).bytes());
+        history.all_calls(other, 99, 2);
     }
     history
 }
@@ -372,84 +584,122 @@ fn same_key_twice() -> History {
 /// Messages inside the table that are refused for each of reasons 1 to 5.
 fn refused_inside() -> History {
     let mut history = three_messages("inside");
-    let last = SLOT + 33;
+    let first = SLOT + SLOT_HEAD;
+    let last = first + 32;
     let filled = history.table[last] | 1;
     damage(&mut history, last, filled);
-    let number = history.table[SLOT + 1];
-    damage(&mut history, SLOT + 1, number ^ 0x80);
-    let second = history.table[SLOT + 2];
-    damage(&mut history, SLOT + 2, second ^ 0x40);
-    history.fresh(SIZE);
-    let sound = Sample::zeros(1025).with(147, 1);
-    poke_slot(&mut history, 3, &sound.with(171, 8_181_818_182).bytes());
-    history.all_calls(1, 2);
-    history.fresh(SIZE);
-    poke_slot(&mut history, 3, &Sample::zeros(1021).with(152, 162_001).bytes());
-    history.all_calls(1, 2);
-    history.fresh(SIZE);
-    history.poke(3 * SLOT, 1);
-    history.poke(3 * SLOT + 1, 0x40);
-    history.all_calls(1, 2);
+    let number = history.table[first];
+    damage(&mut history, first, number ^ 0x80);
+    let second = history.table[first + 1];
+    damage(&mut history, first + 1, second ^ 0x40);
+    for owner in OWNERS {
+        history.fresh(SIZE);
+        let sound = Sample::zeros(1025).with(147, 1);
+        poke_slot(&mut history, 3, owner, &sound.with(171, 8_181_818_182).bytes());
+        history.all_calls(owner, 1, 2);
+        history.fresh(SIZE);
+        poke_slot(&mut history, 3, owner, &Sample::zeros(1021).with(152, 162_001).bytes());
+        history.all_calls(owner, 1, 2);
+        history.fresh(SIZE);
+        poke_slot(&mut history, 3, owner, &[0x40]);
+        history.all_calls(owner, 1, 2);
+    }
     history
 }
 
-/// Well-formed tables that hold messages before the first call, not from the first slot on.
+/// Well-formed tables that hold messages of both owners before the first call, not from the first slot on.
 fn held_from_start() -> History {
     let mut history = History::new("first", SIZE);
-    poke_slot(&mut history, 31, &Sample::zeros(1025).with(147, 5).bytes());
-    history.find(5, 2);
-    poke_slot(&mut history, 2, &Sample::zeros(1021).with(147, 5).bytes());
-    history.find(5, 0);
-    for sin in 6..9 {
-        history.store_any(1025, sin);
-        history.find(sin, 2);
+    poke_slot(&mut history, 31, 1, &Sample::zeros(1025).with(147, 5).bytes());
+    history.find_for_both(5, 2);
+    poke_slot(&mut history, 2, 2, &Sample::zeros(1021).with(147, 5).bytes());
+    history.find_for_both(5, 0);
+    for (owner, sin) in [(1, 6), (2, 6), (1, 8)] {
+        history.store_any(owner, 1025, sin);
+        history.find_for_both(sin, 2);
     }
-    history.store_any(1026, 5);
-    history.find(5, 2);
+    history.store_any(1, 1026, 5);
+    history.find_for_both(5, 2);
     history.sum();
-    history.remove(5, 0);
-    history.remove(5, 2);
+    history.remove(1, 5, 0);
+    history.remove(2, 5, 0);
+    history.remove(2, 5, 2);
+    history.remove(1, 5, 2);
     history.sum();
-    history.store_any(1025, 5);
-    history.find(5, 2);
+    history.store_any(2, 1025, 5);
+    history.find_for_both(5, 2);
     history.sum();
     history
 }
 
-/// The longest messages, which fill a slot to its last byte, replaced by the shortest of their group.
+/// A message of a number with two names of 31 characters and a system identification number.
+fn longest(number: u16, sin: i64) -> Vec<u8> {
+    let name = [0xff; 31];
+    Sample::new(number, [&name, &name], |f| f.least()).with(147, sin).bytes()
+}
+
+/// The longest messages, which fill a slot to its three zeros, replaced by the shortest of their group.
 fn longest_messages() -> History {
     let mut history = History::new("longest", SIZE);
-    let name = [0xff; 31];
-    for (number, sin) in [(1022, 0), (1021, 1), (1022, 2)] {
-        let message = Sample::new(number, [&name, &name], |f| f.least()).with(147, sin).bytes();
-        history.store(&message);
-        history.find(sin as u8, 0);
+    for (owner, number, sin) in [(1, 1022, 0), (2, 1021, 1), (2, 1022, 0)] {
+        history.store(owner, &longest(number, sin));
+        history.find_for_both(sin as u8, 0);
         history.sum();
     }
-    history.poke(0, 126);
-    history.all_calls(1, 0);
-    history.poke(0, 127);
-    for sin in 0..3 {
-        history.store(&Sample::zeros(1021).with(147, sin).bytes());
-        history.find(sin as u8, 0);
+    for length in [126, 128, 130] {
+        history.poke(1, length);
+        history.all_calls(2, 1, 0);
+    }
+    history.poke(1, 127);
+    for (owner, sin) in [(2, 0), (1, 0), (2, 1)] {
+        history.store(owner, &Sample::zeros(1021).with(147, sin).bytes());
+        history.find_for_both(sin as u8, 0);
         history.sum();
     }
     history
 }
 
-/// Random calls over a number of system identification numbers.
+/// An owner's keys stored, found, replaced and removed behind a number of the other's.
+fn behind_the_other(name: &str, keys: u8, others: u8) -> History {
+    let mut history = History::new(name, SIZE);
+    history.fill(2, others);
+    for sin in 0..keys {
+        history.store(1, &Sample::usual(1025).with(147, i64::from(sin)).bytes());
+    }
+    (0..keys).for_each(|sin| history.find(1, sin, 2));
+    history.store(1, &Sample::usual(1027).with(147, 0).bytes());
+    history.find(1, 0, 2);
+    history.remove(1, keys - 1, 2);
+    history.find(1, keys - 1, 2);
+    history.store(1, &Sample::usual(1026).with(147, 50).bytes());
+    history.find(1, 50, 2);
+    history.sum();
+    history
+}
+
+/// An owner by turns, one in sixteen a number that is no owner.
+fn any_owner(random: &mut Random) -> u8 {
+    if random.below(16) == 0 {
+        NO_OWNERS[random.below(5) as usize]
+    } else {
+        OWNERS[random.below(2) as usize]
+    }
+}
+
+/// Random calls of both owners over a number of system identification numbers.
 fn random_calls(name: &str, sins: u64, calls: usize) -> History {
     let mut history = History::new(name, SIZE);
     for call in 0..calls {
+        let owner = any_owner(&mut history.random);
         let sin = history.random.below(sins) as u8;
         let group = history.random.below(3) as u8;
         match history.random.below(10) {
-            0..=4 => {
+            0..=5 => {
                 let number = NUMBERS[history.random.below(7) as usize];
-                history.store_any(number, sin);
+                history.store_any(owner, number, sin);
             }
-            5 | 6 => history.remove(sin, group),
-            _ => history.find(sin, group),
+            6 => history.remove(owner, sin, group),
+            _ => history.find(owner, sin, group),
         }
         if call % 3 == 2 {
             history.sum();

@@ -14,10 +14,11 @@ use Rattle.table.proofs.shown.Tie as tie
 inside : (c : tie.After-struct-known) → c .before .find .result .at + c .before .find .result .length ≤ length (c .before .before .before .args .table .now)
 inside c =
     let t = c .before .before .before .args .table .now in
+    let o = c .before .before .before .args .owner in
     let s = c .before .before .before .args .sin in
     let g = c .before .before .before .args .group in
-    let e = says t s g _ (c .before .find .ensures) in
-    omega (arith, found-fits t s g)
+    let e = says t o s g _ (c .before .find .ensures) in
+    omega (arith, found-fits t o s g)
 
 add-e : tie.Need-add-e
 add-e c = omega (arith, inside c)
@@ -29,13 +30,14 @@ returns : tie.Need-returns
 unfolding found
 returns c =
     let t = c .before .before .before .before .args .table .now in
+    let o = c .before .before .before .before .args .owner in
     let s = c .before .before .before .before .args .sin in
     let g = c .before .before .before .before .args .group in
     let f = c .before .before .find .result in
-    let e = says t s g f (c .before .before .find .ensures) in
+    let e = says t o s g f (c .before .before .find .ensures) in
     let z : f .at + f .length - f .at ≡ f .length = omega arith in
     record {
-      bytes = ap (λ k. take k (drop (f .at) t)) (z ∙ e .size) ∙ ap (λ k. take (foundLength t s g) (drop k t)) (e .start);
+      bytes = ap (λ k. take k (drop (f .at) t)) (z ∙ e .size) ∙ ap (λ k. take (foundLength t o s g) (drop k t)) (e .start);
       block = refl;
       offset = ap (λ k. k + c .before .before .before .before .args .table .ptr .1) (e .start);
     }
