@@ -1,8 +1,9 @@
-/* Plain C baselines for message 1023, for a table of such messages and for frames, with the answers of
- * include/tarnoklej.h but for these:
+/* Plain C baselines for message 1023, for rows of its shifts, for a table of such messages and for frames, with the
+ * answers of include/tarnoklej.h but for these:
  * a message, a row or a table's slot of any other number is refused (NUMBER, RANGE, TABLE);
  * a node of the cell that has no value is refused (ABSENT) also where it has no weight;
- * the weighted mean is a double before it is rounded, so that a count at or near a half can be another.
+ * the weighted mean is a double before it is rounded, so that a count at or near a half can be another, but not in a row;
+ * a grid is not looked for across 180 degrees.
  */
 #ifndef BASELINE_H
 #define BASELINE_H
@@ -31,6 +32,8 @@ typedef struct {
                         tarnoklej_shifts *shifts);
     /* The shift of one component: in plain C without the others, of the library that part of the three. */
     shift (*one_shift)(const uint8_t *message, size_t length, uint8_t component, int64_t north, int64_t east);
+    uint8_t (*shift_row)(const uint8_t *message, size_t length, uint8_t component, int64_t north, int64_t east,
+                         int64_t step, size_t count, int64_t *row, size_t room);
     uint8_t (*store)(uint8_t *table, size_t size, uint8_t owner, const uint8_t *message, size_t length);
     tarnoklej_found (*find)(const uint8_t *table, size_t size, uint8_t owner, uint8_t sin, uint8_t group);
     tarnoklej_frame (*find_frame)(const uint8_t *bytes, size_t size, size_t from);
@@ -44,6 +47,12 @@ extern const baseline ONE_LOAD;
 
 /* A table in which slots are looked up by their bytes alone, without a check that they are well formed. */
 extern const baseline UNCHECKED;
+
+/* Rows of shifts by the library's call of the three shifts at each place. */
+extern const baseline CALL_AT_EACH_PLACE;
+
+/* Rows of shifts by additions and comparisons of whole numbers, with a division only where a cell begins. */
+extern const baseline ADDITIONS;
 
 /* Frames with a CRC by a table of 256 entries. */
 extern const baseline TABLE_OF_256;

@@ -1,4 +1,4 @@
-/* Prints how long the library takes for each call beside plain C, as a Markdown table.
+/* Prints how long the library takes for each call beside plain C, as Markdown tables.
  * Before a call is timed, its whole answer is compared in all of them.
  */
 #include <math.h>
@@ -53,14 +53,16 @@ const baseline LIBRARY = {.name = "library",
                           .shifts_at = tarnoklej_shifts_at,
                           .many_shifts = library_many_shifts,
                           .one_shift = library_one_shift,
+                          .shift_row = tarnoklej_shift_row,
                           .store = tarnoklej_store,
                           .find = tarnoklej_find,
                           .find_frame = tarnoklej_find_frame,
                           .write_frame = tarnoklej_write_frame};
 
 /* All that are timed, the library first. */
-enum { TIMED = 5 };
-static const baseline *const ALL[TIMED] = {&LIBRARY, &BIT_BY_BIT, &ONE_LOAD, &UNCHECKED, &TABLE_OF_256};
+enum { TIMED = 7 };
+static const baseline *const ALL[TIMED] = {&LIBRARY,   &BIT_BY_BIT, &ONE_LOAD,    &CALL_AT_EACH_PLACE,
+                                           &ADDITIONS, &UNCHECKED,  &TABLE_OF_256};
 
 static uint64_t run_read(const baseline *by, size_t turn, size_t size)
 {
@@ -257,12 +259,15 @@ static const call CALLS[] = {
     {"store (replaces), 32 slots in use", run_store, same_store, 32, 1, TURNS_CHECKED, ON_TABLE},
 };
 
-enum { CALLS_COUNT = sizeof CALLS / sizeof *CALLS, ALL_CALLS = CALLS_COUNT + FRAME_CALLS_COUNT };
+enum { CALLS_COUNT = sizeof CALLS / sizeof *CALLS, BEFORE_FRAMES = CALLS_COUNT + ROW_CALLS_COUNT };
+enum { ALL_CALLS = BEFORE_FRAMES + FRAME_CALLS_COUNT };
 
 /* One of all calls. */
 static const call *call_at(size_t i)
 {
-    return i < CALLS_COUNT ? &CALLS[i] : &FRAME_CALLS[i - CALLS_COUNT];
+    if (i < CALLS_COUNT)
+        return &CALLS[i];
+    return i < BEFORE_FRAMES ? &ROW_CALLS[i - CALLS_COUNT] : &FRAME_CALLS[i - BEFORE_FRAMES];
 }
 
 /* By splitmix64. */
@@ -344,10 +349,12 @@ static void fill_table(size_t slots)
             stop("a message was refused", "table");
 }
 
-/* Whether one of those timed has the call. */
-static int has(const baseline *by, const call *c)
+/* Whether one of those timed has the calls on a subject. */
+static int has(const baseline *by, subject on)
 {
-    switch (c->on) {
+    switch (on) {
+    case ON_ROWS:
+        return by->shift_row != NULL;
     case ON_TABLE:
         return by->find != NULL;
     case ON_FRAMES:
@@ -363,7 +370,7 @@ static void check_answers(const call *c, double *nanoseconds)
     for (int k = 0; k < TIMED; k++)
         nanoseconds[k] = HUGE_VAL;
     for (int k = 1; k < TIMED; k++)
-        for (size_t turn = 0; has(ALL[k], c) && turn < c->checked; turn++)
+        for (size_t turn = 0; has(ALL[k], c->on) && turn < c->checked; turn++)
             if (!c->same(ALL[k], turn, c->size))
                 stop("another answer than the library's", c->name);
 }
@@ -405,7 +412,7 @@ static void time_call(const call *c, double *nanoseconds)
 {
     size_t calls[TIMED];
     for (int k = 0; k < TIMED; k++)
-        calls[k] = has(ALL[k], c) ? calls_for_a_round(c, ALL[k]) : 0;
+        calls[k] = has(ALL[k], c->on) ? calls_for_a_round(c, ALL[k]) : 0;
     for (int round = 0; round < ROUNDS; round++)
         for (int k = 0; k < TIMED; k++) {
             if (calls[k] == 0)
@@ -416,17 +423,37 @@ static void time_call(const call *c, double *nanoseconds)
         }
 }
 
+/* Prints the time of a baseline and the ratio, a small one with more places. */
+static void print_beside(double nanoseconds, double ratio)
+{
+    printf(" %.1f | %.*f |", nanoseconds, ratio < 0.1 ? 4 : 2, ratio);
+}
+
 /* Prints the line of one call. */
 static void print_line(const call *c, const double *nanoseconds)
 {
     printf("| %s | %.0f | %.1f |", c->name, 1e9 / nanoseconds[0], nanoseconds[0]);
-    for (int k = 1; k < TIMED; k++) {
-        if (has(ALL[k], c))
-            printf(" %.1f | %.2f |", nanoseconds[k], nanoseconds[0] / nanoseconds[k]);
-        else
-            printf(" - | - |");
-    }
+    for (int k = 1; k < TIMED; k++)
+        if (has(ALL[k], c->on))
+            print_beside(nanoseconds[k], nanoseconds[0] / nanoseconds[k]);
     printf("\n");
+}
+
+/* Prints the table of the calls on a subject, beside those that have them. */
+static void print_table(subject on, double (*nanoseconds)[TIMED])
+{
+    printf("%s| call | library, per second | ns |", on == ON_MESSAGE ? "" : "\n");
+    for (int k = 1; k < TIMED; k++)
+        if (has(ALL[k], on))
+            printf(" %s, ns | ratio |", ALL[k]->name);
+    printf("\n|---|---:|---:|");
+    for (int k = 1; k < TIMED; k++)
+        if (has(ALL[k], on))
+            printf("---:|---:|");
+    printf("\n");
+    for (size_t i = 0; i < ALL_CALLS; i++)
+        if (call_at(i)->on == on)
+            print_line(call_at(i), nanoseconds[i]);
 }
 
 /* Does something for every call, on a table of its slots where it needs one. */
@@ -443,18 +470,12 @@ int main(void)
 {
     static double nanoseconds[ALL_CALLS][TIMED];
     make_inputs();
+    make_rows();
     make_frames();
     for_all_calls(check_answers, nanoseconds);
     for (int pass = 0; pass < PASSES; pass++)
         for_all_calls(time_call, nanoseconds);
-    printf("| call | library, per second | ns |");
-    for (int k = 1; k < TIMED; k++)
-        printf(" %s, ns | ratio |", ALL[k]->name);
-    printf("\n|---|---:|---:|");
-    for (int k = 1; k < TIMED; k++)
-        printf("---:|---:|");
-    printf("\n");
-    for (size_t i = 0; i < ALL_CALLS; i++)
-        print_line(call_at(i), nanoseconds[i]);
+    for (subject on = ON_MESSAGE; on < SUBJECTS; on++)
+        print_table(on, nanoseconds);
     return 0;
 }

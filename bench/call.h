@@ -4,14 +4,14 @@
 #include "baseline.h"
 
 /* What a call is made on. */
-typedef enum { ON_MESSAGE, ON_TABLE, ON_FRAMES } subject;
+typedef enum { ON_MESSAGE, ON_ROWS, ON_TABLE, ON_FRAMES, SUBJECTS } subject;
 
 /* A call to time: makes the call of a turn and gives something of its answer, or whether the whole is the library's. */
 typedef struct {
     const char *name;
     uint64_t (*run)(const baseline *by, size_t turn, size_t size);
     int (*same)(const baseline *by, size_t turn, size_t size);
-    size_t size;    /* positions for each message, slots in use, or bytes of a message */
+    size_t size;    /* positions for each message, places of a row, slots in use, or bytes of a message */
     size_t answers; /* answers of one call */
     size_t checked; /* turns whose answers are compared */
     subject on;
@@ -21,6 +21,11 @@ typedef struct {
 enum { FRAME_CALLS_COUNT = 5 };
 extern const call FRAME_CALLS[FRAME_CALLS_COUNT];
 void make_frames(void);
+
+/* The calls on rows of shifts, for which make_rows must have been called. */
+enum { ROW_CALLS_COUNT = 1 };
+extern const call ROW_CALLS[ROW_CALLS_COUNT];
+void make_rows(void);
 
 /* The library's calls. */
 extern const baseline LIBRARY;

@@ -4,7 +4,7 @@
  * Every call ends with an answer for every input, keeps nothing between calls and allocates nothing.
  * A refusal number says why a call was refused; refusals are tested in the order given at each call.
  * No pointer may be null, not even where its length is 0, and no buffer that a call writes may overlap another.
- * Every buffer must be memory of at least the length given with it, and values must be aligned as an int64_t is.
+ * Every buffer must be memory of at least the length given with it, and values and row must be aligned as an int64_t is.
  *
  * A row holds the fields of a message in wire order, DF002 first, in two buffers side by side: values and present.
  * Where a field has a value, present is 1; where it has none, that is where it is not available, present is 0 and its
@@ -27,10 +27,11 @@ enum {
     TARNOKLEJ_LENGTH = 3,     /* not the length called for, a name counter cannot be read, or too long for a frame */
     TARNOKLEJ_FILL = 4,       /* a fill bit is set */
     TARNOKLEJ_RANGE = 5,      /* a field outside its range or width, or buffers that are no row of a message */
-    TARNOKLEJ_ROOM = 6,       /* an output shorter than the message, its row or its frame */
+    TARNOKLEJ_ROOM = 6,       /* an output shorter than the message, its row or its frame, or than a row of shifts */
     TARNOKLEJ_KIND = 7,       /* a grid call on a message other than 1023 or 1024 */
     TARNOKLEJ_COMPONENT = 8,  /* not 0 to 2 */
-    TARNOKLEJ_POSITION = 9,   /* 1023: beyond +-3,240,000,000 or +-6,480,000,000; 1024: either beyond +-10^12 */
+    TARNOKLEJ_POSITION = 9,   /* 1023: beyond +-3,240,000,000 or +-6,480,000,000; 1024: either beyond +-10^12;
+                                 a row of shifts of no place or too many, or with a negative step */
     TARNOKLEJ_OFF = 10,       /* DF190 is 0 (components 0, 1) or DF191 is 0 (component 2) */
     TARNOKLEJ_METHOD = 11,    /* DF212 (components 0, 1) or DF213 (component 2) is not 0 */
     TARNOKLEJ_ORIGIN = 12,    /* an origin field has no value */
@@ -47,15 +48,16 @@ enum {
 
 /* Sizes. */
 enum {
-    TARNOKLEJ_TABLE_SIZE = 4224, /* bytes of a table; 4,224 zeros are an empty table */
-    TARNOKLEJ_SLOTS = 32,        /* messages that a table holds */
-    TARNOKLEJ_OWNER_SLOTS = 20,  /* slots that an owner holds at most, so that 12 are always there for the other */
-    TARNOKLEJ_SLOT_SIZE = 132,   /* bytes of a slot: owner, length, 127 message bytes, three zeros */
-    TARNOKLEJ_MOST_BYTES = 127,  /* bytes of the longest message, a 1022 of two names of 31 characters */
-    TARNOKLEJ_MOST_FIELDS = 90,  /* fields of the longest row, of the same message */
-    TARNOKLEJ_FRAME_HEAD = 3,    /* bytes of a frame before its message: D3, six zero bits, a ten-bit length */
-    TARNOKLEJ_FRAME_TAIL = 3,    /* bytes of a frame behind its message: the CRC-24Q of all before */
-    TARNOKLEJ_MOST_FRAMED = 1023 /* bytes of the longest message that a frame holds */
+    TARNOKLEJ_TABLE_SIZE = 4224,  /* bytes of a table; 4,224 zeros are an empty table */
+    TARNOKLEJ_SLOTS = 32,         /* messages that a table holds */
+    TARNOKLEJ_OWNER_SLOTS = 20,   /* slots that an owner holds at most, so that 12 are always there for the other */
+    TARNOKLEJ_SLOT_SIZE = 132,    /* bytes of a slot: owner, length, 127 message bytes, three zeros */
+    TARNOKLEJ_MOST_BYTES = 127,   /* bytes of the longest message, a 1022 of two names of 31 characters */
+    TARNOKLEJ_MOST_FIELDS = 90,   /* fields of the longest row, of the same message */
+    TARNOKLEJ_FRAME_HEAD = 3,     /* bytes of a frame before its message: D3, six zero bits, a ten-bit length */
+    TARNOKLEJ_FRAME_TAIL = 3,     /* bytes of a frame behind its message: the CRC-24Q of all before */
+    TARNOKLEJ_MOST_FRAMED = 1023, /* bytes of the longest message that a frame holds */
+    TARNOKLEJ_MOST_PLACES = 4096  /* places of the longest row of shifts */
 };
 
 /* The components of a shift. */
@@ -131,6 +133,20 @@ tarnoklej_written tarnoklej_write_fields(const int64_t *values, size_t values_co
  * Buffers: message is only read.
  */
 tarnoklej_shifts tarnoklej_shifts_at(const uint8_t *message, size_t message_length, int64_t north, int64_t east);
+
+/* Fills a row with the counts of one component at count places: the first at the position given, each next one step
+ * further east. Each number is that component's count of tarnoklej_shifts_at at its place; positions, systems and counts
+ * are those of that call. A map is drawn by such rows.
+ * A row has 1 to TARNOKLEJ_MOST_PLACES places and a step of 0 or more. For 1023 a step of a whole turn, from -180 to
+ * +180 degrees, is allowed and gives the same count twice.
+ * Refusals in order: SHORT, NUMBER, LENGTH, FILL, RANGE, KIND, COMPONENT; POSITION where count is 0 or above
+ * TARNOKLEJ_MOST_PLACES, where step is negative, or where any place is past the limits; then OFF, METHOD, ORIGIN,
+ * SPACING, OUTSIDE, ABSENT, that of the first place refused; ROOM where room is less than count.
+ * Buffers: message is only read; the first count places of row hold the counts and the rest keep theirs; with a refusal
+ * all of row keeps its numbers.
+ */
+uint8_t tarnoklej_shift_row(const uint8_t *message, size_t message_length, uint8_t component, int64_t north, int64_t east,
+                            int64_t step, size_t count, int64_t *row, size_t room);
 
 /* Gives the first frame at or after a place: at is the place of its D3, length the bytes of its message.
  * A frame is D3, six zero bits, a ten-bit length, the message, and the CRC-24Q of all these in 24 bits.

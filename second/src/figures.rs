@@ -1,4 +1,4 @@
-//! Three drawings: the grid with the weights of a cell, the rounding on both sides of zero, and a grid across 180 degrees.
+//! Four drawings: the grid with the weights of a cell, the rounding on both sides of zero, a grid across 180 degrees, and rows.
 
 use std::fmt::Write;
 use std::path::Path;
@@ -6,23 +6,25 @@ use std::path::Path;
 /// The width of a drawing in pixels.
 const WIDTH: i32 = 800;
 /// The colour of lines and words.
-const INK: &str = "#1a1a1a";
+pub(crate) const INK: &str = "#1a1a1a";
 /// The colour of what explains.
-const GREY: &str = "#666666";
+pub(crate) const GREY: &str = "#666666";
 /// The colour of what is looked at.
-const BLUE: &str = "#1f5fa8";
+pub(crate) const BLUE: &str = "#1f5fa8";
+/// The colour of what is marked.
+pub(crate) const RED: &str = "#c0392b";
 /// The colours of the four parts of a cell: south-west, south-east, north-west, north-east.
 const PARTS: [&str; 4] = ["#cfe3f5", "#d9efd3", "#fbe3c8", "#ead9f0"];
 
 /// A drawing under way.
-struct Drawing {
+pub(crate) struct Drawing {
     body: String,
     height: i32,
 }
 
 /// Where words stand relative to their place.
 #[derive(Clone, Copy)]
-enum Stand {
+pub(crate) enum Stand {
     Start,
     Middle,
     End,
@@ -30,12 +32,12 @@ enum Stand {
 
 impl Drawing {
     /// An empty drawing.
-    fn new(height: i32) -> Self {
+    pub(crate) fn new(height: i32) -> Self {
         Drawing { body: String::new(), height }
     }
 
     /// Adds a line.
-    fn line(&mut self, from: (i32, i32), to: (i32, i32), colour: &str, width: f32, dashed: bool) {
+    pub(crate) fn line(&mut self, from: (i32, i32), to: (i32, i32), colour: &str, width: f32, dashed: bool) {
         let dash = if dashed { " stroke-dasharray=\"5 4\"" } else { "" };
         let ((x1, y1), (x2, y2)) = (from, to);
         writeln!(
@@ -46,7 +48,7 @@ impl Drawing {
     }
 
     /// Adds words.
-    fn words(&mut self, (x, y): (i32, i32), size: i32, colour: &str, stand: Stand, words: &str) {
+    pub(crate) fn words(&mut self, (x, y): (i32, i32), size: i32, colour: &str, stand: Stand, words: &str) {
         let anchor = match stand {
             Stand::Start => "start",
             Stand::Middle => "middle",
@@ -60,7 +62,7 @@ impl Drawing {
     }
 
     /// Adds a disc with a rim.
-    fn disc(&mut self, (x, y): (i32, i32), radius: i32, fill: &str, rim: &str) {
+    pub(crate) fn disc(&mut self, (x, y): (i32, i32), radius: i32, fill: &str, rim: &str) {
         writeln!(
             self.body,
             "<circle cx=\"{x}\" cy=\"{y}\" r=\"{radius}\" fill=\"{fill}\" stroke=\"{rim}\" stroke-width=\"1.5\"/>"
@@ -80,13 +82,13 @@ impl Drawing {
     }
 
     /// Adds a rectangle without a rim.
-    fn area(&mut self, (x, y): (i32, i32), (width, height): (i32, i32), fill: &str) {
+    pub(crate) fn area(&mut self, (x, y): (i32, i32), (width, height): (i32, i32), fill: &str) {
         writeln!(self.body, "<rect x=\"{x}\" y=\"{y}\" width=\"{width}\" height=\"{height}\" fill=\"{fill}\"/>")
             .expect("a string takes all");
     }
 
     /// The whole file.
-    fn file(&self, title: &str) -> String {
+    pub(crate) fn file(&self, title: &str) -> String {
         format!(
             "<svg xmlns=\"http://www.w3.org/2000/svg\" width=\"{WIDTH}\" height=\"{h}\" viewBox=\"0 0 {WIDTH} {h}\" \
              font-family=\"Helvetica, Arial, 'DejaVu Sans', sans-serif\">\n<title>{title}</title>\n\
@@ -253,7 +255,7 @@ fn draw_bar(drawing: &mut Drawing, panel: &Panel, count: i32) {
 }
 
 /// A whole number with a proper minus sign.
-fn signed(number: i32) -> String {
+pub(crate) fn signed(number: i32) -> String {
     number.to_string().replace('-', "−")
 }
 
@@ -280,10 +282,10 @@ fn draw_panel(drawing: &mut Drawing, panel: &Panel, title: &str, counts: std::op
 /// Marks a worked case at its exact mean.
 fn mark(drawing: &mut Drawing, panel: &Panel, x: i32, words: &[&str], stand: Stand) {
     let axis = panel.top + 120;
-    drawing.disc((x, axis), 5, "#c0392b", "#c0392b");
-    drawing.line((x, axis + 31), (x, axis + 40), "#c0392b", 1.2, false);
+    drawing.disc((x, axis), 5, RED, RED);
+    drawing.line((x, axis + 31), (x, axis + 40), RED, 1.2, false);
     for (i, line) in words.iter().enumerate() {
-        drawing.words((x, axis + 54 + 18 * i as i32), 14, "#c0392b", stand, line);
+        drawing.words((x, axis + 54 + 18 * i as i32), 14, RED, stand, line);
     }
 }
 
@@ -404,5 +406,6 @@ pub fn write(dir: &Path) -> std::io::Result<()> {
     std::fs::create_dir_all(dir)?;
     std::fs::write(dir.join("grid.svg"), grid())?;
     std::fs::write(dir.join("rounding.svg"), rounding())?;
-    std::fs::write(dir.join("antimeridian.svg"), antimeridian())
+    std::fs::write(dir.join("antimeridian.svg"), antimeridian())?;
+    std::fs::write(dir.join("rows.svg"), crate::figure_rows::rows())
 }

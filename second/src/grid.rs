@@ -118,7 +118,7 @@ pub fn shifts_of(record: &Record, north: i64, east: i64) -> [Part; COMPONENTS] {
 }
 
 /// A grid message and its plan, with refusals 1 to 5 and KIND in order.
-fn grid_message(bytes: &[u8]) -> Result<(Message, &'static Plan), Refusal> {
+pub(crate) fn grid_message(bytes: &[u8]) -> Result<(Message, &'static Plan), Refusal> {
     let message = read(bytes)?;
     let plan = plan_of(&message).ok_or(Refusal::Kind)?;
     Ok((message, plan))
@@ -126,14 +126,18 @@ fn grid_message(bytes: &[u8]) -> Result<(Message, &'static Plan), Refusal> {
 
 /// One component's part at a position.
 fn part(message: &Message, plan: &Plan, component: usize, position: [i64; 2]) -> Part {
-    let counted = count_at(message, plan, component, position);
+    let counted = count_at(message, plan, component, position.map(i128::from));
     counted.map_or_else(Part::refused, |count| Part::answered(count, plan.turn.is_some() && component != HEIGHT))
 }
 
+/// Whether a position is within the limits of a grid message.
+pub(crate) fn within_limits(plan: &Plan, position: [i128; 2]) -> bool {
+    (0..2).all(|axis| position[axis].abs() <= plan.farthest[axis])
+}
+
 /// One component's count at a position, with refusals 9 to 15 in order.
-fn count_at(message: &Message, plan: &Plan, component: usize, position: [i64; 2]) -> Result<i64, Refusal> {
-    let position = position.map(i128::from);
-    if (0..2).any(|axis| position[axis].abs() > plan.farthest[axis]) {
+pub(crate) fn count_at(message: &Message, plan: &Plan, component: usize, position: [i128; 2]) -> Result<i64, Refusal> {
+    if !within_limits(plan, position) {
         return Err(Refusal::Position);
     }
     count(message, plan, component, position).map(|count| count as i64)

@@ -1,12 +1,13 @@
 //! An independent second program for RTCM messages 1021 to 1027.
 //!
-//! It is written from document 01, from requests A1, A2, A3, A5, A7 and A8 of document 02, from source documents 000, 003
+//! It is written from document 01, from requests A1, A2, A3 and A5 to A8 of document 02, from source documents 000, 003
 //! and 004, and from docs/DECISIONS.md where these leave a choice. It shares no code with the proved library.
 
 pub mod bits;
 pub mod damage;
 pub mod example;
 pub mod fields;
+mod figure_rows;
 pub mod figures;
 pub mod frame;
 pub mod frames;
@@ -23,11 +24,13 @@ pub mod random;
 pub mod record;
 pub mod recording;
 pub mod refusal;
+pub mod rows;
 pub mod samples;
 pub mod selfcheck;
 pub mod selfcheck_frame;
 pub mod selfcheck_grid;
 pub mod selfcheck_nones;
+pub mod selfcheck_rows;
 pub mod selfcheck_table;
 pub mod services;
 pub mod streams;

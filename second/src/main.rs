@@ -6,7 +6,7 @@ use std::path::Path;
 use std::process::ExitCode;
 
 /// What the program can be asked for.
-const USAGE: &str = "second selfcheck | papers FILE | fields | positions | example LIST | vectors OUTDIR [--shift] [--table] [--frame] | services DIR | figures DIR | identify | frames";
+const USAGE: &str = "second selfcheck | papers FILE | fields | positions | example LIST | vectors OUTDIR [--shift] [--table] [--frame] [--row] | services DIR | figures DIR | identify | frames";
 
 /// Success or failure from a truth value.
 fn exit(good: bool) -> ExitCode {
@@ -28,7 +28,8 @@ fn compare_papers(file: &str) -> std::io::Result<bool> {
 /// Writes the cases into a folder.
 fn write_vectors(dir: &str, flags: &[String]) -> std::io::Result<bool> {
     let has = |flag: &str| flags.iter().any(|f| f == flag);
-    let wanted = vectors::Wanted { shift: has("--shift"), table: has("--table"), frame: has("--frame") };
+    let wanted =
+        vectors::Wanted { shift: has("--shift"), table: has("--table"), frame: has("--frame"), row: has("--row") };
     println!("{} cases", vectors::write(Path::new(dir), wanted)?);
     Ok(true)
 }

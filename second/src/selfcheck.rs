@@ -44,6 +44,7 @@ pub fn groups() -> Vec<Group> {
     groups.extend([round_trip_rows(), round_trip_bytes(), bad_names()]);
     groups.extend(crate::selfcheck_nones::groups());
     groups.extend(crate::selfcheck_grid::groups());
+    groups.extend(crate::selfcheck_rows::groups());
     groups.extend(crate::selfcheck_table::groups());
     groups.extend(crate::selfcheck_frame::groups());
     groups

@@ -95,6 +95,18 @@ extern "C" {
     ) -> Written;
     /// Gives the shifts of the three components at a position.
     pub fn tarnoklej_shifts_at(message: *const u8, message_length: usize, north: i64, east: i64) -> Shifts;
+    /// Fills a row with the counts of one component at equal steps east.
+    pub fn tarnoklej_shift_row(
+        message: *const u8,
+        message_length: usize,
+        component: u8,
+        north: i64,
+        east: i64,
+        step: i64,
+        count: usize,
+        row: *mut i64,
+        room: usize,
+    ) -> u8;
     /// Gives the first frame at or after a place.
     pub fn tarnoklej_find_frame(bytes: *const u8, size: usize, from: usize) -> Frame;
     /// Writes the frame of a message.

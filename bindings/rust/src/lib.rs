@@ -26,6 +26,8 @@ pub const SLOT_SIZE: usize = 132;
 pub const MOST_BYTES: usize = 127;
 /// The fields of the longest row, of the same message.
 pub const MOST_FIELDS: usize = 90;
+/// The places of the longest row of shifts.
+pub const MOST_PLACES: usize = 4_096;
 
 /// The component north-south, in counts of 0.00001 arc second (1023) or 0.1 mm (1024).
 pub const NORTH_SOUTH: u8 = 0;
@@ -268,6 +270,64 @@ pub fn shifts_at(message: &[u8], north: i64, east: i64) -> Shifts {
         east: part(at.east_refusal, at.east_count, at.east),
         height: part(at.height_refusal, at.height_count, at.height),
     }
+}
+
+/// Puts one component's counts at equal steps east into the first places of a row, and keeps the rest.
+///
+/// The first of the `count` places is the position given, and each next one is a step further east. Each number is that
+/// component's count of [`shifts_at`] at its place; positions, systems and counts are those of that call.
+/// A row has 1 to [`MOST_PLACES`] places and a step of 0 or more. For 1023 a step of a whole turn, from -180 to +180
+/// degrees, is allowed and gives the same count twice.
+///
+/// Refusals: SHORT, NUMBER, LENGTH, FILL, RANGE, KIND, COMPONENT; POSITION (a bad count, a negative step, or any place
+/// past the limits); OFF, METHOD, ORIGIN, SPACING, OUTSIDE, ABSENT, that of the first place refused; ROOM. With a
+/// refusal the row stays as it was.
+///
+/// ```
+/// use tarnoklej::{shift_row, write_fields, Refusal, HEIGHT};
+///
+/// // A grid around 49 degrees north and 11 degrees east, heights only: the mean is 46.92 m, node i has i mm.
+/// let mut fields = [Some(0); 64];
+/// fields[..8].copy_from_slice(&[1023, 7, 0, 1, 352_800, 79_200, 720, 720].map(Some));
+/// fields[10] = Some(4_692);
+/// for i in 0..16 {
+///     fields[13 + 3 * i] = Some(i as i64 + 1);
+/// }
+/// let mut message = [0; 73];
+/// write_fields(&fields, &mut message)?;
+///
+/// // From node 6 by twentieths of the way to node 7.
+/// let (north, east) = (1_765_800_000, 394_200_000);
+/// let mut row = [0; 6];
+/// shift_row(&message, HEIGHT, north, east, 180_000, 4, &mut row)?;
+/// assert_eq!(row, [469_260, 469_261, 469_261, 469_262, 0, 0]);
+/// assert_eq!(shift_row(&message, HEIGHT, north, east, 180_000, 7, &mut row), Err(Refusal::Room));
+/// assert_eq!(shift_row(&message, HEIGHT, north, east, 3_600_000, 4, &mut row), Err(Refusal::Outside));
+/// # Ok::<(), Refusal>(())
+/// ```
+pub fn shift_row(
+    message: &[u8],
+    component: u8,
+    north: i64,
+    east: i64,
+    step: i64,
+    count: usize,
+    row: &mut [i64],
+) -> Result<(), Refusal> {
+    // SAFETY: both pointers and lengths are those of slices, and a slice lent for writing overlaps no other.
+    done(unsafe {
+        ffi::tarnoklej_shift_row(
+            message.as_ptr(),
+            message.len(),
+            component,
+            north,
+            east,
+            step,
+            count,
+            row.as_mut_ptr(),
+            row.len(),
+        )
+    })
 }
 
 /// Stores an owner's message under its key, that is owner, system identification number and group, in a table.

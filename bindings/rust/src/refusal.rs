@@ -16,13 +16,13 @@ pub enum Refusal {
     Fill = 4,
     /// A field outside its range or width, or fields that are no row of a message.
     Range = 5,
-    /// An output shorter than the message, its row or its frame.
+    /// An output shorter than the message, its row or its frame, or than a row of shifts.
     Room = 6,
     /// A grid call on a message other than 1023 or 1024.
     Kind = 7,
     /// Not component 0 to 2.
     Component = 8,
-    /// A position beyond the limits.
+    /// A position beyond the limits, or a row of shifts of no place, of too many, or with a negative step.
     Position = 9,
     /// The shift indicator of the component is 0.
     Off = 10,

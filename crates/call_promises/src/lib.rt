@@ -1,5 +1,7 @@
 // Every public function of the slots, of the table, of the shift and of the exported interface, called once with its promise restated: a promise that is weakened there is missed here.
 ghost use mathlib.Core.Path.{_≡_};
+ghost use mathlib.Core.List.{[], _∷_};
+ghost use lib.Dec.{ltb};
 ghost use lib.ListN.{length};
 ghost use Rattle.arith.specs.First.{first};
 ghost use Rattle.wire.specs.Message.{header, rowRefusal, valuesRead, presentRead, writeRow};
@@ -7,8 +9,9 @@ ghost use Rattle.grid_records.specs.Grids.{frameAt};
 ghost use Rattle.grid_fields.specs.Fields.{gridSays, meanSays, nodeSays, cellSays};
 ghost use Rattle.cell.specs.Cell.{alongOf, sumIn, weightsIn, countBy};
 ghost use Rattle.position.specs.Position.{heldPlace, heldSides};
-ghost use Rattle.grid_refusals.specs.Refusals.{fieldTests};
-ghost use Rattle.grid.specs.Shift.{messageShifts, recordShifts};
+ghost use Rattle.grid_refusals.specs.Refusals.{beyond, fieldTests};
+ghost use Rattle.grid.specs.Shift.{nodeFactor, messageShifts, recordShifts};
+ghost use Rattle.shift_row_refusals.specs.Row.{placesIn, shiftRowRefusal, shiftRowFilled};
 ghost use Rattle.layout.specs.Layout.{answered, stored};
 ghost use Rattle.frame.specs.Frames.{frame, frameRefusal, findFrame};
 ghost use Prim.Native.Nat.{suc};
@@ -134,6 +137,12 @@ pub fn nodes_at(s: &[u8], component: u8, row: u64, column: u64) -> grid_fields::
     grid_fields::nodes_at(s, component, row, column)
 }
 
+pub fn position_refusal(component: u8, number: i64, north: i64, east: i64) -> u8
+    ensures { λ r. ⌜ r ≡ first ((8, ltb 2 component) ∷ (9, beyond number north east) ∷ []) ⌝ }
+{
+    grid_refusals::position_refusal(component, number, north, east)
+}
+
 pub fn early_refusal(f: grid_records::Frame, component: u8, north: i64, east: i64) -> u8
     ensures { λ r. ⌜ r ≡ first (fieldTests f component north east) ⌝ }
 {
@@ -170,6 +179,47 @@ pub fn shifts_of(g: grid_records::Grid, north: i64, east: i64) -> grid::ThreeShi
     grid::shifts_of(g, north, east)
 }
 
+pub fn factor_of(number: i64, component: u8) -> u64
+    ensures { λ r. ⌜ r ≡ nodeFactor number component ⌝ }
+{
+    grid::factor_of(number, component)
+}
+
+pub fn places_in(left: usize, w: u64, x: u64, step: u64) -> usize
+    ensures { λ r. ⌜ r ≡ placesIn left w x step ⌝ }
+{
+    shift_row_refusals::places_in(left, w, x, step)
+}
+
+pub fn row_refusal(
+    s: &[u8],
+    component: u8,
+    north: i64,
+    east: i64,
+    step: i64,
+    count: usize,
+    room: usize,
+) -> u8
+    ensures { λ r. ⌜ r ≡ shiftRowRefusal (now (s .entry)) component north east step count room ⌝ }
+{
+    shift_row_refusals::row_refusal(s, component, north, east, step, count, room)
+}
+
+pub fn shift_row(
+    s: &[u8],
+    component: u8,
+    north: i64,
+    east: i64,
+    step: i64,
+    count: usize,
+    row: &mut [i64],
+) -> u8
+    ensures answer { λ r. ⌜ r ≡ shiftRowRefusal (now (s .entry)) component north east step count (length (now (row .entry))) ⌝ }
+    ensures output { λ r. ⌜ now (row .exit) ≡ shiftRowFilled (now (s .entry)) component north east step count (now (row .entry)) ⌝ }
+{
+    rows::shift_row(s, component, north, east, step, count, row)
+}
+
 pub fn tarnoklej_read(s: &[u8]) -> wire::Header
     ensures { λ r. ⌜ r ≡ header (now (s .entry)) ⌝ }
 {
@@ -195,6 +245,21 @@ pub fn tarnoklej_shifts_at(s: &[u8], north: i64, east: i64) -> capi::Shifts
     ensures { λ r. ⌜ r ≡ exportedShifts (now (s .entry)) north east ⌝ }
 {
     capi::tarnoklej_shifts_at(s, north, east)
+}
+
+pub fn tarnoklej_shift_row(
+    s: &[u8],
+    component: u8,
+    north: i64,
+    east: i64,
+    step: i64,
+    count: usize,
+    row: &mut [i64],
+) -> u8
+    ensures answer { λ r. ⌜ r ≡ shiftRowRefusal (now (s .entry)) component north east step count (length (now (row .entry))) ⌝ }
+    ensures output { λ r. ⌜ now (row .exit) ≡ shiftRowFilled (now (s .entry)) component north east step count (now (row .entry)) ⌝ }
+{
+    capi::tarnoklej_shift_row(s, component, north, east, step, count, row)
 }
 
 pub fn tarnoklej_store(t: &mut [u8], owner: u8, s: &[u8]) -> u8

@@ -3,6 +3,7 @@ ghost use mathlib.Core.Path.{_≡_};
 ghost use lib.ListN.{length};
 ghost use Rattle.wire.specs.Message.{header, rowRefusal, valuesRead, presentRead, writeRow};
 ghost use Rattle.capi.specs.Exported.{exportedShifts};
+ghost use Rattle.shift_row_refusals.specs.Row.{shiftRowRefusal, shiftRowFilled};
 ghost use Rattle.layout.specs.Layout.{answered, stored};
 ghost use Rattle.frame.specs.Frames.{frame, frameRefusal, findFrame};
 ghost use Rattle.table.specs.Table.{storeRefusal, storeTable, findRefusal, foundOf, removeTable};
@@ -73,6 +74,23 @@ pub extern "C" fn tarnoklej_shifts_at(s: &[u8], north: i64, east: i64) -> Shifts
         east_refusal: e.refusal,
         height_refusal: h.refusal,
     }
+}
+
+// The counts of a component at equal steps east in the first places of row.
+#[no_mangle]
+pub extern "C" fn tarnoklej_shift_row(
+    s: &[u8],
+    component: u8,
+    north: i64,
+    east: i64,
+    step: i64,
+    count: usize,
+    row: &mut [i64],
+) -> u8
+    ensures answer { λ r. ⌜ r ≡ shiftRowRefusal (now (s .entry)) component north east step count (length (now (row .entry))) ⌝ }
+    ensures output { λ r. ⌜ now (row .exit) ≡ shiftRowFilled (now (s .entry)) component north east step count (now (row .entry)) ⌝ }
+{
+    rows::shift_row(s, component, north, east, step, count, row)
 }
 
 // Stores a message under its key for an owner.

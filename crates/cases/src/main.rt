@@ -130,6 +130,22 @@ fn answer_frame(
         0 => frame_cases::find(given, out, at),
         1 => frame_cases::write(given, out, at),
         2 => frame_cases::write_long(given, out, at),
+        _ => answer_row(command, given, held, n, out, at),
+    }
+}
+
+// What a command on rows of shifts answers.
+fn answer_row(
+    command: &[u8],
+    given: &[u8],
+    held: &mut [u8],
+    n: usize,
+    out: &mut Out,
+    at: usize,
+) -> usize {
+    match words::place(command, b"row longrow") {
+        0 => shift_row_cases::answer(given, out, at),
+        1 => shift_row_cases::answer_long(given, out, at),
         _ => answer_held(command, given, held, n, out, at),
     }
 }

@@ -3,3 +3,4 @@ pub mod Worked
 pub mod Grids
 pub mod Absent
 pub mod Frames
+pub mod ShiftRows

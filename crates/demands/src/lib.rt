@@ -8,6 +8,7 @@ ghost use Rattle.demands.specs.Grids.{GridAnswer, SharedEdges, BothCalls
 ghost use Rattle.grid.specs.Shift.{messageShifts};
 ghost use Rattle.demands.specs.Absent.{NoneIsThePattern, UnsignedHasValue, PatternRefused, RefusedIsZero, MeanFormed};
 ghost use Rattle.demands.specs.Frames.{WrittenFound, ReadBack, FoundStays, NeedGoesOn, NeedNotEarlier, Exactly, WriterRefusals, PublishedFrames};
+ghost use Rattle.demands.specs.ShiftRows.{RowEqualsCalls, RowRefusedKeeps, RowNumbers, WholeTurn};
 
 // Demand 1 of reading: the first refusal that applies, and only then.
 pub fn refusals()
@@ -100,4 +101,12 @@ pub fn streams()
     ensures exactly { λ r. ⌜ ((s : List ℕ) (from : ℕ) → Bytes s → Exactly s from) ⌝ }
     ensures refusals { λ r. ⌜ WriterRefusals ⌝ }
     ensures published { λ r. ⌜ PublishedFrames ⌝ }
+{}
+
+// Request A6: a row of shifts equals the calls, place by place, and its number is given exactly when the paper says.
+pub fn rows()
+    ensures equals { λ r. ⌜ RowEqualsCalls ⌝ }
+    ensures refused { λ r. ⌜ RowRefusedKeeps ⌝ }
+    ensures numbers { λ r. ⌜ RowNumbers ⌝ }
+    ensures turn { λ r. ⌜ WholeTurn ⌝ }
 {}

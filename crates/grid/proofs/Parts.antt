@@ -147,7 +147,7 @@ module _ (number : ℤ) (c : ℕ) {m : ℤ} {n : Corners} {h w y x : ℕ} (p : W
 -- ---- the answer of a grid
 
 -- the place y and x steps from the edges of a grid, in the cell k from the south and l from the west
-abbrev placeAt : Grid → (c k l y x : ℕ) → Located
+abbrev pub placeAt : Grid → (c k l y x : ℕ) → Located
 placeAt g c k l y x =
     record {
       refusal = 0;
@@ -162,14 +162,14 @@ placeAt g c k l y x =
 abbrev pub weightsAt : Located → Weights
 weightsAt p = weightsOf (p .height) (p .width) (p .north) (p .east)
 
-abbrev In : Located → Type 0
+abbrev pub In : Located → Type 0
 In p = Within (p .height) (p .width) (p .north) (p .east)
 
 -- what is summed there
 abbrev pub Summed : Grid → (c k l : ℕ) → Located → Type 0
 Summed g c k l p = Bounded (valueIn (part c (g .mean))) (valuesIn (nodesIn (g .nodes) c k l)) (weightsAt p)
 
-summed : (g : Grid) (c k l : ℕ) (p : Located) → Held g → In p → Summed g c k l p
+pub summed : (g : Grid) (c k l : ℕ) (p : Located) → Held g → In p → Summed g c k l p
 summed g c k l p f w =
     let a = f .nodes c in
     record {
@@ -178,7 +178,7 @@ summed g c k l p f w =
       weights = weighed w;
     }
 
-cell-is : (g : Grid) (c k l y x : ℕ) → In (placeAt g c k l y x) → Summed g c k l (placeAt g c k l y x)
+pub cell-is : (g : Grid) (c k l y x : ℕ) → In (placeAt g c k l y x) → Summed g c k l (placeAt g c k l y x)
     → cellShift (g .number) c (part c (g .mean)) (nodesIn (g .nodes) c k l) (weightsAt (placeAt g c k l y x)) ≡ inCellShift g c k l y x
 unfolding cellShift absentIn inCell surface
 cell-is g c k l y x w b = ap (outcome (g .number) c (cond (absentIn (surface g c) k l y x) 15 0)) (count-at (g .number) c w b)
@@ -206,7 +206,7 @@ module _ (g : Grid) (c : ℕ) (n e : ℤ) where
   late = (15, absent (surface g c) (northOf g n) (eastOf g e)) ∷ []
 
   -- a refusal of the place
-  refused-as : {r : ℕ} → r ≡ first (placeTests (frameOf g) c n e) → (r ≡ 0 → ⊥) → r ≡ first (gridTests g c n e)
+  pub refused-as : {r : ℕ} → r ≡ first (placeTests (frameOf g) c n e) → (r ≡ 0 → ⊥) → r ≡ first (gridTests g c n e)
   unfolding frameOf surface northOf eastOf
   refused-as h k = stops (placeTests (frameOf g) c n e) late tt h k
 
@@ -226,10 +226,10 @@ module _ (g : Grid) (c : ℕ) (n e : ℤ) where
 
   -- of a grid that a message holds
   module _ (k : Held g) (h : p .refusal ≡ 0) where
-    none-before : first (placeTests (frameOf g) c n e) ≡ 0
+    pub none-before : first (placeTests (frameOf g) c n e) ≡ 0
     none-before = sym (located-refusal (frameOf g) c n e) ∙ h
 
-    place-is : p ≡ placeAt g c (cell H y) (cell W x) y x
+    pub place-is : p ≡ placeAt g c (cell H y) (cell W x) y x
     unfolding frameOf surface northOf eastOf
     place-is =
         let f = frameOf g in

@@ -53,7 +53,7 @@ fn refused(refusal: u8) -> Shift
 }
 
 // Counts in a unit of a node.
-fn factor_of(number: i64, component: u8) -> u64
+pub fn factor_of(number: i64, component: u8) -> u64
     ensures { λ r. ⌜ r ≡ nodeFactor number component ⌝ }
 {
     if number != 1023 {

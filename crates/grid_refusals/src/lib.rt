@@ -12,7 +12,7 @@ ghost use Rattle.arith.specs.Whole.{sameZ};
 ghost use Rattle.grid_refusals.specs.Refusals.{side, available, beyond, fieldTests};
 
 // COMPONENT, POSITION, or 0.
-fn position_refusal(component: u8, number: i64, north: i64, east: i64) -> u8
+pub fn position_refusal(component: u8, number: i64, north: i64, east: i64) -> u8
     ensures { λ r. ⌜ r ≡ first ((8, ltb 2 component) ∷ (9, beyond number north east) ∷ []) ⌝ }
 {
     let n = field::magnitude(north);

@@ -23,14 +23,14 @@ fn any_number(random: &mut Random) -> u16 {
 }
 
 /// A grid of one of the kinds.
-fn any_grid(random: &mut Random, kind: u64) -> Grid {
+pub fn any_grid(random: &mut Random, kind: u64) -> Grid {
     let number = any_number(random);
     let grid = random_grid(random, number);
     of_kind(random, grid, kind % GRIDS)
 }
 
 /// A grid of one of the kinds that lies across 180 degrees.
-fn any_grid_across(random: &mut Random, kind: u64) -> Grid {
+pub fn any_grid_across(random: &mut Random, kind: u64) -> Grid {
     let grid = random_grid_across(random);
     of_kind(random, grid, kind % (GRIDS - 1))
 }
@@ -89,7 +89,7 @@ fn at_the_ends(random: &mut Random, number: u16) -> Grid {
 }
 
 /// The greatest position of a grid's message north and east.
-fn limits(grid: &Grid) -> [i64; 2] {
+pub fn limits(grid: &Grid) -> [i64; 2] {
     if grid.ellipsoidal() {
         [3_240_000_000, 6_480_000_000]
     } else {
@@ -125,7 +125,7 @@ fn far(random: &mut Random, limit: i64) -> i64 {
 }
 
 /// A position inside or beside the grid, one in ten at the limits.
-fn any_position(random: &mut Random, grid: &Grid) -> [i64; 2] {
+pub fn any_position(random: &mut Random, grid: &Grid) -> [i64; 2] {
     let steps = grid.spacing().map(|spacing| any_offset(random, spacing));
     let mut position = grid.moved(grid.origin(), steps);
     if random.below(10) == 0 {

@@ -42,7 +42,7 @@ fn grid_at(longitude: i64, wide: i64) -> Grid {
 }
 
 /// Grids with origins at +180, -180, 179 and -179.5 degrees, the third of which ends before the meridian.
-fn grids() -> Vec<(&'static str, Grid)> {
+pub(super) fn grids() -> Vec<(&'static str, Grid)> {
     vec![
         ("e180", grid_at(RAW_HALF_TURN, 720)),
         ("w180", grid_at(-RAW_HALF_TURN, 720)),
@@ -52,7 +52,7 @@ fn grids() -> Vec<(&'static str, Grid)> {
 }
 
 /// Grids with an edge or an inner column of nodes on the meridian, or an edge one raw unit before it.
-fn touching() -> Vec<(&'static str, Grid)> {
+pub(super) fn touching() -> Vec<(&'static str, Grid)> {
     vec![
         ("edge-e", grid_at(RAW_HALF_TURN - 1_080, 720)),
         ("edge-w", grid_at(-RAW_HALF_TURN + 1_080, 720)),

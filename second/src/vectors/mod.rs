@@ -6,6 +6,8 @@ mod parts;
 mod reads;
 mod record_shifts;
 mod records;
+mod row_limits;
+mod rows;
 pub mod shifts;
 mod tables;
 mod writes;
@@ -54,6 +56,8 @@ pub struct Wanted {
     pub table: bool,
     /// Cases of transport frames.
     pub frame: bool,
+    /// Cases of rows of shifts.
+    pub row: bool,
 }
 
 /// What every byte of a buffer holds before a call.
@@ -76,8 +80,13 @@ fn buffer_after(written: Result<Vec<u8>, Refusal>, room: usize) -> String {
 
 /// The two sums of bytes that the cases print.
 fn sums(bytes: &[u8]) -> (u32, u32) {
-    bytes.iter().fold((0, 0), |(a, b), &byte| {
-        let a = (a + u32::from(byte)) % 65_521;
+    sums_of(bytes.iter().map(|&byte| u32::from(byte)))
+}
+
+/// The two sums of numbers from 0 to 65,520.
+fn sums_of(numbers: impl Iterator<Item = u32>) -> (u32, u32) {
+    numbers.fold((0, 0), |(a, b), number| {
+        let a = (a + number) % 65_521;
         (a, (b + a) % 65_521)
     })
 }
@@ -96,6 +105,9 @@ pub fn cases(wanted: Wanted) -> Vec<Case> {
     }
     if wanted.frame {
         cases.extend(frames::cases());
+    }
+    if wanted.row {
+        cases.extend(rows::cases());
     }
     check(&cases);
     cases

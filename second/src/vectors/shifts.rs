@@ -109,7 +109,7 @@ pub(super) fn worked() -> Vec<(String, Call)> {
 }
 
 /// A grid with nodes at both ends of their range and small spacings that differ.
-fn steep(number: u16) -> Grid {
+pub(super) fn steep(number: u16) -> Grid {
     Grid::of(number, [-700, 400], [6, 9], [-3, 5, -7], |component, node| match (node + component) % 4 {
         0 => 255,
         1 => -255,
@@ -119,7 +119,7 @@ fn steep(number: u16) -> Grid {
 }
 
 /// Grids whose sixteen nodes and nine middles are asked for.
-fn named_grids() -> Vec<(String, Grid)> {
+pub(super) fn named_grids() -> Vec<(String, Grid)> {
     let mut random = Random::new(11);
     let mut grids = Vec::new();
     for number in [1023, 1024] {
