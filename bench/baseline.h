@@ -1,9 +1,10 @@
-/* Plain C baselines for message 1023, for rows of its shifts, for a table of such messages and for frames, with the
- * answers of include/tarnoklej.h but for these:
+/* Plain C baselines for message 1023, for rows of its shifts, for a table of such messages, for frames and for the datum
+ * step of a 1021, with the answers of include/tarnoklej.h but for these:
  * a message, a row or a table's slot of any other number is refused (NUMBER, RANGE, TABLE);
  * a node of the cell that has no value is refused (ABSENT) also where it has no weight;
  * the weighted mean is a double before it is rounded, so that a count at or near a half can be another, but not in a row;
- * a grid is not looked for across 180 degrees.
+ * a grid is not looked for across 180 degrees;
+ * a datum step is made in doubles, so that a coordinate can be another within one unit.
  */
 #ifndef BASELINE_H
 #define BASELINE_H
@@ -38,6 +39,7 @@ typedef struct {
     tarnoklej_found (*find)(const uint8_t *table, size_t size, uint8_t owner, uint8_t sin, uint8_t group);
     tarnoklej_frame (*find_frame)(const uint8_t *bytes, size_t size, size_t from);
     tarnoklej_written (*write_frame)(const uint8_t *message, size_t length, uint8_t *out, size_t room);
+    tarnoklej_position (*datum_step)(const uint8_t *message, size_t length, int64_t x, int64_t y, int64_t z);
 } baseline;
 
 /* Fields bit by bit, as GNSS decoders take them. */

@@ -57,7 +57,8 @@ const baseline LIBRARY = {.name = "library",
                           .store = tarnoklej_store,
                           .find = tarnoklej_find,
                           .find_frame = tarnoklej_find_frame,
-                          .write_frame = tarnoklej_write_frame};
+                          .write_frame = tarnoklej_write_frame,
+                          .datum_step = tarnoklej_datum_step};
 
 /* All that are timed, the library first. */
 enum { TIMED = 7 };
@@ -260,14 +261,16 @@ static const call CALLS[] = {
 };
 
 enum { CALLS_COUNT = sizeof CALLS / sizeof *CALLS, BEFORE_FRAMES = CALLS_COUNT + ROW_CALLS_COUNT };
-enum { ALL_CALLS = BEFORE_FRAMES + FRAME_CALLS_COUNT };
+enum { BEFORE_DATUM = BEFORE_FRAMES + FRAME_CALLS_COUNT, ALL_CALLS = BEFORE_DATUM + DATUM_CALLS_COUNT };
 
 /* One of all calls. */
 static const call *call_at(size_t i)
 {
     if (i < CALLS_COUNT)
         return &CALLS[i];
-    return i < BEFORE_FRAMES ? &ROW_CALLS[i - CALLS_COUNT] : &FRAME_CALLS[i - BEFORE_FRAMES];
+    if (i < BEFORE_FRAMES)
+        return &ROW_CALLS[i - CALLS_COUNT];
+    return i < BEFORE_DATUM ? &FRAME_CALLS[i - BEFORE_FRAMES] : &DATUM_CALLS[i - BEFORE_DATUM];
 }
 
 /* By splitmix64. */
@@ -359,6 +362,8 @@ static int has(const baseline *by, subject on)
         return by->find != NULL;
     case ON_FRAMES:
         return by->find_frame != NULL;
+    case ON_DATUM:
+        return by->datum_step != NULL;
     default:
         return by->read != NULL;
     }
@@ -472,6 +477,7 @@ int main(void)
     make_inputs();
     make_rows();
     make_frames();
+    make_datum();
     for_all_calls(check_answers, nanoseconds);
     for (int pass = 0; pass < PASSES; pass++)
         for_all_calls(time_call, nanoseconds);

@@ -4,7 +4,7 @@
 #include "baseline.h"
 
 /* What a call is made on. */
-typedef enum { ON_MESSAGE, ON_ROWS, ON_TABLE, ON_FRAMES, SUBJECTS } subject;
+typedef enum { ON_MESSAGE, ON_ROWS, ON_TABLE, ON_FRAMES, ON_DATUM, SUBJECTS } subject;
 
 /* A call to time: makes the call of a turn and gives something of its answer, or whether the whole is the library's. */
 typedef struct {
@@ -26,6 +26,11 @@ void make_frames(void);
 enum { ROW_CALLS_COUNT = 1 };
 extern const call ROW_CALLS[ROW_CALLS_COUNT];
 void make_rows(void);
+
+/* The calls of the datum step, for which make_datum must have been called. */
+enum { DATUM_CALLS_COUNT = 1 };
+extern const call DATUM_CALLS[DATUM_CALLS_COUNT];
+void make_datum(void);
 
 /* The library's calls. */
 extern const baseline LIBRARY;

@@ -28,16 +28,17 @@ enum {
     TARNOKLEJ_FILL = 4,       /* a fill bit is set */
     TARNOKLEJ_RANGE = 5,      /* a field outside its range or width, or buffers that are no row of a message */
     TARNOKLEJ_ROOM = 6,       /* an output shorter than the message, its row or its frame, or than a row of shifts */
-    TARNOKLEJ_KIND = 7,       /* a grid call on a message other than 1023 or 1024 */
+    TARNOKLEJ_KIND = 7,       /* a grid call on a message other than 1023 or 1024, a datum step on another than 1021 */
     TARNOKLEJ_COMPONENT = 8,  /* not 0 to 2 */
     TARNOKLEJ_POSITION = 9,   /* 1023: beyond +-3,240,000,000 or +-6,480,000,000; 1024: either beyond +-10^12;
-                                 a row of shifts of no place or too many, or with a negative step */
+                                 a row of shifts of no place or too many, or with a negative step;
+                                 datum step: one of three beyond +-10^11 */
     TARNOKLEJ_OFF = 10,       /* DF190 is 0 (components 0, 1) or DF191 is 0 (component 2) */
-    TARNOKLEJ_METHOD = 11,    /* DF212 (components 0, 1) or DF213 (component 2) is not 0 */
+    TARNOKLEJ_METHOD = 11,    /* DF212 (components 0, 1) or DF213 (component 2) is not 0; datum step: DF150 is not 0 */
     TARNOKLEJ_ORIGIN = 12,    /* an origin field has no value */
     TARNOKLEJ_SPACING = 13,   /* a spacing is 0 */
     TARNOKLEJ_OUTSIDE = 14,   /* the position is not on or within the grid's outer rectangle */
-    TARNOKLEJ_ABSENT = 15,    /* the mean, or a node of non-zero weight, has no value */
+    TARNOKLEJ_ABSENT = 15,    /* the mean, or a node of non-zero weight, or one of DF156 to DF162 has no value */
     TARNOKLEJ_FULL = 16,      /* the key is new to the owner, who holds 20 slots or finds no slot free */
     TARNOKLEJ_NONE = 17,      /* no such key of the owner, or group not 0 to 2 */
     TARNOKLEJ_TABLE = 18,     /* the table has a wrong size or is not well formed, see tarnoklej_store */
@@ -79,6 +80,7 @@ typedef struct { uint8_t refusal; uint16_t number; uint8_t sin; size_t length; }
 typedef struct { uint8_t refusal; size_t length; } tarnoklej_written;
 typedef struct { uint8_t refusal; size_t at; size_t length; } tarnoklej_found;
 typedef struct { uint8_t refusal; size_t at; size_t length; } tarnoklej_frame; /* at: the place of D3, with NEED too */
+typedef struct { uint8_t refusal; int64_t x, y, z; } tarnoklej_position;
 
 /* The shifts at a position: three parts, each a shift in arc seconds or metres, its count and its refusal number.
  * A refused part reads 0.0 and count 0.
@@ -194,6 +196,22 @@ tarnoklej_found tarnoklej_find(const uint8_t *table, size_t size, uint8_t owner,
  * keeps its bytes.
  */
 uint8_t tarnoklej_remove(uint8_t *table, size_t size, uint8_t owner, uint8_t sin, uint8_t group);
+
+/* Gives the position in the target datum of a message 1021 by its linear seven-parameter step, that of computation
+ * indicator (DF150) 0. Positions are geocentric, x, y and z in units of 0.1 mm.
+ * The signs are those of the standard's formula 3.5-1 (coordinate frame rotation, EPSG method 9607), where the scale
+ * multiplies the rotated position:
+ *   x' = M (      x + RZ y - RY z) + dX
+ *   y' = M (-RZ x +      y + RX z) + dY
+ *   z' = M ( RY x - RX y +      z) + dZ
+ * RX, RY, RZ are DF159 to DF161 in steps of 96,962,736,221,907 over 10^24 radian, and M is 1 and DF162 in steps of
+ * 1 over 10^11. Each coordinate answered lies within one unit of the exact one; which whole number within that unit is
+ * answered is left free.
+ * Refusals in order: SHORT, NUMBER, LENGTH, FILL, RANGE, KIND where the message is not 1021, POSITION where x, y or z
+ * is beyond +-10^11, METHOD where DF150 is not 0, ABSENT where one of DF156 to DF162 has no value.
+ * Buffers: message is only read.
+ */
+tarnoklej_position tarnoklej_datum_step(const uint8_t *message, size_t message_length, int64_t x, int64_t y, int64_t z);
 
 /* Positions in a row by DF number: position, field, type, resolution, name.
  * N is the value at position 1, M the value at position 2+N; i is 0 to 15 for nodes 1 to 16.

@@ -1,10 +1,12 @@
 //! An independent second program for RTCM messages 1021 to 1027.
 //!
-//! It is written from document 01, from requests A1, A2, A3 and A5 to A8 of document 02, from source documents 000, 003
-//! and 004, and from docs/DECISIONS.md where these leave a choice. It shares no code with the proved library.
+//! It is written from document 01, from requests A1, A2, A3, A5 to A8 and A12 of document 02, from source documents 000,
+//! 003 and 004, and from docs/DECISIONS.md where these leave a choice. It shares no code with the proved library.
 
 pub mod bits;
 pub mod damage;
+pub mod datum;
+pub mod datumsamples;
 pub mod example;
 pub mod fields;
 mod figure_rows;
@@ -27,6 +29,7 @@ pub mod refusal;
 pub mod rows;
 pub mod samples;
 pub mod selfcheck;
+pub mod selfcheck_datum;
 pub mod selfcheck_frame;
 pub mod selfcheck_grid;
 pub mod selfcheck_nones;
@@ -36,3 +39,4 @@ pub mod services;
 pub mod streams;
 pub mod table;
 pub mod vectors;
+pub mod whole;

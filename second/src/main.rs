@@ -1,12 +1,12 @@
 //! The command line of the second program.
 
-use second::{example, figures, frames, page, papers, positions, selfcheck, services, vectors};
+use second::{datumsamples, example, figures, frames, page, papers, positions, selfcheck, services, vectors};
 use std::io::Read;
 use std::path::Path;
 use std::process::ExitCode;
 
 /// What the program can be asked for.
-const USAGE: &str = "second selfcheck | papers FILE | fields | positions | example LIST | vectors OUTDIR [--shift] [--table] [--frame] [--row] | services DIR | figures DIR | identify | frames";
+const USAGE: &str = "second selfcheck | papers FILE | fields | positions | example LIST | vectors OUTDIR [--shift] [--table] [--frame] [--row] | services DIR | figures DIR | identify | frames | datum SETS POSITIONS";
 
 /// Success or failure from a truth value.
 fn exit(good: bool) -> ExitCode {
@@ -47,6 +47,11 @@ fn standard_input() -> std::io::Result<Vec<u8>> {
     Ok(input)
 }
 
+/// A count in an argument.
+fn count(word: &str) -> std::io::Result<usize> {
+    word.parse().map_err(|_| std::io::Error::other(format!("not a count: {word}")))
+}
+
 /// Does what the arguments ask for.
 fn run(arguments: &[String]) -> std::io::Result<bool> {
     let words: Vec<&str> = arguments.iter().map(String::as_str).collect();
@@ -61,6 +66,7 @@ fn run(arguments: &[String]) -> std::io::Result<bool> {
         ["figures", dir] => figures::write(Path::new(dir)).map(|()| true),
         ["identify"] => print(&format!("{}\n", selfcheck::program_line(&standard_input()?))),
         ["frames"] => print(&frames::listing(&standard_input()?)),
+        ["datum", sets, positions] => print(&datumsamples::list(count(sets)?, count(positions)?)),
         _ => {
             eprintln!("{USAGE}");
             Ok(false)

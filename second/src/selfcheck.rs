@@ -47,6 +47,7 @@ pub fn groups() -> Vec<Group> {
     groups.extend(crate::selfcheck_rows::groups());
     groups.extend(crate::selfcheck_table::groups());
     groups.extend(crate::selfcheck_frame::groups());
+    groups.extend(crate::selfcheck_datum::groups());
     groups
 }
 

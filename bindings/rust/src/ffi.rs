@@ -72,6 +72,20 @@ pub struct Frame {
     pub length: usize,
 }
 
+/// The answer of `tarnoklej_datum_step`.
+#[repr(C)]
+#[derive(Clone, Copy, PartialEq, Eq, Debug)]
+pub struct Position {
+    /// The refusal number, 0 where the call is done.
+    pub refusal: u8,
+    /// The X coordinate in units of 0.1 mm.
+    pub x: i64,
+    /// The Y coordinate in units of 0.1 mm.
+    pub y: i64,
+    /// The Z coordinate in units of 0.1 mm.
+    pub z: i64,
+}
+
 extern "C" {
     /// Gives number, length and system identification number of a message.
     pub fn tarnoklej_read(message: *const u8, message_length: usize) -> Header;
@@ -117,4 +131,6 @@ extern "C" {
     pub fn tarnoklej_find(table: *const u8, size: usize, owner: u8, sin: u8, group: u8) -> Found;
     /// Removes the message of an owner's key.
     pub fn tarnoklej_remove(table: *mut u8, size: usize, owner: u8, sin: u8, group: u8) -> u8;
+    /// Gives the position in the target datum of a message 1021.
+    pub fn tarnoklej_datum_step(message: *const u8, message_length: usize, x: i64, y: i64, z: i64) -> Position;
 }

@@ -7,10 +7,12 @@
 //! include/tarnoklej.h lists the positions of the data fields in a row.
 //! Two owners, numbers 1 and 2, share a table; no call by one shows, replaces or removes a message of the other.
 
+mod datum;
 pub mod ffi;
 mod frames;
 mod refusal;
 
+pub use datum::{datum_step, FARTHEST};
 pub use frames::{find_frame, frames, write_frame, Frame, Frames, Missing, FRAME_HEAD, FRAME_TAIL, MOST_FRAMED};
 pub use refusal::{NotARefusal, Refusal};
 

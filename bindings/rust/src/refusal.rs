@@ -18,7 +18,7 @@ pub enum Refusal {
     Range = 5,
     /// An output shorter than the message, its row or its frame, or than a row of shifts.
     Room = 6,
-    /// A grid call on a message other than 1023 or 1024.
+    /// A grid call on a message other than 1023 or 1024, or a datum step on one other than 1021.
     Kind = 7,
     /// Not component 0 to 2.
     Component = 8,
@@ -26,7 +26,7 @@ pub enum Refusal {
     Position = 9,
     /// The shift indicator of the component is 0.
     Off = 10,
-    /// The interpolation method of the component is not bilinear.
+    /// The interpolation method of the component is not bilinear, or the computation indicator of a datum step is not 0.
     Method = 11,
     /// An origin field has no value.
     Origin = 12,
@@ -34,7 +34,7 @@ pub enum Refusal {
     Spacing = 13,
     /// The position is not on or within the grid's outer rectangle.
     Outside = 14,
-    /// The mean, or a node of non-zero weight, has no value.
+    /// The mean, or a node of non-zero weight, or a parameter of a datum step has no value.
     Absent = 15,
     /// The key is new to the owner, who holds 20 slots or finds no slot free.
     Full = 16,

@@ -4,9 +4,10 @@ ghost use mathlib.Core.List.{[], _∷_};
 ghost use lib.Dec.{ltb};
 ghost use lib.ListN.{length};
 ghost use Rattle.arith.specs.First.{first};
+ghost use Rattle.field.specs.Field.{fieldAt, signedAt};
 ghost use Rattle.wire.specs.Message.{header, rowRefusal, valuesRead, presentRead, writeRow};
-ghost use Rattle.grid_records.specs.Grids.{frameAt};
-ghost use Rattle.grid_fields.specs.Fields.{gridSays, meanSays, nodeSays, cellSays};
+ghost use Rattle.grid_records.specs.Grids.{frameAt, shiftsAt};
+ghost use Rattle.grid_fields.specs.Fields.{gridSays, meanSays, nodeSays, cellSays, cellsSay};
 ghost use Rattle.cell.specs.Cell.{alongOf, sumIn, weightsIn, countBy};
 ghost use Rattle.position.specs.Position.{heldPlace, heldSides};
 ghost use Rattle.grid_refusals.specs.Refusals.{beyond, fieldTests};
@@ -20,6 +21,7 @@ ghost use Rattle.slots.specs.Marks.{marks, markPlace, soundMarks, markOrFree};
 ghost use Rattle.table.specs.Table.{wellFormed, storeRefusal, storeTable, findRefusal, foundOf, removeTable};
 ghost use Rattle.table.specs.Shown.{Shows};
 ghost use Rattle.capi.specs.Exported.{exportedShifts};
+ghost use Rattle.datum.specs.Step.{Stepped};
 
 pub fn group_of(number: u16) -> u8
     ensures { λ r. ⌜ r ≡ groupOf number ⌝ }
@@ -161,6 +163,30 @@ pub fn mean_at(s: &[u8], component: u8) -> field::Reading
     grid_fields::mean_at(s, component)
 }
 
+pub fn means_at(s: &[u8]) -> grid_records::Shifts
+    ensures { λ r. ⌜ r ≡ shiftsAt (gridSays (now (s .entry))) 8 ⌝ }
+{
+    grid_fields::means_at(s)
+}
+
+pub fn cells_at(s: &[u8], row: u64, column: u64) -> grid_fields::Cells
+    ensures { λ r. ⌜ r ≡ cellsSay (now (s .entry)) row column ⌝ }
+{
+    grid_fields::cells_at(s, row, column)
+}
+
+pub fn field_at(s: &[u8], p: usize, w: usize) -> u64
+    ensures { λ r. ⌜ r ≡ fieldAt (now (s .entry)) p w ⌝ }
+{
+    load::field_at(s, p, w)
+}
+
+pub fn signed_at(s: &[u8], p: usize, w: usize) -> field::Reading
+    ensures { λ r. ⌜ r ≡ signedAt (now (s .entry)) p w ⌝ }
+{
+    load::signed_at(s, p, w)
+}
+
 pub fn node_at(s: &[u8], component: u8, node: u64) -> field::Reading
     ensures { λ r. ⌜ r ≡ nodeSays (now (s .entry)) component node ⌝ }
 {
@@ -293,4 +319,10 @@ pub fn tarnoklej_write_frame(message: &[u8], out: &mut [u8]) -> layout::Written
     ensures output { λ r. ⌜ now (out .exit) ≡ stored (frameRefusal (now (message .entry)) (length (now (out .entry)))) (frame (now (message .entry))) (now (out .entry)) ⌝ }
 {
     capi::tarnoklej_write_frame(message, out)
+}
+
+pub fn tarnoklej_datum_step(message: &[u8], x: i64, y: i64, z: i64) -> seven_parameters::Position
+    ensures { λ r. ⌜ Stepped (now (message .entry)) x y z r ⌝ }
+{
+    capi::tarnoklej_datum_step(message, x, y, z)
 }

@@ -7,6 +7,7 @@ ghost use Rattle.shift_row_refusals.specs.Row.{shiftRowRefusal, shiftRowFilled}
 ghost use Rattle.layout.specs.Layout.{answered, stored};
 ghost use Rattle.frame.specs.Frames.{frame, frameRefusal, findFrame};
 ghost use Rattle.table.specs.Table.{storeRefusal, storeTable, findRefusal, foundOf, removeTable};
+ghost use Rattle.datum.specs.Step.{Stepped};
 
 // The number, the length and the system identification number of a message.
 #[no_mangle]
@@ -134,4 +135,17 @@ pub extern "C" fn tarnoklej_write_frame(message: &[u8], out: &mut [u8]) -> layou
     ensures output { λ r. ⌜ now (out .exit) ≡ stored (frameRefusal (now (message .entry)) (length (now (out .entry)))) (frame (now (message .entry))) (now (out .entry)) ⌝ }
 {
     frame::write_frame(message, out)
+}
+
+// The datum step of a message 1021 from a position in 0.1 mm.
+#[no_mangle]
+pub extern "C" fn tarnoklej_datum_step(
+    message: &[u8],
+    x: i64,
+    y: i64,
+    z: i64,
+) -> seven_parameters::Position
+    ensures { λ r. ⌜ Stepped (now (message .entry)) x y z r ⌝ }
+{
+    datum::datum_step(message, x, y, z)
 }

@@ -1,7 +1,7 @@
 // The arithmetic of a grid along one direction and in one cell.
 ghost use mathlib.Core.Path.{_≡_};
 ghost use mathlib.Core.Bool.{cond};
-ghost use Prim.Native.Nat.{_*_, _≤_, _<_};
+ghost use Prim.Native.Nat.{_+_, _*_, _/_, _≤_, _<_};
 ghost use lib.Dec.{leb};
 ghost use lib.IntN.{pos, natAbs, _+ℤ_};
 ghost use Rattle.bilinear.specs.Bilinear.{cell, nearestWhole};
@@ -141,18 +141,26 @@ fn with_sign(z: i64, n: u64) -> i64
     n as i64
 }
 
-// The whole number nearest to sum / area. The sign is set apart, and half an area or more counts as a whole one: so halves go away from zero.
+// The whole number nearest to size / area: half an area or more counts as a whole one.
+fn rounded(size: u64, area: u64) -> u64
+    requires { ⌜ (size ≤ 2560 * 1676902500000000) × (0 < area) × (area ≤ 1676902500000000) ⌝ }
+    ensures { λ r. ⌜ (r ≡ (2 * size + area) / (2 * area)) × (r ≤ 4611686018427387904) ⌝ }
+{
+    let whole = size / area;
+    let rest = size % area;
+    if area <= 2 * rest {
+        return whole + 1;
+    }
+    whole
+}
+
+// The whole number nearest to sum / area. The sign is set apart: so halves go away from zero.
 fn nearest_to(sum: i64, area: u64) -> i64
     requires { ⌜ (natAbs sum ≤ 2560 * 1676902500000000) × (0 < area) × (area ≤ 1676902500000000) ⌝ }
     ensures { λ r. ⌜ r ≡ nearestWhole sum area ⌝ }
 {
     let size = field::magnitude(sum);
-    let whole = size / area;
-    let rest = size % area;
-    if area <= 2 * rest {
-        return with_sign(sum, whole + 1);
-    }
-    with_sign(sum, whole)
+    with_sign(sum, rounded(size, area))
 }
 
 // The weighted sum of a cell's raw nodes, in counts times the cell's area.

@@ -223,39 +223,24 @@ pub fn shifts_at(message: &[u8], north: i64, east: i64) -> ThreeShifts
     if refusal != 0 {
         return all_refused(refusal);
     }
+    // Never so: that the bytes are there spares the compiler a test at each field.
+    if message.len() < 71 {
+        return all_refused(3);
+    }
     let f = grid_fields::frame_at(message);
     let number = f.number;
     let p = position::locate_sides(f, north, east);
     let t = p.place;
     let k = cell::weights_in(t.height, t.width, t.north, t.east);
-    let a = grid_fields::nodes_at(message, 0, t.row, t.column);
-    let b = grid_fields::nodes_at(message, 1, t.row, t.column);
-    let c = grid_fields::nodes_at(message, 2, t.row, t.column);
+    let n = grid_fields::cells_at(message, t.row, t.column);
+    let m = grid_fields::means_at(message);
+    let a = m.north;
+    let b = m.east;
+    let c = m.height;
     three_of(
-        part_shift(
-            number,
-            0,
-            p.horizontal,
-            grid_fields::mean_at(message, 0),
-            a,
-            k,
-        ),
-        part_shift(
-            number,
-            1,
-            p.horizontal,
-            grid_fields::mean_at(message, 1),
-            b,
-            k,
-        ),
-        part_shift(
-            number,
-            2,
-            p.vertical,
-            grid_fields::mean_at(message, 2),
-            c,
-            k,
-        ),
+        part_shift(number, 0, p.horizontal, a, n.north, k),
+        part_shift(number, 1, p.horizontal, b, n.east, k),
+        part_shift(number, 2, p.vertical, c, n.height, k),
     )
 }
 

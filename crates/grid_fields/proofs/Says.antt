@@ -13,7 +13,7 @@ use Rattle.field.proofs.Place.{field-inside}
 use Rattle.layout.specs.Layout.{width, total, readingOf}
 use Rattle.layout.proofs.Round.{total-append, total-most, accepted}
 use Rattle.layouts.specs.Layouts.{layoutOf, layout1023, layout1024}
-use Rattle.layouts.proofs.Length.{length-1023, length-1024}
+use Rattle.layouts.proofs.Length.{length-1023, length-1024, total-1023, total-1024}
 use Rattle.row.specs.Numbers.{says}
 use Rattle.wire.specs.Message.{numberOf, sourceCount, targetCount, layout, row, kindRefusal}
 use Rattle.wire.proofs.Head.{number-read, head-of, head-passed, accepted-head}
@@ -52,3 +52,19 @@ module _ (s : List ℕ) (e : kindRefusal 1023 1024 s ≡ 0) where
       let w : ℕ = width (getD (layout s) k 0) in
       rw (g .0, field-inside s p w (omega arith) (omega (arith, within (layout s) k l, total-most (layout s), g .1)) (omega (arith, within (layout s) k l, a .sized)))
       (sym (row-place s r k l))
+
+  grid-total : 568 ≤ total (layout s)
+  unfolding layout layoutOf
+  grid-total =
+      let d = kind-of 1023 1024 s e in
+      ⊎-elim
+      (λ (q : 1023 ≡ numberOf s). rw (← q, total-1023) (omega arith))
+      (λ (l : 1023 < numberOf s). let q : numberOf s ≡ 1024 = omega (arith, d .high) in rw (q, total-1024) (omega arith))
+      (eq-or-lt-of-le (d .low))
+
+  -- the message has the bytes of its nodes and methods
+  pub grid-long : 71 ≤ length s
+  grid-long =
+      let r = kind-of 1023 1024 s e .accepted in
+      let a = accepted (layout s) s (sym (head-passed s (accepted-head s r)) ∙ r) in
+      omega (arith, grid-total, a .sized)

@@ -12,6 +12,7 @@ use Rattle.field.specs.declared.Reading.the-variants.{Value}
 use Rattle.layout.specs.Layout.{width, total, readingOf}
 use Rattle.layouts.specs.Layouts.{layout1023, layout1024}
 use Rattle.grid_fields.specs.declared.Nodes.{Nodes}
+use Rattle.grid_fields.specs.declared.Cells.{Cells}
 
 -- the layout by the number DF002: that of 1024 for any other number than 1023
 unfoldable pub gridLayout : List ℕ → List ℕ
@@ -47,3 +48,7 @@ noNodes = record { sw = Value (pos 0); se = Value (pos 0); nw = Value (pos 0); n
 -- the value 0 where there is no such cell
 unfoldable pub cellSays : List ℕ → (c k l : ℕ) → Nodes
 cellSays s c k l = cond (ltb 2 k || ltb 2 l) noNodes (nodesSaid s c k l)
+
+-- the same of all three components
+abbrev pub cellsSay : List ℕ → (k l : ℕ) → Cells
+cellsSay s k l = record { north = cellSays s 0 k l; east = cellSays s 1 k l; height = cellSays s 2 k l }

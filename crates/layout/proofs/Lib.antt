@@ -3,3 +3,4 @@ pub mod Loop
 pub mod Answer
 pub mod Round
 pub mod Places
+pub mod Taken

@@ -5,7 +5,7 @@ ghost use mathlib.Core.List.{_++_, map};
 ghost use Prim.Native.Nat.{_+_, _*_, _^_, _≤_, _<_, min};
 ghost use lib.Dec.{leb};
 ghost use lib.ListN.{length, drop, replicate};
-ghost use Rattle.field.specs.Field.{field, signedOf};
+ghost use Rattle.field.specs.Field.{field, signedOf, fieldAt, signedAt};
 ghost use Rattle.layout.specs.Layout.{width, signed, readingOf, total, decodeAll, valueIn, presentIn};
 ghost use Rattle.load.specs.Load.{valuesLoaded, presentLoaded};
 
@@ -87,9 +87,9 @@ fn load_long(s: &[u8], p: usize, w: usize) -> u64
     load_field(s, p, k, pow2(k)) * 4294967296 + load_field(s, p + k, 32, 4294967296)
 }
 
-// The number in the w bits of s from bit p on; n is 2 ^ w.
-fn number_in(s: &[u8], p: usize, w: usize, n: u64) -> u64
-    requires { ⌜ (w ≤ 63) × ((p + w ≤ 8 * length (now s)) × ((p ≤ 99000) × (n ≡ 2 ^ w))) ⌝ }
+// The number in the w bits of s from bit p on.
+fn number_in(s: &[u8], p: usize, w: usize) -> u64
+    requires { ⌜ (w ≤ 63) × ((p + w ≤ 8 * length (now s)) × (p ≤ 99000)) ⌝ }
     ensures { λ r. ⌜ r ≡ field (now (s .entry)) p w ⌝ }
 {
     if 57 < w {
@@ -99,7 +99,7 @@ fn number_in(s: &[u8], p: usize, w: usize, n: u64) -> u64
         return field::field_at(s, p, w);
     }
     if 0 < w {
-        return load_field(s, p, w, n);
+        return load_field(s, p, w, pow2(w));
     }
     0
 }
@@ -122,10 +122,9 @@ fn read_entry(s: &[u8], p: usize, e: u64) -> field::Reading
     ensures { λ r. ⌜ r ≡ readingOf e (field (now (s .entry)) p (width e)) ⌝ }
 {
     let w = (e % 64) as usize;
-    let n = pow2(w);
-    let u = number_in(s, p, w, n);
+    let u = number_in(s, p, w);
     if e / 64 % 2 == 1 {
-        return reading_of(u, w, n);
+        return reading_of(u, w, pow2(w));
     }
     field::Reading::Value(u as i64)
 }
@@ -205,6 +204,29 @@ fn fits(s: &[u8], p: usize, count: usize, bits: usize, m: usize, n: usize) -> bo
         return false;
     }
     count <= n
+}
+
+// The number in the w bits of s from bit p on; 0 where s does not contain them: the same as field's, by one load.
+pub fn field_at(s: &[u8], p: usize, w: usize) -> u64
+    ensures { λ r. ⌜ r ≡ fieldAt (now (s .entry)) p w ⌝ }
+{
+    if 63 < w {
+        return 0;
+    }
+    if !fits(s, p, 1, w, 1, 1) {
+        return 0;
+    }
+    number_in(s, p, w)
+}
+
+// What the signed field of w bits from bit p on says, by one load.
+pub fn signed_at(s: &[u8], p: usize, w: usize) -> field::Reading
+    ensures { λ r. ⌜ r ≡ signedAt (now (s .entry)) p w ⌝ }
+{
+    if 63 < w {
+        return field::Reading::Value(0);
+    }
+    reading_of(field_at(s, p, w), w, pow2(w))
 }
 
 // As many fields of entry e as there are values: signed ones of at most 57 bits that end behind bit 56 with the width's numbers made once.

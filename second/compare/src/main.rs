@@ -1,5 +1,6 @@
 //! Compares the second program with the proved static library, call by call, on many inputs.
 
+mod datum;
 mod framing;
 mod messages;
 mod reading;
@@ -27,7 +28,7 @@ type Single = fn(&mut Random, u64) -> Compared;
 
 /// The calls that keep nothing, with the refusal numbers each can give.
 /// E180 and W180 are shifts_at on grids across 180 degrees, at positions east and west of Greenwich; 180 is shift_row there.
-const SINGLES: [(&str, &[u8], Single); 10] = [
+const SINGLES: [(&str, &[u8], Single); 11] = [
     ("read", &[0, 1, 2, 3, 4, 5], reading::compare_header),
     ("read_fields", &[0, 1, 2, 3, 4, 5, 6], reading::compare_row),
     ("write_fields", &[0, 5, 6], writing::compare_written),
@@ -38,6 +39,7 @@ const SINGLES: [(&str, &[u8], Single); 10] = [
     ("shift_row 180", &[0, 6, 8, 9, 10, 11, 12, 13, 14, 15], rows::compare_row_across),
     ("find_frame", &[0, 19, 20], framing::compare_found),
     ("write_frame", &[0, 3, 6], framing::compare_framed),
+    ("datum_step", &[0, 1, 2, 3, 4, 5, 7, 9, 11, 15], datum::compare_step),
 ];
 
 /// The refusal numbers that the shifts of a sound grid message can give.

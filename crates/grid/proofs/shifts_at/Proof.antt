@@ -3,6 +3,7 @@
 use mathlib.Core.Path.{_≡_, sym, ap, _∙_}
 use mathlib.Core.List.{List}
 use Prim.Native.Nat.{ℕ}
+use native.Mathlib.Omega.{arith}
 use lib.IntN.{ℤ}
 use mir.Syntax.{w64}
 use mir.Val.{toZ, ofZ}
@@ -13,9 +14,12 @@ use Rattle.field.specs.declared.Reading.{Reading}
 use Rattle.row.specs.Numbers.{says}
 use Rattle.grid_records.specs.declared.Frame.{Frame}
 use Rattle.grid_records.specs.declared.Grid.{Grid}
-use Rattle.grid_records.specs.Grids.{gridOf, frameOf}
-use Rattle.grid_fields.specs.Fields.{meanSays, cellSays}
+use Rattle.grid_records.specs.declared.Shifts.{Shifts}
+use Rattle.grid_records.specs.Grids.{gridOf, frameOf, shiftsAt}
+use Rattle.grid_fields.specs.Fields.{meanSays, cellSays, cellsSay}
+use Rattle.grid_fields.proofs.Says.{grid-long}
 use Rattle.grid_fields.specs.declared.Nodes.{Nodes}
+use Rattle.grid_fields.specs.declared.Cells.{Cells}
 use Rattle.wire.specs.Message.{row, kindRefusal}
 use Rattle.cell.specs.declared.Weights.{Weights}
 use Rattle.position.specs.Position.{heldSides}
@@ -54,16 +58,27 @@ returns q =
     q .all-refused .ensures (g s .number)
     ∙ (λ i. threeOf (message-none-given 0 (n s) (e s) (m s) h o i) (message-none-given 1 (n s) (e s) (m s) h o i) (message-none-given 2 (n s) (e s) (m s) h o i))
 
+three : _≡_ {A = ℕ} 3 0 → ⊥
+three z = omega arith
+
+-- no grid message is so short
+returns-2 : tie.Need-returns-2
+returns-2 q =
+    let k = q .before .before .before in
+    let s = k .before .before in
+    let h = sym (k .check-kind .ensures) ∙ q .before .before .if1 .left in
+    absurd (omega (arith, grid-long (m s) h, q .before .if2 .taken))
+
 -- a grid message: its frame and the sides of the position
-module _ (q : tie.After-nodes-at3) where
+module _ (q : tie.After-means-at) where
   abbrev l : tie.After-locate-sides
-  l = q .before .before .before .before .before
+  l = q .before .before .before .before
 
   abbrev s : tie.Start
-  s = l .before .before .before .before .before .before
+  s = l .before .before .before .before .before .before .before
 
   none : kindRefusal 1023 1024 (m s) ≡ 0
-  none = sym (l .before .before .before .before .check-kind .ensures) ∙ l .before .before .before .if1 .left
+  none = sym (l .before .before .before .before .before .check-kind .ensures) ∙ l .before .before .before .before .if1 .left
 
   fields : Held (g s)
   fields = message-fields (m s) 0 (n s) (e s) none
@@ -82,7 +97,7 @@ module _ (q : tie.After-nodes-at3) where
   t = l .locate-sides .result .place
 
   abbrev ws : Weights
-  ws = q .before .before .before .weights-in .result
+  ws = q .before .before .weights-in .result
 
   -- one part
   module _ (c r : ℕ) (d : Side (g s) c (n s) (e s) r t) {mean : Reading} {w : Nodes} (a : mean ≡ meanSays (m s) c) (b : w ≡ cellSays (m s) c (t .row) (t .column)) where
@@ -94,13 +109,13 @@ module _ (q : tie.After-nodes-at3) where
     asks : r ≡ 0 → Bounded (valueIn mean) (valuesIn w) ws
     asks =
         call-summed (g s) c (n s) (e s) fields (d .refusal) (d .place) (a ∙ mean-said (m s) none c) said
-        (q .before .before .before .weights-in .ensures)
+        (q .before .before .weights-in .ensures)
 
     gives : {x : Shift} → x ≡ partShift (toZ w64 (ofZ w64 (l .before .before .frame-at .result .number))) c r mean w ws → x ≡ messageShift (m s) c (n s) (e s)
     unfolding messageShift
     gives h =
         call-part (g s) c (n s) (e s) fields (d .refusal) (d .place) (a ∙ mean-said (m s) none c) said
-        (q .before .before .before .weights-in .ensures) h number
+        (q .before .before .weights-in .ensures) h number
         ∙ ap (shiftWith (g s) c (n s) (e s)) (message-passed (m s) c (n s) (e s) none)
 
   north : Side (g s) 0 (n s) (e s) (l .locate-sides .result .horizontal) t
@@ -112,25 +127,41 @@ module _ (q : tie.After-nodes-at3) where
   height : Side (g s) 2 (n s) (e s) (l .locate-sides .result .vertical) t
   height = height-side (g s) (n s) (e s) fields sides
 
+  -- what is read of each component
+  mean-north : q .means-at .result .north ≡ meanSays (m s) 0
+  unfolding shiftsAt meanSays
+  mean-north = ap (λ (x : Shifts). x .north) (q .means-at .ensures)
+
+  mean-east : q .means-at .result .east ≡ meanSays (m s) 1
+  unfolding shiftsAt meanSays
+  mean-east = ap (λ (x : Shifts). x .east) (q .means-at .ensures)
+
+  mean-height : q .means-at .result .height ≡ meanSays (m s) 2
+  unfolding shiftsAt meanSays
+  mean-height = ap (λ (x : Shifts). x .height) (q .means-at .ensures)
+
+  nodes-of : (f : Cells → Nodes) → f (q .before .cells-at .result) ≡ f (cellsSay (m s) (t .row) (t .column))
+  nodes-of f = ap f (q .before .cells-at .ensures)
+
 part-shift-requires : tie.Need-part-shift-requires
-part-shift-requires c κs = let q = c .before in asks q 0 _ (north q) (c .mean-at .ensures) (q .before .before .nodes-at .ensures)
+part-shift-requires c κs = let q = c in asks q 0 _ (north q) (mean-north q) (nodes-of q (λ x. x .north))
 
 part-shift-requires-2 : tie.Need-part-shift-requires-2
-part-shift-requires-2 c κs = let q = c .before .before .before in asks q 1 _ (east q) (c .mean-at2 .ensures) (q .before .nodes-at2 .ensures)
+part-shift-requires-2 c κs = let q = c .before in asks q 1 _ (east q) (mean-east q) (nodes-of q (λ x. x .east))
 
 part-shift-requires-3 : tie.Need-part-shift-requires-3
-part-shift-requires-3 c κs = let q = c .before .before .before .before .before in asks q 2 _ (height q) (c .mean-at3 .ensures) (q .nodes-at3 .ensures)
+part-shift-requires-3 c κs = let q = c .before .before in asks q 2 _ (height q) (mean-height q) (nodes-of q (λ x. x .height))
 
-returns-2 : tie.Need-returns-2
+returns-3 : tie.Need-returns-3
 unfolding messageShifts
-returns-2 c =
-    let q = c .before .before .before .before .before .before .before in
+returns-3 c =
+    let q = c .before .before .before .before in
     c .three-of .ensures
     ∙ (λ i.
     threeOf
-    (gives q 0 _ (north q) (c .before .before .before .before .before .before .mean-at .ensures) (q .before .before .nodes-at .ensures) (c .before .before .before .before .before .part-shift .ensures) i)
-    (gives q 1 _ (east q) (c .before .before .before .before .mean-at2 .ensures) (q .before .nodes-at2 .ensures) (c .before .before .before .part-shift2 .ensures) i)
-    (gives q 2 _ (height q) (c .before .before .mean-at3 .ensures) (q .nodes-at3 .ensures) (c .before .part-shift3 .ensures) i))
+    (gives q 0 _ (north q) (mean-north q) (nodes-of q (λ x. x .north)) (c .before .before .before .part-shift .ensures) i)
+    (gives q 1 _ (east q) (mean-east q) (nodes-of q (λ x. x .east)) (c .before .before .part-shift2 .ensures) i)
+    (gives q 2 _ (height q) (mean-height q) (nodes-of q (λ x. x .height)) (c .before .part-shift3 .ensures) i))
 
 pub shifts-at-spec : {M : Type 1} → statement M
 shifts-at-spec =
@@ -139,17 +170,15 @@ shifts-at-spec =
     (λ c κs. tt)
     (λ c κs. c .if1 .taken)
     returns
-    (λ c κs. tt)
-    (λ c κs. tt)
+    (λ c κs. three)
+    returns-2
     (λ c κs. tt)
     (λ c κs. tt)
     (λ c κs. tt)
     (λ c κs. tt)
     (λ c κs. tt)
     part-shift-requires
-    (λ c κs. tt)
     part-shift-requires-2
-    (λ c κs. tt)
     part-shift-requires-3
     (λ c κs. tt)
-    returns-2)
+    returns-3)

@@ -1,0 +1,62 @@
+-- The datum step of message 1021: request A12 over formula 3.5-1.
+-- Assumes nothing.
+use Prim.Native.Nat.{ℕ, _^_}
+use mathlib.Core.Bool.{Bool, true, false, not, _||_}
+use mathlib.Core.List.{List, [], _∷_, _++_}
+use lib.IntN.{ℤ, pos}
+use Rattle.arith.specs.First.{Test, first}
+use Rattle.arith.specs.Whole.{sameZ}
+use Rattle.field.specs.declared.Reading.{Reading}
+use Rattle.field.specs.declared.Reading.the-variants.{Value, Absent}
+use Rattle.layout.specs.Layout.{valueIn}
+use Rattle.transformation_records.specs.declared.Parameters.{Parameters}
+use Rattle.wire.specs.Message.{kindTests}
+use Rattle.message.specs.Kinds.{readHelmert}
+use Rattle.seven_parameters.specs.declared.Values.{Values}
+use Rattle.seven_parameters.specs.declared.Position.{Position}
+use Rattle.seven_parameters.specs.Formula.{beyondAny, Answered}
+
+-- ---- the seven parameters, DF156 to DF162
+
+abbrev pub lacks : Reading → Bool
+lacks (Value z) = false
+lacks Absent = true
+
+-- "one of the seven parameters has no value"
+abbrev pub absent : Parameters → Bool
+absent p =
+    lacks (p .dx) || lacks (p .dy) || lacks (p .dz) || lacks (p .rx) || lacks (p .ry) || lacks (p .rz) || lacks (p .ds)
+
+abbrev pub valuesIn : Parameters → Values
+valuesIn p =
+    record {
+      dx = valueIn (p .dx);
+      dy = valueIn (p .dy);
+      dz = valueIn (p .dz);
+      rx = valueIn (p .rx);
+      ry = valueIn (p .ry);
+      rz = valueIn (p .rz);
+      ds = valueIn (p .ds);
+    }
+
+-- ---- refusals
+
+-- 9 POSITION: "X, Y, Z in 0.1 mm, each within ±10^11", 11 METHOD "if DF150 isn't 0", 15 ABSENT
+abbrev pub stepTests : (computation : ℤ) → Parameters → (x y z : ℤ) → List Test
+stepTests computation p x y z =
+    (9, beyondAny (10 ^ 11) x y z)
+    ∷ (11, not (sameZ computation (pos 0)))
+    ∷ (15, absent p)
+    ∷ []
+
+-- behind "1 to 5, KIND if not 1021", as the reader of a 1021 gives them
+unfoldable pub stepRefusal : List ℕ → (x y z : ℤ) → ℕ
+stepRefusal s x y z =
+    first (kindTests 1021 1021 s ++ stepTests (readHelmert s .value .system .computation) (readHelmert s .value .parameters) x y z)
+
+-- ---- the answer
+
+-- of a message s and a position: "each coordinate answered must lie within one unit" of the exact target, which is over 10^35.
+-- Which whole number within that unit is answered is left free
+abbrev pub Stepped : List ℕ → (x y z : ℤ) → Position → Type 0
+Stepped s x y z t = Answered (10 ^ 35) (stepRefusal s x y z) (valuesIn (readHelmert s .value .parameters)) x y z t

@@ -1,0 +1,22 @@
+-- `grid_fields::means_1023` meets its contract.
+-- Assumes nothing.
+use borrow.Author.Needs.{needs}
+use Rattle.field.specs.Field.{signedAt}
+use Rattle.layout.specs.Layout.{total}
+use Rattle.layouts.specs.Layouts.{layout1023}
+use Rattle.grid_records.specs.Grids.{shiftsAt}
+use Rattle.grid_fields.specs.Private.{fieldSays}
+use Rattle.grid_fields.proofs.means_1023.Statement.{statement}
+use Rattle.grid_fields.proofs.means_1023.Tie as tie
+
+returns : tie.Need-returns
+unfolding shiftsAt fieldSays layout1023 total signedAt
+returns c =
+    λ i. record {
+      north = c .before .before .signed-at .ensures i;
+      east = c .before .signed-at2 .ensures i;
+      height = c .signed-at3 .ensures i;
+    }
+
+pub means-1023-spec : {M : Type 1} → statement M
+means-1023-spec = tie.close (tie.spec (λ c κs. search needs) (λ c κs. search needs) (λ c κs. search needs) returns)

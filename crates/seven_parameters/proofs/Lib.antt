@@ -1,0 +1,4 @@
+pub mod Quotient
+pub mod About
+pub mod Error
+pub mod Refusals
