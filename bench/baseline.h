@@ -19,6 +19,10 @@ typedef struct {
     int64_t count;
 } shift;
 
+/* A find by a table and its index. */
+typedef tarnoklej_found find_call(const uint8_t *table, size_t size, const uint8_t *index, size_t index_size,
+                                  uint8_t owner, uint8_t sin, uint8_t group);
+
 /* One way to do the work; a call that it does not have is null. */
 typedef struct {
     const char *name;
@@ -35,10 +39,15 @@ typedef struct {
     shift (*one_shift)(const uint8_t *message, size_t length, uint8_t component, int64_t north, int64_t east);
     uint8_t (*shift_row)(const uint8_t *message, size_t length, uint8_t component, int64_t north, int64_t east,
                          int64_t step, size_t count, int64_t *row, size_t room);
-    uint8_t (*store)(uint8_t *table, size_t size, uint8_t owner, const uint8_t *message, size_t length);
-    tarnoklej_found (*find)(const uint8_t *table, size_t size, uint8_t owner, uint8_t sin, uint8_t group);
+    uint8_t (*store)(uint8_t *table, size_t size, uint8_t *index, size_t index_size, uint8_t owner,
+                     const uint8_t *message, size_t length);
+    find_call *find;
     tarnoklej_frame (*find_frame)(const uint8_t *bytes, size_t size, size_t from);
     tarnoklej_written (*write_frame)(const uint8_t *message, size_t length, uint8_t *out, size_t room);
+    /* Finds of plain C that do less or more, of the library the same as find: one reads two fields of the one message,
+     * the other walks over all slots without the index.
+     */
+    find_call *find_two_fields, *find_by_walk;
     tarnoklej_position (*datum_step)(const uint8_t *message, size_t length, int64_t x, int64_t y, int64_t z);
 } baseline;
 
@@ -47,7 +56,7 @@ extern const baseline BIT_BY_BIT;
 /* Fields by one load of 64 bits each. */
 extern const baseline ONE_LOAD;
 
-/* A table in which slots are looked up by their bytes alone, without a check that they are well formed. */
+/* A table in which slots are looked up in the index alone, without a check that they are well formed. */
 extern const baseline UNCHECKED;
 
 /* Rows of shifts by the library's call of the three shifts at each place. */

@@ -28,7 +28,7 @@ static input inputs[MESSAGES], with_nones[MESSAGES];
 /* The same messages with another day (DF051). */
 static uint8_t of_other_day[MESSAGES][BYTES];
 static int64_t positions[MESSAGES][POSITIONS][2];
-static uint8_t table[TARNOKLEJ_TABLE_SIZE];
+static uint8_t table[TARNOKLEJ_TABLE_SIZE], entries[TARNOKLEJ_INDEX_SIZE];
 
 /* The library's shifts at many positions, one call each. */
 static void library_many_shifts(const uint8_t *message, size_t length, const int64_t (*at)[2], size_t count,
@@ -58,6 +58,8 @@ const baseline LIBRARY = {.name = "library",
                           .find = tarnoklej_find,
                           .find_frame = tarnoklej_find_frame,
                           .write_frame = tarnoklej_write_frame,
+                          .find_two_fields = tarnoklej_find,
+                          .find_by_walk = tarnoklej_find,
                           .datum_step = tarnoklej_datum_step};
 
 /* All that are timed, the library first. */
@@ -204,19 +206,55 @@ static uint8_t owner_of(size_t sin)
     return (uint8_t)(1 + sin % 2);
 }
 
-static uint64_t run_find(const baseline *by, size_t turn, size_t size)
+/* A find of a turn. */
+static tarnoklej_found found_by(find_call *find, size_t turn, size_t size)
 {
     size_t sin = turn % size;
-    tarnoklej_found found = by->find(table, sizeof table, owner_of(sin), (uint8_t)sin, TARNOKLEJ_GRID);
-    return found.refusal + found.at + found.length;
+    return find(table, sizeof table, entries, sizeof entries, owner_of(sin), (uint8_t)sin, TARNOKLEJ_GRID);
+}
+
+/* Something of a whole answer. */
+static uint64_t sum_of(tarnoklej_found found)
+{
+    return found.refusal + found.at + found.length + found.probes;
+}
+
+/* Whether two answers show the same part of the table. */
+static int same_part(tarnoklej_found one, tarnoklej_found other)
+{
+    return one.refusal == other.refusal && one.at == other.at && one.length == other.length;
+}
+
+static uint64_t run_find(const baseline *by, size_t turn, size_t size)
+{
+    return sum_of(found_by(by->find, turn, size));
 }
 
 static int same_find(const baseline *by, size_t turn, size_t size)
 {
-    uint8_t sin = (uint8_t)(turn % size);
-    tarnoklej_found one = LIBRARY.find(table, sizeof table, owner_of(sin), sin, TARNOKLEJ_GRID);
-    tarnoklej_found other = by->find(table, sizeof table, owner_of(sin), sin, TARNOKLEJ_GRID);
-    return one.refusal == other.refusal && one.at == other.at && one.length == other.length;
+    tarnoklej_found one = found_by(LIBRARY.find, turn, size), other = found_by(by->find, turn, size);
+    return same_part(one, other) && one.probes == other.probes;
+}
+
+static uint64_t run_two_fields(const baseline *by, size_t turn, size_t size)
+{
+    return sum_of(found_by(by->find_two_fields, turn, size));
+}
+
+static int same_two_fields(const baseline *by, size_t turn, size_t size)
+{
+    tarnoklej_found one = found_by(LIBRARY.find, turn, size), other = found_by(by->find_two_fields, turn, size);
+    return same_part(one, other) && one.probes == other.probes;
+}
+
+static uint64_t run_walk(const baseline *by, size_t turn, size_t size)
+{
+    return sum_of(found_by(by->find_by_walk, turn, size));
+}
+
+static int same_walk(const baseline *by, size_t turn, size_t size)
+{
+    return same_part(found_by(LIBRARY.find, turn, size), found_by(by->find_by_walk, turn, size));
 }
 
 /* The message that is stored in a turn: of each key in turn, and of another day than the one in the slot. */
@@ -227,20 +265,24 @@ static const uint8_t *stored_in(size_t turn, size_t size)
 
 static uint64_t run_store(const baseline *by, size_t turn, size_t size)
 {
-    uint8_t refusal = by->store(table, sizeof table, owner_of(turn % size), stored_in(turn, size), BYTES);
+    uint8_t owner = owner_of(turn % size);
+    uint8_t refusal = by->store(table, sizeof table, entries, sizeof entries, owner, stored_in(turn, size), BYTES);
     return refusal + table[turn % sizeof table];
 }
 
 /* The store must also change the table. */
 static int same_store(const baseline *by, size_t turn, size_t size)
 {
-    uint8_t before[TARNOKLEJ_TABLE_SIZE], other[TARNOKLEJ_TABLE_SIZE];
+    uint8_t before[TARNOKLEJ_TABLE_SIZE], other[TARNOKLEJ_TABLE_SIZE], other_entries[TARNOKLEJ_INDEX_SIZE];
     memcpy(before, table, sizeof table);
     memcpy(other, table, sizeof table);
+    memcpy(other_entries, entries, sizeof entries);
     uint8_t owner = owner_of(turn % size);
-    uint8_t refusal = LIBRARY.store(table, sizeof table, owner, stored_in(turn, size), BYTES);
-    return refusal == by->store(other, sizeof other, owner, stored_in(turn, size), BYTES) &&
-           memcmp(table, other, sizeof table) == 0 && memcmp(table, before, sizeof table) != 0;
+    const uint8_t *message = stored_in(turn, size);
+    uint8_t refusal = LIBRARY.store(table, sizeof table, entries, sizeof entries, owner, message, BYTES);
+    return refusal == by->store(other, sizeof other, other_entries, sizeof other_entries, owner, message, BYTES) &&
+           memcmp(table, other, sizeof table) == 0 && memcmp(entries, other_entries, sizeof entries) == 0 &&
+           memcmp(table, before, sizeof table) != 0;
 }
 
 /* The calls on messages and on a table. */
@@ -255,6 +297,8 @@ static const call CALLS[] = {
     {"find, 1 slot in use", run_find, same_find, 1, 1, TURNS_CHECKED, ON_TABLE},
     {"find, 8 slots in use", run_find, same_find, 8, 1, TURNS_CHECKED, ON_TABLE},
     {"find, 32 slots in use", run_find, same_find, 32, 1, TURNS_CHECKED, ON_TABLE},
+    {"find, 32 slots in use, C of two fields", run_two_fields, same_two_fields, 32, 1, TURNS_CHECKED, ON_CHECKED_TABLE},
+    {"find, 32 slots in use, C by a walk", run_walk, same_walk, 32, 1, TURNS_CHECKED, ON_CHECKED_TABLE},
     {"store (replaces), 1 slot in use", run_store, same_store, 1, 1, TURNS_CHECKED, ON_TABLE},
     {"store (replaces), 8 slots in use", run_store, same_store, 8, 1, TURNS_CHECKED, ON_TABLE},
     {"store (replaces), 32 slots in use", run_store, same_store, 32, 1, TURNS_CHECKED, ON_TABLE},
@@ -343,13 +387,22 @@ static void make_inputs(void)
     }
 }
 
-/* Fills the first slots of the table. */
+/* Fills the first slots of the table and its index, and stops where plain C comes to other bytes. */
 static void fill_table(size_t slots)
 {
+    uint8_t other[TARNOKLEJ_TABLE_SIZE] = {0}, other_entries[TARNOKLEJ_INDEX_SIZE] = {0};
     memset(table, 0, sizeof table);
-    for (size_t i = 0; i < slots; i++)
-        if (tarnoklej_store(table, sizeof table, owner_of(i), inputs[i].message, BYTES) != TARNOKLEJ_DONE)
+    memset(entries, 0, sizeof entries);
+    for (size_t i = 0; i < slots; i++) {
+        const uint8_t *message = inputs[i].message;
+        uint8_t owner = owner_of(i);
+        if (tarnoklej_store(table, sizeof table, entries, sizeof entries, owner, message, BYTES) != TARNOKLEJ_DONE ||
+            ONE_LOAD.store(other, sizeof other, other_entries, sizeof other_entries, owner, message, BYTES) !=
+                TARNOKLEJ_DONE)
             stop("a message was refused", "table");
+    }
+    if (memcmp(table, other, sizeof table) != 0 || memcmp(entries, other_entries, sizeof entries) != 0)
+        stop("another table than the library's", "table");
 }
 
 /* Whether one of those timed has the calls on a subject. */
@@ -360,6 +413,8 @@ static int has(const baseline *by, subject on)
         return by->shift_row != NULL;
     case ON_TABLE:
         return by->find != NULL;
+    case ON_CHECKED_TABLE:
+        return by->find_by_walk != NULL;
     case ON_FRAMES:
         return by->find_frame != NULL;
     case ON_DATUM:
@@ -465,7 +520,7 @@ static void print_table(subject on, double (*nanoseconds)[TIMED])
 static void for_all_calls(void (*work)(const call *c, double *nanoseconds), double (*nanoseconds)[TIMED])
 {
     for (size_t i = 0; i < ALL_CALLS; i++) {
-        if (call_at(i)->on == ON_TABLE)
+        if (call_at(i)->on == ON_TABLE || call_at(i)->on == ON_CHECKED_TABLE)
             fill_table(call_at(i)->size);
         work(call_at(i), nanoseconds[i]);
     }

@@ -4,7 +4,7 @@
 #include "baseline.h"
 
 /* What a call is made on. */
-typedef enum { ON_MESSAGE, ON_ROWS, ON_TABLE, ON_FRAMES, ON_DATUM, SUBJECTS } subject;
+typedef enum { ON_MESSAGE, ON_ROWS, ON_TABLE, ON_CHECKED_TABLE, ON_FRAMES, ON_DATUM, SUBJECTS } subject;
 
 /* A call to time: makes the call of a turn and gives something of its answer, or whether the whole is the library's. */
 typedef struct {

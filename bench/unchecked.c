@@ -1,56 +1,45 @@
-/* A table of messages 1023 in which slots are looked up by their bytes alone. */
-#include <string.h>
+/* A table of messages 1023 and its index, both trusted: a slot is looked up in the index and not read. */
 #include "baseline.h"
+#include "entries.h"
 
-/* The first slot of an owner and a system identification number, owner 0 asking for a free one, or no slot. */
-static int slot_of(const uint8_t *table, uint8_t owner, unsigned sin)
+/* The first free slot, or -1 where there is none or the owner holds the most. */
+static int free_slot(const uint8_t *table, uint8_t owner)
 {
-    for (int slot = 0; slot < TARNOKLEJ_SLOTS; slot++) {
-        const uint8_t *bytes = table + slot * TARNOKLEJ_SLOT_SIZE;
-        if (bytes[0] == owner && ((bytes[3] << 4 & 0xf0u) | bytes[4] >> 4) == sin)
-            return slot;
+    int first = -1, held = 0;
+    for (int slot = TARNOKLEJ_SLOTS - 1; slot >= 0; slot--) {
+        uint8_t holder = table[slot * TARNOKLEJ_SLOT_SIZE];
+        held += holder == owner;
+        if (holder == 0)
+            first = slot;
     }
-    return -1;
+    return held < TARNOKLEJ_OWNER_SLOTS ? first : -1;
 }
 
-/* How many slots an owner holds. */
-static int slots_of(const uint8_t *table, uint8_t owner)
-{
-    int slots = 0;
-    for (int slot = 0; slot < TARNOKLEJ_SLOTS; slot++)
-        slots += table[slot * TARNOKLEJ_SLOT_SIZE] == owner;
-    return slots;
-}
-
-/* Stores a message in a table that is taken to be well formed. */
-static uint8_t store(uint8_t *table, size_t size, uint8_t owner, const uint8_t *message, size_t length)
+/* Stores a message in a table whose index is taken to agree with it. */
+static uint8_t store(uint8_t *table, size_t size, uint8_t *index, size_t index_size, uint8_t owner,
+                     const uint8_t *message, size_t length)
 {
     (void)size;
-    int slot = slot_of(table, owner, (message[1] << 4 & 0xf0u) | message[2] >> 4);
-    if (slot < 0 && slots_of(table, owner) < TARNOKLEJ_OWNER_SLOTS)
-        slot = slot_of(table, 0, 0);
+    (void)index_size;
+    int key = key_of(owner, (uint8_t)(message[1] << 4 | message[2] >> 4), TARNOKLEJ_GRID);
+    searched at = search(index, key);
+    int slot = at.there ? index[at.place * ENTRY_SIZE + 3] : free_slot(table, owner);
     if (slot < 0)
         return TARNOKLEJ_FULL;
-    uint8_t *bytes = table + slot * TARNOKLEJ_SLOT_SIZE;
-    memset(bytes, 0, TARNOKLEJ_SLOT_SIZE);
-    bytes[0] = owner;
-    bytes[1] = (uint8_t)length;
-    memcpy(bytes + 2, message, length);
+    fill_slot(table, slot, owner, message, length);
+    if (!at.there)
+        insert_entry(index, at.place, key, slot);
     return TARNOKLEJ_DONE;
 }
 
-/* Finds a message in a table that is taken to be well formed. */
-static tarnoklej_found find(const uint8_t *table, size_t size, uint8_t owner, uint8_t sin, uint8_t group)
+/* Finds a message in a table whose index is taken to agree with it. */
+static tarnoklej_found find(const uint8_t *table, size_t size, const uint8_t *index, size_t index_size, uint8_t owner,
+                            uint8_t sin, uint8_t group)
 {
     (void)size;
-    tarnoklej_found found = {TARNOKLEJ_NONE, 0, 0};
-    int slot = group == TARNOKLEJ_GRID ? slot_of(table, owner, sin) : -1;
-    if (slot < 0)
-        return found;
-    found.refusal = TARNOKLEJ_DONE;
-    found.at = (size_t)slot * TARNOKLEJ_SLOT_SIZE + 2;
-    found.length = table[slot * TARNOKLEJ_SLOT_SIZE + 1];
-    return found;
+    (void)index_size;
+    searched at = search(index, key_of(owner, sin, group));
+    return at.there ? found_in(table, index[at.place * ENTRY_SIZE + 3], at.probes) : not_found(TARNOKLEJ_NONE);
 }
 
 const baseline UNCHECKED = {.name = "unchecked table", .store = store, .find = find};

@@ -41,10 +41,12 @@ enum {
     TARNOKLEJ_ABSENT = 15,    /* the mean, or a node of non-zero weight, or one of DF156 to DF162 has no value */
     TARNOKLEJ_FULL = 16,      /* the key is new to the owner, who holds 20 slots or finds no slot free */
     TARNOKLEJ_NONE = 17,      /* no such key of the owner, or group not 0 to 2 */
-    TARNOKLEJ_TABLE = 18,     /* the table has a wrong size or is not well formed, see tarnoklej_store */
+    TARNOKLEJ_TABLE = 18,     /* the table has a wrong size or is not well formed, see tarnoklej_index_agrees */
     TARNOKLEJ_NEED = 19,      /* an unfinished frame calls for bytes that have not arrived */
     TARNOKLEJ_NOFRAME = 20,   /* neither a frame nor an unfinished one, or a start past the end */
-    TARNOKLEJ_OWNER = 21      /* an owner other than 1 or 2 */
+    TARNOKLEJ_OWNER = 21,     /* an owner other than 1 or 2 */
+    TARNOKLEJ_INDEX = 22,     /* the index has a wrong size or does not agree with the table */
+    TARNOKLEJ_NOMEAN = 23     /* no mean from which every wanted height is at most 255 mm away */
 };
 
 /* Sizes. */
@@ -53,6 +55,8 @@ enum {
     TARNOKLEJ_SLOTS = 32,         /* messages that a table holds */
     TARNOKLEJ_OWNER_SLOTS = 20,   /* slots that an owner holds at most, so that 12 are always there for the other */
     TARNOKLEJ_SLOT_SIZE = 132,    /* bytes of a slot: owner, length, 127 message bytes, three zeros */
+    TARNOKLEJ_INDEX_SIZE = 128,   /* bytes of an index; 128 zeros are the index of an empty table */
+    TARNOKLEJ_MOST_PROBES = 6,    /* entries of an index that a find looks at, at most */
     TARNOKLEJ_MOST_BYTES = 127,   /* bytes of the longest message, a 1022 of two names of 31 characters */
     TARNOKLEJ_MOST_FIELDS = 90,   /* fields of the longest row, of the same message */
     TARNOKLEJ_FRAME_HEAD = 3,     /* bytes of a frame before its message: D3, six zero bits, a ten-bit length */
@@ -78,7 +82,7 @@ enum {
 /* With a refusal all other members of these are 0, but for the place that a frame's NEED carries. */
 typedef struct { uint8_t refusal; uint16_t number; uint8_t sin; size_t length; } tarnoklej_header;
 typedef struct { uint8_t refusal; size_t length; } tarnoklej_written;
-typedef struct { uint8_t refusal; size_t at; size_t length; } tarnoklej_found;
+typedef struct { uint8_t refusal; size_t at; size_t length; uint8_t probes; } tarnoklej_found;
 typedef struct { uint8_t refusal; size_t at; size_t length; } tarnoklej_frame; /* at: the place of D3, with NEED too */
 typedef struct { uint8_t refusal; int64_t x, y, z; } tarnoklej_position;
 
@@ -170,32 +174,56 @@ tarnoklej_frame tarnoklej_find_frame(const uint8_t *bytes, size_t size, size_t f
  */
 tarnoklej_written tarnoklej_write_frame(const uint8_t *message, size_t message_length, uint8_t *out, size_t room);
 
+/* Says whether a table and an index agree.
+ * Beside a table stands its index: 32 entries of four bytes, owner, system identification number, group, slot, slots being
+ * counted from 0. They are sorted by the first three, rising; entries that are not in use are zero and at the end. The two
+ * agree where the index is so formed and has one entry that is true to each used slot, and no more.
+ * A slot is free where all of its bytes are zero. A used one is an owner byte, 1 or 2, a length byte, an accepted
+ * message of that length, and zeros. A table is well formed where every slot is free or used so, no key stands twice,
+ * and no owner holds more than 20 slots.
+ * Refusals in order: TABLE, INDEX.
+ * Buffers: table and index are only read.
+ */
+uint8_t tarnoklej_index_agrees(const uint8_t *table, size_t size, const uint8_t *index, size_t index_size);
+
+/* Writes the index of any well-formed table anew, so that the two agree.
+ * Refusals in order: TABLE, INDEX where index_size is not 128.
+ * Buffers: table is only read; all of index is written, whatever it held; with a refusal it keeps its bytes.
+ */
+uint8_t tarnoklej_index_write(const uint8_t *table, size_t size, uint8_t *index, size_t index_size);
+
 /* Stores a message for owner 1 or 2 under its key, that is owner, system identification number and group: in the slot
  * of that key, otherwise in the first free slot.
  * Two owners share a table, and the same system identification number and group may stand once for each. No call by one
  * owner shows, replaces or removes a message of the other. Whatever the other owner does, a key is refused with FULL
  * only where its owner holds 12 keys or more.
- * A slot is free where all of its bytes are zero. A used one is an owner byte, 1 or 2, a length byte, an accepted
- * message of that length, and zeros. A table is well formed where every slot is free or used so, no key stands twice,
- * and no owner holds more than 20 slots.
- * Refusals in order: TABLE, OWNER, SHORT, NUMBER, LENGTH, FILL, RANGE, FULL.
- * Buffers: message is only read and must not lie in the table; the slot holds owner, length, message and zeros behind
- * it, and the other slots keep their bytes; with a refusal all of the table keeps its bytes.
+ * Refusals in order: TABLE, INDEX where table and index do not agree, OWNER, SHORT, NUMBER, LENGTH, FILL, RANGE, FULL.
+ * Buffers: message is only read and must lie in neither of the others; the slot holds owner, length, message and zeros
+ * behind it, the other slots keep their bytes, and the index agrees with the table; with a refusal all of both keep
+ * their bytes.
  */
-uint8_t tarnoklej_store(uint8_t *table, size_t size, uint8_t owner, const uint8_t *message, size_t message_length);
+uint8_t tarnoklej_store(uint8_t *table, size_t size, uint8_t *index, size_t index_size, uint8_t owner,
+                        const uint8_t *message, size_t message_length);
 
-/* Gives where the message of an owner's key stands in the table: at is the place of its first byte, length its bytes.
- * Refusals in order: TABLE, OWNER, NONE.
- * Buffers: table is only read.
+/* Gives where the message of an owner's key stands in the table: at is the place of its first byte, length its bytes,
+ * probes the number of entries of the index that were looked at, 1 to 6.
+ * Only these entries and one slot are read, by a binary search: of entries 0 to 31 the one at half the sum of both ends,
+ * rounded down, then so among those before or behind it. Owner 0 is above every key. Whether table and index agree is
+ * not asked; where they do, the message of the key is found if there is one.
+ * Refusals in order: TABLE where size is not 4,224, INDEX where index_size is not 128, OWNER, NONE, INDEX where the
+ * entry's slot is above 31 or is no used slot of the key.
+ * Buffers: table and index are only read.
  */
-tarnoklej_found tarnoklej_find(const uint8_t *table, size_t size, uint8_t owner, uint8_t sin, uint8_t group);
+tarnoklej_found tarnoklej_find(const uint8_t *table, size_t size, const uint8_t *index, size_t index_size,
+                               uint8_t owner, uint8_t sin, uint8_t group);
 
 /* Removes the message of an owner's key.
- * Refusals in order: TABLE, OWNER, NONE.
- * Buffers: the slot of the key is all zero and the other slots keep their bytes; with a refusal all of the table
- * keeps its bytes.
+ * Refusals in order: TABLE, INDEX where table and index do not agree, OWNER, NONE.
+ * Buffers: the slot of the key is all zero, the other slots keep their bytes, and the index agrees with the table; with
+ * a refusal all of both keep their bytes.
  */
-uint8_t tarnoklej_remove(uint8_t *table, size_t size, uint8_t owner, uint8_t sin, uint8_t group);
+uint8_t tarnoklej_remove(uint8_t *table, size_t size, uint8_t *index, size_t index_size, uint8_t owner, uint8_t sin,
+                         uint8_t group);
 
 /* Gives the position in the target datum of a message 1021 by its linear seven-parameter step, that of computation
  * indicator (DF150) 0. Positions are geocentric, x, y and z in units of 0.1 mm.
@@ -212,6 +240,22 @@ uint8_t tarnoklej_remove(uint8_t *table, size_t size, uint8_t owner, uint8_t sin
  * Buffers: message is only read.
  */
 tarnoklej_position tarnoklej_datum_step(const uint8_t *message, size_t message_length, int64_t x, int64_t y, int64_t z);
+
+/* Writes the message 1023 of sixteen wanted heights, and gives its length in bytes.
+ * Heights are in whole millimetres, any number of 64 bits, node 1 first (rows from the north, each from west to east).
+ * The rest is a row of a 1023, as tarnoklej_read_fields gives it, whose height fields (DF198, DF201) are not looked at.
+ * The mean (DF198) is the smallest from -16,383 to 16,383 for which every height less the mean lies within +-255 mm;
+ * the nodes (DF201) are these differences. So at each node the message's shift is the wanted height exactly.
+ * Refusals in order: RANGE where the counts are not 64, 64 and 16, OFF where DF191 is 0, METHOD where DF213 is not 0,
+ * ORIGIN where DF192 or DF193 has no value, SPACING where DF194 or DF195 is 0, NOMEAN where there is no such mean,
+ * RANGE for a number other than 1023 and for all else that tarnoklej_write_fields refuses so, ROOM where room is less
+ * than the message's 73 bytes.
+ * Buffers: values, present and wanted are only read; the first bytes of out hold the message and the rest keep theirs;
+ * with a refusal all of out keeps its bytes.
+ */
+tarnoklej_written tarnoklej_write_heights(const int64_t *values, size_t values_count, const uint8_t *present,
+                                          size_t present_count, const int64_t *wanted, size_t wanted_count,
+                                          uint8_t *out, size_t room);
 
 /* Positions in a row by DF number: position, field, type, resolution, name.
  * N is the value at position 1, M the value at position 2+N; i is 0 to 15 for nodes 1 to 16.

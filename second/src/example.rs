@@ -9,7 +9,7 @@ const LOOKED_AT: usize = 128;
 const NAMES: [&str; COMPONENTS] = ["north-south", "east-west", "height"];
 
 /// A decimal number as a whole number and the power of ten it is divided by.
-fn decimal(text: &str) -> Option<(i128, i128)> {
+pub fn decimal(text: &str) -> Option<(i128, i128)> {
     let (negative, digits) = text.strip_prefix('-').map_or((false, text), |rest| (true, rest));
     let (whole, part) = digits.split_once('.').unwrap_or((digits, ""));
     let all: i128 = format!("{whole}{part}").parse().ok()?;

@@ -1,6 +1,7 @@
 //! Lists of calls on a shared table, and what they come to by dictionaries alone (requests A7 and A8 of document 02).
 
 use crate::damage::Damage;
+use crate::index;
 use crate::layouts::NUMBERS;
 use crate::random::Random;
 use crate::refusal::{number_of, Refusal};
@@ -55,6 +56,19 @@ pub fn make(table: &mut [u8], call: &Call) -> Reply {
         Ask::Find(sin, group) => {
             let found = find(table, call.owner, *sin, *group);
             let shown = found.map_or(Vec::new(), |(at, length)| table[at..at + length].to_vec());
+            Reply { refusal: number_of(&found), shown }
+        }
+    }
+}
+
+/// Makes a call on a table with its index of the second program.
+pub fn make_with_index(table: &mut [u8], index: &mut [u8], call: &Call) -> Reply {
+    match &call.ask {
+        Ask::Store(message) => Reply::bare(&index::store(table, index, call.owner, message)),
+        Ask::Remove(sin, group) => Reply::bare(&index::remove(table, index, call.owner, *sin, *group)),
+        Ask::Find(sin, group) => {
+            let found = index::find(table, index, call.owner, *sin, *group);
+            let shown = found.map_or(Vec::new(), |found| table[found.at..found.at + found.length].to_vec());
             Reply { refusal: number_of(&found), shown }
         }
     }

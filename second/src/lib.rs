@@ -1,6 +1,6 @@
 //! An independent second program for RTCM messages 1021 to 1027.
 //!
-//! It is written from document 01, from requests A1, A2, A3, A5 to A8 and A12 of document 02, from source documents 000,
+//! It is written from document 01, from requests A1, A2, A3, A5 to A9, A11 and A12 of document 02, from source documents 000,
 //! 003 and 004, and from docs/DECISIONS.md where these leave a choice. It shares no code with the proved library.
 
 pub mod bits;
@@ -15,8 +15,13 @@ pub mod frame;
 pub mod frames;
 pub mod grid;
 pub mod gridsamples;
+pub mod heights;
+pub mod heights_example;
+pub mod heightsamples;
 pub mod hex;
 pub mod history;
+pub mod index;
+pub mod index_damage;
 pub mod layouts;
 pub mod message;
 pub mod page;
@@ -32,6 +37,8 @@ pub mod selfcheck;
 pub mod selfcheck_datum;
 pub mod selfcheck_frame;
 pub mod selfcheck_grid;
+pub mod selfcheck_heights;
+pub mod selfcheck_index;
 pub mod selfcheck_nones;
 pub mod selfcheck_rows;
 pub mod selfcheck_table;

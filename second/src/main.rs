@@ -1,12 +1,14 @@
 //! The command line of the second program.
 
-use second::{datumsamples, example, figures, frames, page, papers, positions, selfcheck, services, vectors};
+use second::{
+    datumsamples, example, figures, frames, heights_example, page, papers, positions, selfcheck, services, vectors,
+};
 use std::io::Read;
 use std::path::Path;
 use std::process::ExitCode;
 
 /// What the program can be asked for.
-const USAGE: &str = "second selfcheck | papers FILE | fields | positions | example LIST | vectors OUTDIR [--shift] [--table] [--frame] [--row] | services DIR | figures DIR | identify | frames | datum SETS POSITIONS";
+const USAGE: &str = "second selfcheck | papers FILE | fields | positions | example LIST | vectors OUTDIR [--shift] [--table] [--frame] [--row] [--heights] | services DIR | figures DIR | identify | frames | datum SETS POSITIONS | heights LIST";
 
 /// Success or failure from a truth value.
 fn exit(good: bool) -> ExitCode {
@@ -28,8 +30,13 @@ fn compare_papers(file: &str) -> std::io::Result<bool> {
 /// Writes the cases into a folder.
 fn write_vectors(dir: &str, flags: &[String]) -> std::io::Result<bool> {
     let has = |flag: &str| flags.iter().any(|f| f == flag);
-    let wanted =
-        vectors::Wanted { shift: has("--shift"), table: has("--table"), frame: has("--frame"), row: has("--row") };
+    let wanted = vectors::Wanted {
+        shift: has("--shift"),
+        table: has("--table"),
+        frame: has("--frame"),
+        row: has("--row"),
+        heights: has("--heights"),
+    };
     println!("{} cases", vectors::write(Path::new(dir), wanted)?);
     Ok(true)
 }
@@ -67,6 +74,7 @@ fn run(arguments: &[String]) -> std::io::Result<bool> {
         ["identify"] => print(&format!("{}\n", selfcheck::program_line(&standard_input()?))),
         ["frames"] => print(&frames::listing(&standard_input()?)),
         ["datum", sets, positions] => print(&datumsamples::list(count(sets)?, count(positions)?)),
+        ["heights", list] => print(&heights_example::all(&std::fs::read_to_string(list)?)?),
         _ => {
             eprintln!("{USAGE}");
             Ok(false)

@@ -35,7 +35,7 @@ impl Row {
 }
 
 /// What one place of a row says, or nothing where its two numbers are no place.
-fn place_of(value: i64, present: u8) -> Option<Reading> {
+pub fn place_of(value: i64, present: u8) -> Option<Reading> {
     match (present, value) {
         (1, _) => Some(Some(value)),
         (0, 0) => Some(None),

@@ -45,6 +45,10 @@ pub enum Refusal {
     NoFrame = 20,
     /// An owner other than 1 or 2.
     Owner = 21,
+    /// An index of a wrong size, one that does not agree with its table, or an entry that is not true to its slot.
+    Index = 22,
+    /// No mean fits the wanted heights.
+    NoMean = 23,
 }
 
 impl Refusal {

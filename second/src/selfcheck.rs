@@ -48,6 +48,8 @@ pub fn groups() -> Vec<Group> {
     groups.extend(crate::selfcheck_table::groups());
     groups.extend(crate::selfcheck_frame::groups());
     groups.extend(crate::selfcheck_datum::groups());
+    groups.extend(crate::selfcheck_index::groups());
+    groups.extend(crate::selfcheck_heights::groups());
     groups
 }
 

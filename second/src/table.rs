@@ -19,7 +19,7 @@ pub const OWNERS: [u8; 2] = [1, 2];
 pub const MOST_HELD: usize = 20;
 
 /// Under what a message stands.
-#[derive(Clone, Copy, PartialEq, Eq, Hash, Debug)]
+#[derive(Clone, Copy, PartialEq, Eq, PartialOrd, Ord, Hash, Debug)]
 pub struct Key {
     /// Who stored it.
     pub owner: u8,
@@ -31,7 +31,7 @@ pub struct Key {
 
 /// What a well-formed slot holds.
 #[derive(Clone, Copy, PartialEq, Eq, Debug)]
-enum Held {
+pub enum Held {
     /// Nothing.
     Free,
     /// A message of this key and length.
@@ -40,7 +40,7 @@ enum Held {
 
 impl Held {
     /// The key of a used slot.
-    fn key(&self) -> Option<Key> {
+    pub fn key(&self) -> Option<Key> {
         match self {
             Held::Free => None,
             Held::Used(key, _) => Some(*key),
@@ -69,7 +69,7 @@ pub fn key_of(owner: u8, message: &[u8]) -> Result<Key, Refusal> {
 }
 
 /// What a slot holds, or none where it is not well formed.
-fn held(slot: &[u8]) -> Option<Held> {
+pub fn held(slot: &[u8]) -> Option<Held> {
     if slot.iter().all(|&b| b == 0) {
         return Some(Held::Free);
     }
@@ -82,7 +82,7 @@ fn held(slot: &[u8]) -> Option<Held> {
 }
 
 /// What every slot holds, or TABLE for a wrong size or a table that is not well formed.
-fn slots(table: &[u8]) -> Result<Vec<Held>, Refusal> {
+pub fn slots(table: &[u8]) -> Result<Vec<Held>, Refusal> {
     if table.len() != SIZE {
         return Err(Refusal::Table);
     }
@@ -125,7 +125,7 @@ fn slot_for(slots: &[Held], key: Key) -> Result<usize, Refusal> {
 }
 
 /// Refusal 21 for a number that is no owner.
-fn check_owner(owner: u8) -> Result<(), Refusal> {
+pub fn check_owner(owner: u8) -> Result<(), Refusal> {
     if OWNERS.contains(&owner) {
         Ok(())
     } else {

@@ -14,7 +14,7 @@ pub struct Header {
     pub length: usize,
 }
 
-/// The answer of `tarnoklej_write_fields` and `tarnoklej_write_frame`.
+/// The answer of `tarnoklej_write_fields`, `tarnoklej_write_frame` and `tarnoklej_write_heights`.
 #[repr(C)]
 #[derive(Clone, Copy, PartialEq, Eq, Debug)]
 pub struct Written {
@@ -58,6 +58,8 @@ pub struct Found {
     pub at: usize,
     /// The length of the message in bytes.
     pub length: usize,
+    /// How many entries of the index were looked at.
+    pub probes: u8,
 }
 
 /// The answer of `tarnoklej_find_frame`.
@@ -125,12 +127,51 @@ extern "C" {
     pub fn tarnoklej_find_frame(bytes: *const u8, size: usize, from: usize) -> Frame;
     /// Writes the frame of a message.
     pub fn tarnoklej_write_frame(message: *const u8, message_length: usize, out: *mut u8, room: usize) -> Written;
+    /// Says whether a table and an index agree.
+    pub fn tarnoklej_index_agrees(table: *const u8, size: usize, index: *const u8, index_size: usize) -> u8;
+    /// Writes the index of a table anew.
+    pub fn tarnoklej_index_write(table: *const u8, size: usize, index: *mut u8, index_size: usize) -> u8;
     /// Stores an owner's message under its key.
-    pub fn tarnoklej_store(table: *mut u8, size: usize, owner: u8, message: *const u8, message_length: usize) -> u8;
+    pub fn tarnoklej_store(
+        table: *mut u8,
+        size: usize,
+        index: *mut u8,
+        index_size: usize,
+        owner: u8,
+        message: *const u8,
+        message_length: usize,
+    ) -> u8;
     /// Gives where the message of an owner's key stands in the table.
-    pub fn tarnoklej_find(table: *const u8, size: usize, owner: u8, sin: u8, group: u8) -> Found;
+    pub fn tarnoklej_find(
+        table: *const u8,
+        size: usize,
+        index: *const u8,
+        index_size: usize,
+        owner: u8,
+        sin: u8,
+        group: u8,
+    ) -> Found;
     /// Removes the message of an owner's key.
-    pub fn tarnoklej_remove(table: *mut u8, size: usize, owner: u8, sin: u8, group: u8) -> u8;
+    pub fn tarnoklej_remove(
+        table: *mut u8,
+        size: usize,
+        index: *mut u8,
+        index_size: usize,
+        owner: u8,
+        sin: u8,
+        group: u8,
+    ) -> u8;
     /// Gives the position in the target datum of a message 1021.
     pub fn tarnoklej_datum_step(message: *const u8, message_length: usize, x: i64, y: i64, z: i64) -> Position;
+    /// Writes the message of sixteen wanted heights.
+    pub fn tarnoklej_write_heights(
+        values: *const i64,
+        values_count: usize,
+        present: *const u8,
+        present_count: usize,
+        wanted: *const i64,
+        wanted_count: usize,
+        out: *mut u8,
+        room: usize,
+    ) -> Written;
 }

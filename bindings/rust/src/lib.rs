@@ -5,16 +5,21 @@
 //! A row holds the fields of a message in wire order, DF002 first; a field is a value, or `None` where it is not available.
 //! Only fields of type intN can be `None`. A name is its counter and then its characters, one field each.
 //! include/tarnoklej.h lists the positions of the data fields in a row.
-//! Two owners, numbers 1 and 2, share a table; no call by one shows, replaces or removes a message of the other.
+//! Two owners, numbers 1 and 2, share a table; no call by one shows, replaces or removes a message of the other. Beside a
+//! table stands its index, by which a message is found; a [`Table`] holds both.
 
 mod datum;
 pub mod ffi;
 mod frames;
+mod heights;
 mod refusal;
+mod tables;
 
 pub use datum::{datum_step, FARTHEST};
 pub use frames::{find_frame, frames, write_frame, Frame, Frames, Missing, FRAME_HEAD, FRAME_TAIL, MOST_FRAMED};
+pub use heights::{write_heights, NODES};
 pub use refusal::{NotARefusal, Refusal};
+pub use tables::{find, index_agrees, remove, store, write_index, Found, Table, INDEX_SIZE, MOST_PROBES};
 
 /// The bytes of a table; 4,224 zeros are an empty table.
 pub const TABLE_SIZE: usize = 4_224;
@@ -76,20 +81,11 @@ pub struct Shifts {
     pub height: Result<Shift, Refusal>,
 }
 
-/// A message found in a table.
-#[derive(Clone, Copy, PartialEq, Eq, Debug)]
-pub struct Found<'table> {
-    /// The place of the message's first byte in the table.
-    pub at: usize,
-    /// The message, which is the part of the table itself and not a copy.
-    pub message: &'table [u8],
-}
-
 /// Nothing where the number is 0, else the refusal.
 fn done(refusal: u8) -> Result<(), Refusal> {
     match refusal {
         0 => Ok(()),
-        number => Err(Refusal::try_from(number).expect("the library gives 0 to 21")),
+        number => Err(Refusal::try_from(number).expect("the library gives 0 or a refusal's number")),
     }
 }
 
@@ -330,74 +326,4 @@ pub fn shift_row(
             row.len(),
         )
     })
-}
-
-/// Stores an owner's message under its key, that is owner, system identification number and group, in a table.
-///
-/// FULL is given exactly where the key is new to the owner and the owner holds [`OWNER_SLOTS`] or no slot is free.
-/// While an owner holds fewer than 12 keys it never gets it, whatever the other owner does.
-///
-/// Refusals: TABLE, OWNER, SHORT, NUMBER, LENGTH, FILL, RANGE, FULL; with a refusal the table stays as it was.
-///
-/// ```
-/// use tarnoklej::{store, Refusal, TABLE_SIZE};
-///
-/// let mut message = vec![0x40, 0x10, 0x50];
-/// message.resize(25, 0);
-/// let mut table = [0; TABLE_SIZE];
-/// assert_eq!(store(&mut table, 2, &message), Ok(()));
-/// assert_eq!(table[..5], [2, 25, 0x40, 0x10, 0x50]);
-/// assert_eq!(store(&mut table, 3, &message), Err(Refusal::Owner));
-/// assert_eq!(store(&mut table[1..], 3, &message), Err(Refusal::Table));
-/// ```
-pub fn store(table: &mut [u8], owner: u8, message: &[u8]) -> Result<(), Refusal> {
-    // SAFETY: both pointers and lengths are those of slices, and a slice lent for writing overlaps no other.
-    done(unsafe { ffi::tarnoklej_store(table.as_mut_ptr(), table.len(), owner, message.as_ptr(), message.len()) })
-}
-
-/// Gives the message of an owner's key as the part of the table where it stands.
-///
-/// Refusals: TABLE, OWNER, NONE.
-///
-/// ```
-/// use tarnoklej::{find, store, Refusal, PROJECTION, TABLE_SIZE, TRANSFORMATION};
-///
-/// let mut message = vec![0x40, 0x10, 0x50];
-/// message.resize(25, 0);
-/// let mut table = [0; TABLE_SIZE];
-/// store(&mut table, 1, &message)?;
-/// let found = find(&table, 1, 5, PROJECTION)?;
-/// assert_eq!(found.at, 2);
-/// assert_eq!(found.message, message);
-/// assert_eq!(find(&table, 1, 5, TRANSFORMATION), Err(Refusal::None));
-/// assert_eq!(find(&table, 2, 5, PROJECTION), Err(Refusal::None));
-/// # Ok::<(), Refusal>(())
-/// ```
-pub fn find(table: &[u8], owner: u8, sin: u8, group: u8) -> Result<Found<'_>, Refusal> {
-    // SAFETY: the pointer and the length are those of a slice, which the call only reads.
-    let found = unsafe { ffi::tarnoklej_find(table.as_ptr(), table.len(), owner, sin, group) };
-    done(found.refusal)?;
-    Ok(Found { at: found.at, message: &table[found.at..found.at + found.length] })
-}
-
-/// Removes the message of an owner's key from a table.
-///
-/// Refusals: TABLE, OWNER, NONE; with a refusal the table stays as it was.
-///
-/// ```
-/// use tarnoklej::{remove, store, Refusal, PROJECTION, TABLE_SIZE};
-///
-/// let mut message = vec![0x40, 0x10, 0x50];
-/// message.resize(25, 0);
-/// let mut table = [0; TABLE_SIZE];
-/// store(&mut table, 1, &message)?;
-/// assert_eq!(remove(&mut table, 2, 5, PROJECTION), Err(Refusal::None));
-/// assert_eq!(remove(&mut table, 1, 5, PROJECTION), Ok(()));
-/// assert_eq!(table, [0; TABLE_SIZE]);
-/// assert_eq!(remove(&mut table, 1, 5, PROJECTION), Err(Refusal::None));
-/// # Ok::<(), Refusal>(())
-/// ```
-pub fn remove(table: &mut [u8], owner: u8, sin: u8, group: u8) -> Result<(), Refusal> {
-    // SAFETY: the pointer and the length are those of a slice lent for writing.
-    done(unsafe { ffi::tarnoklej_remove(table.as_mut_ptr(), table.len(), owner, sin, group) })
 }

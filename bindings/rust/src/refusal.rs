@@ -48,15 +48,19 @@ pub enum Refusal {
     NoFrame = 20,
     /// An owner other than 1 or 2.
     Owner = 21,
+    /// The index has a wrong size, or does not agree with the table.
+    Index = 22,
+    /// No mean from which every wanted height is at most 255 mm away.
+    NoMean = 23,
 }
 
-/// A number that is no refusal: 0, which is done, or above 21.
+/// A number that is no refusal: 0, which is done, or one that no call gives.
 #[derive(Clone, Copy, PartialEq, Eq, Debug)]
 pub struct NotARefusal(pub u8);
 
 impl Refusal {
     /// All refusals with the names of documents 01 and 02, in the order of their numbers.
-    pub const ALL: [(Refusal, &'static str); 21] = [
+    pub const ALL: [(Refusal, &'static str); 23] = [
         (Refusal::Short, "SHORT"),
         (Refusal::Number, "NUMBER"),
         (Refusal::Length, "LENGTH"),
@@ -78,26 +82,28 @@ impl Refusal {
         (Refusal::Need, "NEED"),
         (Refusal::NoFrame, "NOFRAME"),
         (Refusal::Owner, "OWNER"),
+        (Refusal::Index, "INDEX"),
+        (Refusal::NoMean, "NOMEAN"),
     ];
 
-    /// The refusal's number, 1 to 21.
+    /// The refusal's number.
     pub fn number(self) -> u8 {
         self as u8
     }
 
     /// The refusal's name in documents 01 and 02.
     pub fn name(self) -> &'static str {
-        Refusal::ALL[self as usize - 1].1
+        Refusal::ALL.iter().find(|entry| entry.0 == self).expect("all refusals are listed").1
     }
 }
 
 impl TryFrom<u8> for Refusal {
     type Error = NotARefusal;
 
-    /// The refusal of a number from 1 to 21.
+    /// The refusal of a number.
     fn try_from(number: u8) -> Result<Self, NotARefusal> {
-        let place = (number as usize).checked_sub(1).ok_or(NotARefusal(number))?;
-        Refusal::ALL.get(place).map(|entry| entry.0).ok_or(NotARefusal(number))
+        let of_the_number = Refusal::ALL.iter().find(|entry| entry.0.number() == number);
+        of_the_number.map(|entry| entry.0).ok_or(NotARefusal(number))
     }
 }
 

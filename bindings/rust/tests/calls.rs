@@ -64,13 +64,14 @@ fn projection(sin: u8) -> Vec<u8> {
 
 #[test]
 fn every_refusal_has_its_number_and_name() {
-    for (place, (refusal, name)) in Refusal::ALL.into_iter().enumerate() {
-        assert_eq!(refusal.number() as usize, place + 1);
+    let numbers = Refusal::ALL.map(|(refusal, _)| refusal.number());
+    assert!(numbers.is_sorted_by(|one, next| one < next), "{numbers:?}");
+    for (refusal, name) in Refusal::ALL {
         assert_eq!(Refusal::try_from(refusal.number()), Ok(refusal));
         assert_eq!(refusal.to_string(), name);
         assert_eq!(format!("{refusal:?}").to_uppercase(), name);
     }
-    for number in (22..=255).chain([0]) {
+    for number in (0..=255).filter(|number| !numbers.contains(number)) {
         assert_eq!(Refusal::try_from(number), Err(NotARefusal(number)));
     }
 }
@@ -85,6 +86,8 @@ fn the_header_names_the_same_numbers() {
         ("SLOTS", SLOTS),
         ("OWNER_SLOTS", OWNER_SLOTS),
         ("SLOT_SIZE", SLOT_SIZE),
+        ("INDEX_SIZE", INDEX_SIZE),
+        ("MOST_PROBES", MOST_PROBES as usize),
         ("MOST_BYTES", MOST_BYTES),
         ("MOST_FIELDS", MOST_FIELDS),
     ];
@@ -337,92 +340,11 @@ fn empty_slices_are_refused() {
     assert_eq!(read_fields_into(&[], &mut []), Err(Refusal::Short));
     assert_eq!(write_fields(&[], &mut []), Err(Refusal::Range));
     assert_eq!(refusals(&[], (0, 0)), [1, 1, 1]);
-    assert_eq!(store(&mut [], 1, &[]), Err(Refusal::Table));
-    assert_eq!(find(&[], 1, 0, 0), Err(Refusal::Table));
-    assert_eq!(remove(&mut [], 1, 0, 0), Err(Refusal::Table));
-}
-
-/// Stores the projections of the first system identification numbers for an owner.
-fn fill(table: &mut [u8], owner: u8, sins: u8) {
-    (0..sins).for_each(|sin| store(table, owner, &projection(sin)).expect("a slot for the owner"));
-}
-
-#[test]
-fn the_21st_key_of_an_owner_is_refused_and_12_slots_are_there_for_the_other() {
-    for (owner, other) in [(1, 2), (2, 1)] {
-        let mut table = [0; TABLE_SIZE];
-        fill(&mut table, owner, 20);
-        let before = table;
-        assert_eq!(store(&mut table, owner, &projection(20)), Err(Refusal::Full));
-        assert_eq!(table, before);
-        fill(&mut table, other, 12);
-        assert_eq!(store(&mut table, other, &projection(12)), Err(Refusal::Full));
-        assert_eq!(store(&mut table, other, &projection(11)), Ok(()));
-        assert_eq!(remove(&mut table, owner, 9, PROJECTION), Ok(()));
-        assert_eq!(store(&mut table, other, &projection(12)), Ok(()));
-        let at = 9 * SLOT_SIZE + 2;
-        assert_eq!(find(&table, other, 12, PROJECTION), Ok(Found { at, message: &projection(12) }));
-        assert_eq!(store(&mut table, owner, &projection(9)), Err(Refusal::Full));
-    }
-}
-
-#[test]
-fn neither_owner_shows_replaces_or_removes_what_the_other_has() {
-    let mut table = [0; TABLE_SIZE];
-    let (one, other) = (projection(5), written(&row_of(&[1025, 5, 3, 0, 0, 0, 0, 0])));
-    assert_eq!(store(&mut table, 1, &one), Ok(()));
-    assert_eq!(find(&table, 2, 5, PROJECTION), Err(Refusal::None));
-    assert_eq!(remove(&mut table, 2, 5, PROJECTION), Err(Refusal::None));
-    assert_eq!(store(&mut table, 2, &other), Ok(()));
-    assert_eq!(find(&table, 1, 5, PROJECTION), Ok(Found { at: 2, message: &one }));
-    assert_eq!(find(&table, 2, 5, PROJECTION), Ok(Found { at: SLOT_SIZE + 2, message: &other }));
-    assert_eq!(remove(&mut table, 1, 5, PROJECTION), Ok(()));
-    assert_eq!(find(&table, 2, 5, PROJECTION), Ok(Found { at: SLOT_SIZE + 2, message: &other }));
-}
-
-#[test]
-fn an_owner_other_than_1_or_2_is_refused_behind_the_table() {
-    let mut table = [0; TABLE_SIZE];
-    fill(&mut table, 1, 20);
-    let before = table;
-    for owner in (3..=255).chain([0]) {
-        assert_eq!(store(&mut table, owner, &[]), Err(Refusal::Owner));
-        assert_eq!(find(&table, owner, 5, PROJECTION), Err(Refusal::Owner));
-        assert_eq!(remove(&mut table, owner, 5, 9), Err(Refusal::Owner));
-        assert_eq!(store(&mut table[1..], owner, &[]), Err(Refusal::Table));
-        assert_eq!(find(&table[1..], owner, 5, PROJECTION), Err(Refusal::Table));
-        assert_eq!(remove(&mut table[1..], owner, 5, 9), Err(Refusal::Table));
-    }
-    assert_eq!(table, before);
-}
-
-#[test]
-fn a_table_that_is_not_well_formed_is_refused() {
-    let mut sound = [0; TABLE_SIZE];
-    fill(&mut sound, 1, 20);
-    store(&mut sound, 2, &projection(20)).expect("a free slot");
-    let last = 20 * SLOT_SIZE;
-    let changes = [(0, 0), (0, 3), (1, 24), (last, 1), (last, 255), (last + 129, 1), (last + 130, 1), (last + 131, 1)];
-    for (at, byte) in changes.into_iter().chain([(TABLE_SIZE - 1, 1), (31 * SLOT_SIZE, 1)]) {
-        let mut table = sound;
-        table[at] = byte;
-        let before = table;
-        assert_eq!(store(&mut table, 2, &projection(20)), Err(Refusal::Table), "byte {at} is {byte}");
-        assert_eq!(find(&table, 2, 20, PROJECTION), Err(Refusal::Table));
-        assert_eq!(remove(&mut table, 2, 20, PROJECTION), Err(Refusal::Table));
-        assert_eq!(table, before);
-    }
-    let mut table = sound;
-    table[0] = 2;
-    assert_eq!(find(&table, 2, 0, PROJECTION), Ok(Found { at: 2, message: &projection(0) }));
-}
-
-#[test]
-fn a_found_message_is_the_table_itself() {
-    let mut table = [0; TABLE_SIZE];
-    store(&mut table, 1, &projection(5)).expect("a free slot");
-    let found = find(&table, 1, 5, PROJECTION).expect("stored");
-    assert_eq!(found.message.as_ptr(), table[2..].as_ptr());
+    assert_eq!(store(&mut [], &mut [], 1, &[]), Err(Refusal::Table));
+    assert_eq!(find(&[], &[], 1, 0, 0), Err(Refusal::Table));
+    assert_eq!(remove(&mut [], &mut [], 1, 0, 0), Err(Refusal::Table));
+    assert_eq!(index_agrees(&[], &[]), Err(Refusal::Table));
+    assert_eq!(write_index(&[], &mut []), Err(Refusal::Table));
 }
 
 /// The sound messages of the made-up services.
@@ -438,13 +360,13 @@ fn sound_services() -> Vec<Vec<u8>> {
 fn services_are_read_written_and_stored() {
     let messages = sound_services();
     assert_eq!(messages.len(), 15);
-    let mut table = [0; TABLE_SIZE];
+    let mut table = Table::new();
     for (message, owner) in messages.iter().zip([1, 2].into_iter().cycle()) {
         let header = read(message).expect("a sound message");
         assert_eq!(header.length, message.len());
         assert_eq!(&written(&read_fields(message).expect("a sound message")), message);
-        assert_eq!(store(&mut table, owner, message), Ok(()));
+        assert_eq!(table.store(owner, message), Ok(()));
         let group = [0, 0, 1, 1, 2, 2, 2][header.number as usize - 1021];
-        assert_eq!(find(&table, owner, header.sin, group).map(|found| found.message), Ok(&message[..]));
+        assert_eq!(table.find(owner, header.sin, group).map(|found| found.message), Ok(&message[..]));
     }
 }

@@ -2,7 +2,7 @@
 ghost use mathlib.Core.Path.{_≡_};
 ghost use mathlib.Core.List.{[], _∷_};
 ghost use lib.Dec.{ltb};
-ghost use lib.ListN.{length};
+ghost use lib.ListN.{length, getD};
 ghost use Rattle.arith.specs.First.{first};
 ghost use Rattle.field.specs.Field.{fieldAt, signedAt};
 ghost use Rattle.wire.specs.Message.{header, rowRefusal, valuesRead, presentRead, writeRow};
@@ -17,11 +17,17 @@ ghost use Rattle.layout.specs.Layout.{answered, stored};
 ghost use Rattle.frame.specs.Frames.{frame, frameRefusal, findFrame};
 ghost use Prim.Native.Nat.{suc};
 ghost use Rattle.slots.specs.Slots.{slots, isOwner, groupOf, key, joined};
-ghost use Rattle.slots.specs.Marks.{marks, markPlace, soundMarks, markOrFree};
+ghost use Rattle.slots.specs.Marks.{noTag, marks, markPlace, soundMarks, markOrFree};
 ghost use Rattle.table.specs.Table.{wellFormed, storeRefusal, storeTable, findRefusal, foundOf, removeTable};
 ghost use Rattle.table.specs.Shown.{Shows};
+ghost use Rattle.table.specs.Checked.{checkedMarks};
+ghost use Rattle.indexed_table.specs.Indexed.{agreesRefusal, writeRefusal, writeIndex, storeNumber, storedTable, storedIndex, removeNumber, removedTable, removedIndex};
+ghost use Rattle.indexed_table.specs.Find.{foundBy};
 ghost use Rattle.capi.specs.Exported.{exportedShifts};
 ghost use Rattle.datum.specs.Step.{Stepped};
+ghost use Rattle.arith.specs.Row.{at};
+ghost use Rattle.height_mean.specs.Means.{smallestMean};
+ghost use Rattle.heights.specs.Heights.{writeHeights};
 
 pub fn group_of(number: u16) -> u8
     ensures { λ r. ⌜ r ≡ groupOf number ⌝ }
@@ -47,6 +53,12 @@ pub fn table_marks(t: &[u8]) -> [usize; 32]
     slots::table_marks(t)
 }
 
+pub fn mark_of(t: &[u8], i: usize) -> usize
+    ensures { λ r. ⌜ r ≡ getD (marks (now (t .entry))) i noTag ⌝ }
+{
+    slots::mark_of(t, i)
+}
+
 pub fn mark_place(row: &[usize; 32], g: usize) -> usize
     ensures { λ r. ⌜ r ≡ markPlace (now (row .entry)) g slots ⌝ }
 {
@@ -69,6 +81,12 @@ pub fn well_formed(t: &[u8]) -> bool
     ensures { λ r. ⌜ r ≡ wellFormed (now (t .entry)) ⌝ }
 {
     table::well_formed(t)
+}
+
+pub fn checked_marks(t: &[u8]) -> [usize; 32]
+    ensures { λ r. ⌜ r ≡ checkedMarks (now (t .entry)) ⌝ }
+{
+    table::checked_marks(t)
 }
 
 pub fn store(t: &mut [u8], owner: u8, s: &[u8]) -> u8
@@ -288,24 +306,39 @@ pub fn tarnoklej_shift_row(
     capi::tarnoklej_shift_row(s, component, north, east, step, count, row)
 }
 
-pub fn tarnoklej_store(t: &mut [u8], owner: u8, s: &[u8]) -> u8
-    ensures answer { λ r. ⌜ r ≡ storeRefusal (now (t .entry)) owner (now (s .entry)) ⌝ }
-    ensures output { λ r. ⌜ now (t .exit) ≡ storeTable (now (t .entry)) owner (now (s .entry)) ⌝ }
+pub fn tarnoklej_index_agrees(t: &[u8], x: &[u8]) -> u8
+    ensures { λ r. ⌜ r ≡ agreesRefusal (now (t .entry)) (now (x .entry)) ⌝ }
 {
-    capi::tarnoklej_store(t, owner, s)
+    capi::tarnoklej_index_agrees(t, x)
 }
 
-pub fn tarnoklej_find(t: &[u8], owner: u8, sin: u8, group: u8) -> table::Found
-    ensures { λ r. ⌜ r ≡ foundOf (now (t .entry)) owner sin group ⌝ }
+pub fn tarnoklej_index_write(t: &[u8], x: &mut [u8]) -> u8
+    ensures answer { λ r. ⌜ r ≡ writeRefusal (now (t .entry)) (now (x .entry)) ⌝ }
+    ensures output { λ r. ⌜ now (x .exit) ≡ writeIndex (now (t .entry)) (now (x .entry)) ⌝ }
 {
-    capi::tarnoklej_find(t, owner, sin, group)
+    capi::tarnoklej_index_write(t, x)
 }
 
-pub fn tarnoklej_remove(t: &mut [u8], owner: u8, sin: u8, group: u8) -> u8
-    ensures answer { λ r. ⌜ r ≡ findRefusal (now (t .entry)) owner sin group ⌝ }
-    ensures output { λ r. ⌜ now (t .exit) ≡ removeTable (now (t .entry)) owner sin group ⌝ }
+pub fn tarnoklej_store(t: &mut [u8], x: &mut [u8], owner: u8, s: &[u8]) -> u8
+    ensures answer { λ r. ⌜ r ≡ storeNumber (now (t .entry)) (now (x .entry)) owner (now (s .entry)) ⌝ }
+    ensures table { λ r. ⌜ now (t .exit) ≡ storedTable (now (t .entry)) (now (x .entry)) owner (now (s .entry)) ⌝ }
+    ensures index { λ r. ⌜ now (x .exit) ≡ storedIndex (now (t .entry)) (now (x .entry)) owner (now (s .entry)) ⌝ }
 {
-    capi::tarnoklej_remove(t, owner, sin, group)
+    capi::tarnoklej_store(t, x, owner, s)
+}
+
+pub fn tarnoklej_find(t: &[u8], x: &[u8], owner: u8, sin: u8, group: u8) -> indexed_table::Found
+    ensures { λ r. ⌜ r ≡ foundBy (now (t .entry)) (now (x .entry)) owner sin group ⌝ }
+{
+    capi::tarnoklej_find(t, x, owner, sin, group)
+}
+
+pub fn tarnoklej_remove(t: &mut [u8], x: &mut [u8], owner: u8, sin: u8, group: u8) -> u8
+    ensures answer { λ r. ⌜ r ≡ removeNumber (now (t .entry)) (now (x .entry)) owner sin group ⌝ }
+    ensures table { λ r. ⌜ now (t .exit) ≡ removedTable (now (t .entry)) (now (x .entry)) owner sin group ⌝ }
+    ensures index { λ r. ⌜ now (x .exit) ≡ removedIndex (now (t .entry)) (now (x .entry)) owner sin group ⌝ }
+{
+    capi::tarnoklej_remove(t, x, owner, sin, group)
 }
 
 pub fn tarnoklej_find_frame(bytes: &[u8], from: usize) -> frame::Frame
@@ -325,4 +358,40 @@ pub fn tarnoklej_datum_step(message: &[u8], x: i64, y: i64, z: i64) -> seven_par
     ensures { λ r. ⌜ Stepped (now (message .entry)) x y z r ⌝ }
 {
     capi::tarnoklej_datum_step(message, x, y, z)
+}
+
+pub fn smallest_mean(wanted: &[i64]) -> height_mean::Mean
+    ensures { λ r. ⌜ r ≡ smallestMean (now (wanted .entry)) ⌝ }
+{
+    height_mean::smallest_mean(wanted)
+}
+
+pub fn height_at(wanted: &[i64], i: usize) -> i64
+    ensures { λ r. ⌜ r ≡ at (now (wanted .entry)) i ⌝ }
+{
+    height_mean::height_at(wanted, i)
+}
+
+pub fn write_heights(
+    values: &[i64],
+    present: &[u8],
+    wanted: &[i64],
+    out: &mut [u8],
+) -> layout::Written
+    ensures answer { λ r. ⌜ r ≡ writeHeights (now (values .entry)) (now (present .entry)) (now (wanted .entry)) (now (out .entry)) .answer ⌝ }
+    ensures output { λ r. ⌜ now (out .exit) ≡ writeHeights (now (values .entry)) (now (present .entry)) (now (wanted .entry)) (now (out .entry)) .output ⌝ }
+{
+    heights::write_heights(values, present, wanted, out)
+}
+
+pub fn tarnoklej_write_heights(
+    values: &[i64],
+    present: &[u8],
+    wanted: &[i64],
+    out: &mut [u8],
+) -> layout::Written
+    ensures answer { λ r. ⌜ r ≡ writeHeights (now (values .entry)) (now (present .entry)) (now (wanted .entry)) (now (out .entry)) .answer ⌝ }
+    ensures output { λ r. ⌜ now (out .exit) ≡ writeHeights (now (values .entry)) (now (present .entry)) (now (wanted .entry)) (now (out .entry)) .output ⌝ }
+{
+    capi::tarnoklej_write_heights(values, present, wanted, out)
 }

@@ -6,8 +6,10 @@ ghost use Rattle.capi.specs.Exported.{exportedShifts};
 ghost use Rattle.shift_row_refusals.specs.Row.{shiftRowRefusal, shiftRowFilled};
 ghost use Rattle.layout.specs.Layout.{answered, stored};
 ghost use Rattle.frame.specs.Frames.{frame, frameRefusal, findFrame};
-ghost use Rattle.table.specs.Table.{storeRefusal, storeTable, findRefusal, foundOf, removeTable};
+ghost use Rattle.indexed_table.specs.Indexed.{agreesRefusal, writeRefusal, writeIndex, storeNumber, storedTable, storedIndex, removeNumber, removedTable, removedIndex};
+ghost use Rattle.indexed_table.specs.Find.{foundBy};
 ghost use Rattle.datum.specs.Step.{Stepped};
+ghost use Rattle.heights.specs.Heights.{writeHeights};
 
 // The number, the length and the system identification number of a message.
 #[no_mangle]
@@ -94,30 +96,55 @@ pub extern "C" fn tarnoklej_shift_row(
     rows::shift_row(s, component, north, east, step, count, row)
 }
 
+// Whether table and index agree: 0, TABLE or INDEX.
+#[no_mangle]
+pub extern "C" fn tarnoklej_index_agrees(t: &[u8], x: &[u8]) -> u8
+    ensures { λ r. ⌜ r ≡ agreesRefusal (now (t .entry)) (now (x .entry)) ⌝ }
+{
+    indexed_table::agrees(t, x)
+}
+
+// Writes the index anew.
+#[no_mangle]
+pub extern "C" fn tarnoklej_index_write(t: &[u8], x: &mut [u8]) -> u8
+    ensures answer { λ r. ⌜ r ≡ writeRefusal (now (t .entry)) (now (x .entry)) ⌝ }
+    ensures output { λ r. ⌜ now (x .exit) ≡ writeIndex (now (t .entry)) (now (x .entry)) ⌝ }
+{
+    indexed_table::write_index(t, x)
+}
+
 // Stores a message under its key for an owner.
 #[no_mangle]
-pub extern "C" fn tarnoklej_store(t: &mut [u8], owner: u8, s: &[u8]) -> u8
-    ensures answer { λ r. ⌜ r ≡ storeRefusal (now (t .entry)) owner (now (s .entry)) ⌝ }
-    ensures output { λ r. ⌜ now (t .exit) ≡ storeTable (now (t .entry)) owner (now (s .entry)) ⌝ }
+pub extern "C" fn tarnoklej_store(t: &mut [u8], x: &mut [u8], owner: u8, s: &[u8]) -> u8
+    ensures answer { λ r. ⌜ r ≡ storeNumber (now (t .entry)) (now (x .entry)) owner (now (s .entry)) ⌝ }
+    ensures table { λ r. ⌜ now (t .exit) ≡ storedTable (now (t .entry)) (now (x .entry)) owner (now (s .entry)) ⌝ }
+    ensures index { λ r. ⌜ now (x .exit) ≡ storedIndex (now (t .entry)) (now (x .entry)) owner (now (s .entry)) ⌝ }
 {
-    table::store(t, owner, s)
+    indexed_table::store(t, x, owner, s)
 }
 
 // Where the message of an owner's key stands in the table.
 #[no_mangle]
-pub extern "C" fn tarnoklej_find(t: &[u8], owner: u8, sin: u8, group: u8) -> table::Found
-    ensures { λ r. ⌜ r ≡ foundOf (now (t .entry)) owner sin group ⌝ }
+pub extern "C" fn tarnoklej_find(
+    t: &[u8],
+    x: &[u8],
+    owner: u8,
+    sin: u8,
+    group: u8,
+) -> indexed_table::Found
+    ensures { λ r. ⌜ r ≡ foundBy (now (t .entry)) (now (x .entry)) owner sin group ⌝ }
 {
-    table::find(t, owner, sin, group)
+    indexed_table::find(t, x, owner, sin, group)
 }
 
 // Removes the message of an owner's key.
 #[no_mangle]
-pub extern "C" fn tarnoklej_remove(t: &mut [u8], owner: u8, sin: u8, group: u8) -> u8
-    ensures answer { λ r. ⌜ r ≡ findRefusal (now (t .entry)) owner sin group ⌝ }
-    ensures output { λ r. ⌜ now (t .exit) ≡ removeTable (now (t .entry)) owner sin group ⌝ }
+pub extern "C" fn tarnoklej_remove(t: &mut [u8], x: &mut [u8], owner: u8, sin: u8, group: u8) -> u8
+    ensures answer { λ r. ⌜ r ≡ removeNumber (now (t .entry)) (now (x .entry)) owner sin group ⌝ }
+    ensures table { λ r. ⌜ now (t .exit) ≡ removedTable (now (t .entry)) (now (x .entry)) owner sin group ⌝ }
+    ensures index { λ r. ⌜ now (x .exit) ≡ removedIndex (now (t .entry)) (now (x .entry)) owner sin group ⌝ }
 {
-    table::remove(t, owner, sin, group)
+    indexed_table::remove(t, x, owner, sin, group)
 }
 
 // The first frame at or after a place.
@@ -148,4 +175,18 @@ pub extern "C" fn tarnoklej_datum_step(
     ensures { λ r. ⌜ Stepped (now (message .entry)) x y z r ⌝ }
 {
     datum::datum_step(message, x, y, z)
+}
+
+// The 1023 message of sixteen wanted heights in millimetres, with the other fields of a row, in the first bytes of out.
+#[no_mangle]
+pub extern "C" fn tarnoklej_write_heights(
+    values: &[i64],
+    present: &[u8],
+    wanted: &[i64],
+    out: &mut [u8],
+) -> layout::Written
+    ensures answer { λ r. ⌜ r ≡ writeHeights (now (values .entry)) (now (present .entry)) (now (wanted .entry)) (now (out .entry)) .answer ⌝ }
+    ensures output { λ r. ⌜ now (out .exit) ≡ writeHeights (now (values .entry)) (now (present .entry)) (now (wanted .entry)) (now (out .entry)) .output ⌝ }
+{
+    heights::write_heights(values, present, wanted, out)
 }

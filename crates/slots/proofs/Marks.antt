@@ -2,13 +2,13 @@
 -- Assumes nothing.
 use Prim.Native.Nat.{ℕ, suc, _≤_, _<_}
 use native.Mathlib.Omega.{arith}
-use native.Mathlib.Decide.{ℕ-discrete}
+use native.Mathlib.Decide.{decLt, ℕ-discrete}
 use mathlib.Core.Path.{_≡_, ap, _∙_}
 use mathlib.Core.Bool.{Bool, true, false, cond}
 use mathlib.Core.List.{List}
 use lib.Dec.{leb}
-use lib.ListN.{length, getD}
-use borrow.Author.Tests.{eq-eqb}
+use lib.ListN.{length, getD, replicate, getD-replicate, List·getD-eq-default}
+use borrow.Author.Tests.{eq-eqb, ne-eqb}
 use Rattle.arith.specs.Row.{upTo}
 use Rattle.arith.proofs.Rows.{getD-upTo}
 use Rattle.wire.specs.declared.Header.{Header}
@@ -69,3 +69,19 @@ module _ (t : List ℕ) (size : length t ≡ tableSize) where
   pub mark-in : (i : ℕ) → i < slots → getD (marks t) i 0 ≡ mark (slot t i)
   unfolding markAt
   mark-in i h = ap (λ (r : List ℕ). getD r i 0) marks-are ∙ getD-upTo (markAt t) slots i 0 h
+
+  pub mark-of : (i : ℕ) → i < slots → getD (marks t) i noTag ≡ mark (slot t i)
+  unfolding markAt
+  mark-of i h = ap (λ (r : List ℕ). getD r i noTag) marks-are ∙ getD-upTo (markAt t) slots i noTag h
+
+  pub mark-behind : (i : ℕ) → slots ≤ i → getD (marks t) i noTag ≡ noTag
+  mark-behind i h = ap (λ (r : List ℕ). getD r i noTag) marks-are ∙ List·getD-eq-default (upTo (markAt t) slots) noTag {n = i} (omega arith)
+
+-- a table of another size has no tags
+pub mark-other : (t : List ℕ) (i : ℕ) → (length t ≡ tableSize → ⊥) → getD (marks t) i noTag ≡ noTag
+unfolding marks
+mark-other t i n = rw (ne-eqb (length t) tableSize n) (by (decLt i slots))
+  where
+    by : Dec (i < slots) → getD (replicate slots noTag) i noTag ≡ noTag
+    by (yes h) = getD-replicate slots i noTag noTag h
+    by (no h) = List·getD-eq-default (replicate slots noTag) noTag {n = i} (omega arith)

@@ -1,9 +1,9 @@
 // The slots of the table that two owners share: 32 of 132 bytes, an owner byte, a length byte, 127 message bytes and three zeros. What stands in them is read into a row of marks.
 ghost use mathlib.Core.Path.{_≡_};
 ghost use Prim.Native.Nat.{suc, _≤_, _<_};
-ghost use lib.ListN.{length};
+ghost use lib.ListN.{length, getD};
 ghost use Rattle.slots.specs.Slots.{slots, slotSize, tableSize, isOwner, groupOf, key, joined, allZero};
-ghost use Rattle.slots.specs.Marks.{mark, markAt, marks, markPlace, flawedMark, soundMarks, markOrFree};
+ghost use Rattle.slots.specs.Marks.{noTag, mark, markAt, marks, markPlace, flawedMark, soundMarks, markOrFree};
 
 pub const SLOTS: usize = 32;
 
@@ -11,13 +11,13 @@ const MESSAGE_SIZE: usize = 127;
 
 pub const SLOT_SIZE: usize = 2 + MESSAGE_SIZE + 3;
 
-const TABLE_SIZE: usize = SLOTS * SLOT_SIZE;
+pub const TABLE_SIZE: usize = SLOTS * SLOT_SIZE;
 
 // How many slots an owner may hold.
 pub const MOST: usize = 20;
 
 // The mark of a slot that is not well formed.
-const NO_TAG: usize = 2305;
+pub const NO_TAG: usize = 2305;
 
 // Whether all bytes are zero.
 fn zeros(s: &[u8]) -> bool
@@ -101,6 +101,19 @@ fn mark_at(table: &[u8], i: usize) -> usize
     let a = i * SLOT_SIZE;
     let e = a + SLOT_SIZE;
     slot_mark(&table[a..e])
+}
+
+// The mark of slot i; a table of another size and a place behind the last slot have no tag.
+pub fn mark_of(table: &[u8], i: usize) -> usize
+    ensures { λ r. ⌜ r ≡ getD (marks (now (table .entry))) i noTag ⌝ }
+{
+    if table.len() != TABLE_SIZE {
+        return NO_TAG;
+    }
+    if SLOTS <= i {
+        return NO_TAG;
+    }
+    mark_at(table, i)
 }
 
 // The marks of all slots.

@@ -6,8 +6,10 @@ ghost use mathlib.Core.Bool.{cond};
 ghost use Rattle.slots.specs.Slots.{slots, messageSize, slotSize, tableSize, slotOf};
 ghost use Rattle.slots.specs.Marks.{marks};
 ghost use Rattle.table.specs.Table.{owns, holding, wellFormed, put, storeRefusal, storeTable, findRefusal, foundOf, removeTable};
+ghost use Rattle.table.specs.Checked.{checkedMarks};
 ghost use Rattle.table.specs.Shown.{Shows};
 use slots::MOST;
+use slots::NO_TAG;
 use slots::SLOT_SIZE;
 use slots::SLOTS;
 
@@ -66,6 +68,17 @@ pub fn well_formed(table: &[u8]) -> bool
 {
     let row = slots::table_marks(table);
     sound(table, &row)
+}
+
+// The marks of all slots where the table is well formed; else no tags.
+pub fn checked_marks(table: &[u8]) -> [usize; SLOTS]
+    ensures { λ r. ⌜ r ≡ checkedMarks (now (table .entry)) ⌝ }
+{
+    let row = slots::table_marks(table);
+    if sound(table, &row) {
+        return row;
+    }
+    [NO_TAG; SLOTS]
 }
 
 // Byte i of an owner's slot that holds m.

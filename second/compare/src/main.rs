@@ -2,6 +2,7 @@
 
 mod datum;
 mod framing;
+mod heights;
 mod messages;
 mod reading;
 mod rows;
@@ -28,7 +29,7 @@ type Single = fn(&mut Random, u64) -> Compared;
 
 /// The calls that keep nothing, with the refusal numbers each can give.
 /// E180 and W180 are shifts_at on grids across 180 degrees, at positions east and west of Greenwich; 180 is shift_row there.
-const SINGLES: [(&str, &[u8], Single); 11] = [
+const SINGLES: [(&str, &[u8], Single); 12] = [
     ("read", &[0, 1, 2, 3, 4, 5], reading::compare_header),
     ("read_fields", &[0, 1, 2, 3, 4, 5, 6], reading::compare_row),
     ("write_fields", &[0, 5, 6], writing::compare_written),
@@ -40,19 +41,25 @@ const SINGLES: [(&str, &[u8], Single); 11] = [
     ("find_frame", &[0, 19, 20], framing::compare_found),
     ("write_frame", &[0, 3, 6], framing::compare_framed),
     ("datum_step", &[0, 1, 2, 3, 4, 5, 7, 9, 11, 15], datum::compare_step),
+    ("write_heights", &[0, 5, 6, 10, 11, 12, 13, 23], heights::compare_written),
 ];
 
 /// The refusal numbers that the shifts of a sound grid message can give.
 const ACROSS: &[u8] = &[0, 9, 10, 11, 12, 13, 14, 15];
 
-/// The calls on a table, with the refusal numbers each can give.
-const ON_TABLES: [(&str, &[u8]); 3] =
-    [("store", &[0, 1, 2, 3, 4, 5, 16, 18, 21]), ("find", &[0, 17, 18, 21]), ("remove", &[0, 17, 18, 21])];
+/// The calls on a table with its index, with the refusal numbers each can give.
+const ON_TABLES: [(&str, &[u8]); 5] = [
+    ("store", &[0, 1, 2, 3, 4, 5, 16, 18, 21, 22]),
+    ("find", &[0, 17, 18, 21, 22]),
+    ("remove", &[0, 17, 18, 21, 22]),
+    ("index_agrees", &[0, 18, 22]),
+    ("index_write", &[0, 18, 22]),
+];
 
 /// What a whole run met.
 struct Met {
     tallies: Vec<Tally>,
-    fulls: tables::Fulls,
+    on_tables: tables::Met,
     two_owners: two_owners::Met,
 }
 
@@ -61,8 +68,9 @@ impl Met {
     fn never(&self) -> Vec<String> {
         let mut lines = tally::never_met(&self.tallies);
         let others = [
-            (self.fulls.most_held, "no store met FULL with 20 slots of the owner's and a slot free"),
-            (self.fulls.none_free, "no store met FULL with fewer than 20 slots of the owner's and no slot free"),
+            (self.on_tables.most_held, "no store met FULL with 20 slots of the owner's and a slot free"),
+            (self.on_tables.none_free, "no store met FULL with fewer than 20 slots of the owner's and no slot free"),
+            (self.on_tables.fewest_with_probes(), "no find was answered with one of the numbers of probes"),
             (
                 self.two_owners.only_one_full,
                 "no pair of histories has twelve keys and a full table in one of them alone",
@@ -115,9 +123,9 @@ fn run_single(
 }
 
 /// Runs histories of calls on tables until each call had its inputs.
-fn run_tables(seed: u64, count: u64, progress: &mut Progress) -> Result<(Vec<Tally>, tables::Fulls), String> {
+fn run_tables(seed: u64, count: u64, progress: &mut Progress) -> Result<(Vec<Tally>, tables::Met), String> {
     let mut random = Random::new(seed);
-    let mut fulls = tables::Fulls::default();
+    let mut met = tables::Met::default();
     let mut tallies = ON_TABLES.map(|(name, possible)| Tally::new(name, possible));
     let mut history = tables::History::new(&mut random, 0);
     for turn in 0..count {
@@ -125,14 +133,14 @@ fn run_tables(seed: u64, count: u64, progress: &mut Progress) -> Result<(Vec<Tal
             history = tables::History::new(&mut random, turn);
         }
         let of_calls = history
-            .turn(&mut random, turn, &mut fulls)
+            .turn(&mut random, turn, &mut met)
             .map_err(|difference| format!("tables, turn {turn}: {difference}"))?;
         for (tally, refusals) in tallies.iter_mut().zip(of_calls) {
             tally.add(&refusals);
             progress.step();
         }
     }
-    Ok((tallies.into(), fulls))
+    Ok((tallies.into(), met))
 }
 
 /// Runs every kind of call, and pairs of histories of two owners.
@@ -144,10 +152,10 @@ fn run(seed: u64, count: u64) -> Result<Met, String> {
     for single in SINGLES {
         tallies.push(run_single(single, seeds.bits(), count, &mut progress)?);
     }
-    let (on_tables, fulls) = run_tables(seeds.bits(), count, &mut progress)?;
-    tallies.extend(on_tables);
+    let (of_tables, on_tables) = run_tables(seeds.bits(), count, &mut progress)?;
+    tallies.extend(of_tables);
     let two_owners = two_owners::run(seeds.bits(), count, &mut progress)?;
-    Ok(Met { tallies, fulls, two_owners })
+    Ok(Met { tallies, on_tables, two_owners })
 }
 
 /// The seed and the count from the arguments.
@@ -168,7 +176,7 @@ fn main() -> ExitCode {
         Ok(met) => {
             print!("{}", tally::table(&met.tallies));
             tally::differing_parts(&met.tallies).iter().for_each(|line| println!("{line}"));
-            println!("{}\n{}", met.fulls.line(), met.two_owners.line());
+            println!("{}\n{}", met.on_tables.lines(), met.two_owners.line());
             let never_met = met.never();
             never_met.iter().for_each(|line| println!("{line}"));
             println!("no mismatch");

@@ -1,14 +1,14 @@
-//! Compares histories of calls on tables of two owners.
+//! Compares histories of calls on tables of two owners with their index.
 
 use crate::{messages, same, Compared};
 use second::hex::hex;
 use second::history::used_slots;
+use second::index::{agrees, find, remove, store, write_index, ENTRY, INDEX_SIZE};
+use second::index_damage::damaged_index;
 use second::random::Random;
 use second::refusal::{number_of, Refusal};
-use second::table::{
-    find, key_of, other_than, remove, store, Key, MOST_HELD, OWNERS, SIZE, SLOT, SLOTS, SLOT_HEAD, SLOT_ROOM,
-};
-use tarnoklej::ffi;
+use second::table::{key_of, other_than, Key, MOST_HELD, OWNERS, SIZE, SLOT, SLOTS, SLOT_HEAD, SLOT_ROOM};
+use tarnoklej::{ffi, MOST_PROBES};
 
 /// The turns of one history.
 const TURNS: u64 = 24;
@@ -19,26 +19,35 @@ const WRONG_SIZES: [usize; 9] = [0, 1, SLOT - 1, SLOT, 4_096, SIZE - 1, SIZE + 1
 /// Numbers that are no owner.
 const NO_OWNERS: [u8; 4] = [0, 3, 128, 255];
 
-/// A table on which calls are made, one table for each program.
+/// A table and its index.
+#[derive(Clone, PartialEq, Eq, Debug)]
+struct Pair {
+    table: Box<[u8]>,
+    index: Box<[u8]>,
+}
+
+/// A table with its index on which calls are made, one pair for each program.
 pub struct History {
-    library: Box<[u8]>,
-    second: Box<[u8]>,
+    library: Pair,
+    second: Pair,
     sins: u64,
     turns: u64,
 }
 
-/// How often a store met FULL for each of its two reasons alone.
+/// What was met in all histories: FULL for each of its two reasons alone, and finds by their number of probes.
 #[derive(Default)]
-pub struct Fulls {
+pub struct Met {
     /// The owner held 20 slots, and a slot was free.
     pub most_held: u64,
     /// No slot was free, and the owner held fewer than 20.
     pub none_free: u64,
+    /// Finds that were answered with each number of probes.
+    pub probes: [u64; MOST_PROBES as usize + 1],
 }
 
-impl Fulls {
+impl Met {
     /// Counts a store of an owner that was refused with FULL on a table.
-    fn add(&mut self, table: &[u8], owner: u8) {
+    fn add_full(&mut self, table: &[u8], owner: u8) {
         let counts = used_slots(table);
         let most_held = counts[owner as usize] == MOST_HELD;
         let none_free = counts[0] == SLOTS;
@@ -46,11 +55,21 @@ impl Fulls {
         self.none_free += u64::from(none_free && !most_held);
     }
 
-    /// A line on what was met.
-    pub fn line(&self) -> String {
+    /// The fewest finds with any number of probes from 1 on.
+    pub fn fewest_with_probes(&self) -> u64 {
+        self.probes[1..].iter().copied().min().unwrap_or(0)
+    }
+
+    /// Lines on what was met.
+    pub fn lines(&self) -> String {
+        let probes: Vec<String> =
+            (1..).zip(&self.probes[1..]).map(|(probes, count)| format!("{count} with {probes}")).collect();
         format!(
-            "store met FULL {} times with 20 slots of the owner's and a slot free, {} times with fewer and no slot free",
-            self.most_held, self.none_free
+            "store met FULL {} times with 20 slots of the owner's and a slot free, {} times with fewer and no slot free\n\
+             find by the number of probes: {}",
+            self.most_held,
+            self.none_free,
+            probes.join(", ")
         )
     }
 }
@@ -124,14 +143,14 @@ fn any_owner(random: &mut Random) -> u8 {
     }
 }
 
-/// A table in which an owner holds a number of slots, the other about half of the rest, and no key stands twice.
-fn table_of_held(random: &mut Random, held: usize) -> Vec<u8> {
+/// A table in which an owner holds a number of slots, the other so many in ten of the rest, and no key stands twice.
+fn table_of_held(random: &mut Random, held: usize, share: u64) -> Vec<u8> {
     let owner = messages::pick(random, &OWNERS);
     let first = random.below((SLOTS - held + 1) as u64) as usize;
     let mut table = vec![0; SIZE];
     for (place, slot) in table.chunks_mut(SLOT).enumerate() {
         let own = (first..first + held).contains(&place);
-        if own || random.below(2) == 0 {
+        if own || random.below(10) < share {
             let message = messages::any_sample(random).with(147, place as i64).bytes();
             put(slot, if own { owner } else { other_than(owner) }, &message);
         }
@@ -144,7 +163,7 @@ fn damaged(random: &mut Random, table: &[u8]) -> Vec<u8> {
     let mut other = table.to_vec();
     let at = random.below(SIZE as u64) as usize;
     let slot = at / SLOT * SLOT;
-    match random.below(9) {
+    match random.below(10) {
         0 => other.resize(messages::pick(random, &WRONG_SIZES), 0),
         1 => other[at] = random.bits() as u8,
         2 => other[at] ^= 1 << random.below(8),
@@ -157,9 +176,14 @@ fn damaged(random: &mut Random, table: &[u8]) -> Vec<u8> {
             other.copy_within(slot..slot + SLOT, to);
             other[to] ^= 3 * u8::from(other[to] != 0);
         }
+        8 => {
+            let kept = other[slot..slot + SLOT].to_vec();
+            other = random.bytes(SIZE);
+            other[slot..slot + SLOT].copy_from_slice(&kept);
+        }
         _ => {
             let held = MOST_HELD - 1 + random.below(4) as usize;
-            return table_of_held(random, held);
+            return table_of_held(random, held, 5);
         }
     }
     other
@@ -171,11 +195,14 @@ impl History {
         let sins = messages::pick(random, &[2, 6, 14, 40, 256]);
         let table = match turn / TURNS % 7 {
             6 => vec![0; SIZE],
-            1 | 4 => table_of_held(random, MOST_HELD),
+            1 | 4 => table_of_held(random, MOST_HELD, 5),
+            2 => table_of_held(random, SLOTS / 2, 10),
             _ => table_of_messages(random, sins),
         };
-        let table = table.into_boxed_slice();
-        History { library: table.clone(), second: table, sins, turns: 0 }
+        let mut index = vec![0; INDEX_SIZE];
+        write_index(&table, &mut index).expect("a well-formed table");
+        let pair = Pair { table: table.into(), index: index.into() };
+        History { library: pair.clone(), second: pair, sins, turns: 0 }
     }
 
     /// Whether the history has had its turns.
@@ -183,24 +210,36 @@ impl History {
         self.turns == TURNS
     }
 
-    /// Compares one store, one find and one remove, every sixth turn on a damaged table that is then put back.
-    pub fn turn(&mut self, random: &mut Random, turn: u64, fulls: &mut Fulls) -> Result<[Vec<u8>; 3], String> {
+    /// Compares one call of each kind, every third turn on a table or an index that is damaged and then put back.
+    pub fn turn(&mut self, random: &mut Random, turn: u64, met: &mut Met) -> Result<[Vec<u8>; 5], String> {
         self.turns += 1;
-        if !self.turns.is_multiple_of(6) {
-            return self.calls(random, turn, fulls);
+        if !self.turns.is_multiple_of(3) {
+            return self.calls(random, turn, met);
         }
         let kept = self.second.clone();
-        self.second = damaged(random, &kept).into_boxed_slice();
+        let damage = random.below(8);
+        if damage < 4 {
+            self.second.table = damaged(random, &kept.table).into();
+        }
+        if damage > 2 {
+            self.second.index = damaged_index(random, &kept.index, turn / 3).into();
+        }
         self.library = self.second.clone();
-        let compared = self.calls(random, turn, fulls);
+        let compared = self.calls(random, turn, met);
         self.library = kept.clone();
         self.second = kept;
         compared
     }
 
     /// Compares one call of each kind.
-    fn calls(&mut self, random: &mut Random, turn: u64, fulls: &mut Fulls) -> Result<[Vec<u8>; 3], String> {
-        Ok([self.store(random, turn, fulls)?, self.find(random)?, self.remove(random)?])
+    fn calls(&mut self, random: &mut Random, turn: u64, met: &mut Met) -> Result<[Vec<u8>; 5], String> {
+        Ok([
+            self.store(random, turn, met)?,
+            self.find(random, met)?,
+            self.remove(random)?,
+            self.agrees()?,
+            self.write_index(random)?,
+        ])
     }
 
     /// An owner, or a number that is none, and a key, one in ten of a group not 0 to 2.
@@ -209,7 +248,22 @@ impl History {
         (any_owner(random), random.below(self.sins) as u8, group)
     }
 
-    /// The refusal where the library's answer and table are the second program's.
+    /// The key of an entry in use, of any, of the last or of one that is not of groups 0 to 2, or any key.
+    fn key_to_find(&self, random: &mut Random) -> (u8, u8, u8) {
+        let entries: Vec<&[u8]> = self.second.index.chunks_exact(ENTRY).filter(|entry| entry[0] != 0).collect();
+        if entries.is_empty() || random.below(2) == 0 {
+            return self.any_key(random);
+        }
+        let odd = entries.iter().find(|entry| entry[2] > 2);
+        let entry = match random.below(6) {
+            0 => entries[entries.len() - 1],
+            1 | 2 => odd.copied().unwrap_or(entries[0]),
+            _ => messages::pick(random, &entries),
+        };
+        (entry[0], entry[1], entry[2])
+    }
+
+    /// The refusal where the library's answer, table and index are the second program's.
     fn same<T: PartialEq + std::fmt::Debug>(
         &self,
         refusal: u8,
@@ -217,43 +271,72 @@ impl History {
         second: T,
         call: impl Fn() -> String,
     ) -> Compared {
-        same(refusal, library, second, || format!("{}\non table {}", call(), hex(&self.second)))?;
+        let Pair { table, index } = &self.second;
+        same(refusal, library, second, || format!("{}\non table {}\nand index {}", call(), hex(table), hex(index)))?;
         same(refusal, &self.library, &self.second, || format!("{}, which left other bytes", call()))
     }
 
     /// Compares one store.
-    fn store(&mut self, random: &mut Random, turn: u64, fulls: &mut Fulls) -> Compared {
+    fn store(&mut self, random: &mut Random, turn: u64, met: &mut Met) -> Compared {
         let owner = any_owner(random);
         let message = any_message(random, turn, self.sins).into_boxed_slice();
-        let answer = store(&mut self.second, owner, &message);
+        let answer = store(&mut self.second.table, &mut self.second.index, owner, &message);
         if answer == Err(Refusal::Full) {
-            fulls.add(&self.second, owner);
+            met.add_full(&self.second.table, owner);
         }
         let expected = number_of(&answer);
-        let (table, size) = (self.library.as_mut_ptr(), self.library.len());
+        let Pair { table, index } = &mut self.library;
+        let (start, size, entries, index_size) = (table.as_mut_ptr(), table.len(), index.as_mut_ptr(), index.len());
         // SAFETY: the pointers and lengths are those of slices that do not overlap.
-        let refusal = unsafe { ffi::tarnoklej_store(table, size, owner, message.as_ptr(), message.len()) };
+        let refusal =
+            unsafe { ffi::tarnoklej_store(start, size, entries, index_size, owner, message.as_ptr(), message.len()) };
         self.same(expected, refusal, expected, || format!("store {owner} {}", hex(&message)))
     }
 
     /// Compares one find, the message's bytes being those of equal tables.
-    fn find(&mut self, random: &mut Random) -> Compared {
-        let (owner, sin, group) = self.any_key(random);
-        let answer = find(&self.second, owner, sin, group);
+    fn find(&mut self, random: &mut Random, met: &mut Met) -> Compared {
+        let (owner, sin, group) = self.key_to_find(random);
+        let answer = find(&self.second.table, &self.second.index, owner, sin, group);
         let refusal = number_of(&answer);
-        let (at, length) = answer.unwrap_or((0, 0));
-        // SAFETY: the pointer and the length are those of a slice.
-        let library = unsafe { ffi::tarnoklej_find(self.library.as_ptr(), self.library.len(), owner, sin, group) };
-        self.same(refusal, library, ffi::Found { refusal, at, length }, || format!("find {owner} {sin} {group}"))
+        let (at, length, probes) = answer.map_or((0, 0, 0), |found| (found.at, found.length, found.probes));
+        met.probes[probes as usize] += 1;
+        let Pair { table, index } = &self.library;
+        // SAFETY: the pointers and lengths are those of slices.
+        let library =
+            unsafe { ffi::tarnoklej_find(table.as_ptr(), table.len(), index.as_ptr(), index.len(), owner, sin, group) };
+        let expected = ffi::Found { refusal, at, length, probes };
+        self.same(refusal, library, expected, || format!("find {owner} {sin} {group}"))
     }
 
     /// Compares one remove.
     fn remove(&mut self, random: &mut Random) -> Compared {
         let (owner, sin, group) = self.any_key(random);
-        let expected = number_of(&remove(&mut self.second, owner, sin, group));
-        let (table, size) = (self.library.as_mut_ptr(), self.library.len());
-        // SAFETY: the pointer and the length are those of a slice.
-        let refusal = unsafe { ffi::tarnoklej_remove(table, size, owner, sin, group) };
+        let expected = number_of(&remove(&mut self.second.table, &mut self.second.index, owner, sin, group));
+        let Pair { table, index } = &mut self.library;
+        let (start, size, entries, index_size) = (table.as_mut_ptr(), table.len(), index.as_mut_ptr(), index.len());
+        // SAFETY: the pointers and lengths are those of slices that do not overlap.
+        let refusal = unsafe { ffi::tarnoklej_remove(start, size, entries, index_size, owner, sin, group) };
         self.same(expected, refusal, expected, || format!("remove {owner} {sin} {group}"))
+    }
+
+    /// Compares whether table and index agree.
+    fn agrees(&mut self) -> Compared {
+        let expected = number_of(&agrees(&self.second.table, &self.second.index));
+        let Pair { table, index } = &self.library;
+        // SAFETY: the pointers and lengths are those of slices.
+        let refusal = unsafe { ffi::tarnoklej_index_agrees(table.as_ptr(), table.len(), index.as_ptr(), index.len()) };
+        self.same(expected, refusal, expected, || "agrees".to_string())
+    }
+
+    /// Compares an index that is written anew over any bytes, of which both programs then have the same.
+    fn write_index(&mut self, random: &mut Random) -> Compared {
+        let mut second = random.bytes(self.second.index.len()).into_boxed_slice();
+        let mut library = second.clone();
+        let expected = number_of(&write_index(&self.second.table, &mut second));
+        let table = &self.library.table;
+        // SAFETY: the pointers and lengths are those of slices that do not overlap.
+        let refusal =
+            unsafe { ffi::tarnoklej_index_write(table.as_ptr(), table.len(), library.as_mut_ptr(), library.len()) };
+        self.same(expected, (refusal, library), (expected, second), || "write the index anew".to_string())
     }
 }

@@ -3,7 +3,7 @@
 use tarnoklej::Refusal;
 
 /// The refusal numbers, 0 being done.
-const NUMBERS: usize = 22;
+const NUMBERS: usize = 24;
 
 /// The inputs of one kind of call by refusal number, every part of an answer being counted.
 pub struct Tally {
@@ -49,7 +49,7 @@ pub fn table(tallies: &[Tally]) -> String {
     let heads: String = tallies.iter().map(|tally| format!(" {:>14} |", tally.name)).collect();
     let rules = " ---: |".repeat(tallies.len());
     let mut text = format!("| No. | Name      |{heads}\n| ---: | --- |{rules}\n");
-    for number in 0..NUMBERS as u8 {
+    for number in (0..NUMBERS as u8).filter(|&number| number == 0 || Refusal::try_from(number).is_ok()) {
         let cells: String = tallies.iter().map(|tally| format!(" {:>14} |", cell(tally, number))).collect();
         text += &format!("| {number:>3} | {:<9} |{cells}\n", name_of(number));
     }

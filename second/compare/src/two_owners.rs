@@ -1,5 +1,5 @@
 //! Plays histories of two owners through the exported interface, each twice with other calls of the other owner in
-//! between (request A8 of document 02).
+//! between, from a fresh table and a fresh index (requests A8 and A9 of document 02).
 
 use crate::messages::pick;
 use crate::tally::Progress;
@@ -7,6 +7,7 @@ use second::history::{
     calls_of_other, calls_within, most_asked, storing, used_slots, with_others, Ask, Call, Dictionaries, Kept, Reply,
     ALWAYS_THERE,
 };
+use second::index::{agrees, INDEX_SIZE};
 use second::random::Random;
 use second::refusal::Refusal;
 use second::table::{other_than, MOST_HELD, OWNERS, SIZE, SLOTS};
@@ -47,18 +48,22 @@ pub fn pairs_for(count: u64) -> u64 {
     (count / OWN_CALLS as u64).max(LEAST_PAIRS)
 }
 
-/// Makes a call on a table of the library.
-fn ask_library(table: &mut [u8], call: &Call) -> Reply {
+/// Makes a call on a table and an index of the library; the number of probes is no part of the reply.
+fn ask_library(table: &mut [u8], index: &mut [u8], call: &Call) -> Reply {
     let (start, size, owner) = (table.as_mut_ptr(), table.len(), call.owner);
+    let (entries, index_size) = (index.as_mut_ptr(), index.len());
     // SAFETY: the pointers and lengths are those of slices that do not overlap.
     let (refusal, at, length) = unsafe {
         match call.ask {
             Ask::Store(ref message) => {
-                (ffi::tarnoklej_store(start, size, owner, message.as_ptr(), message.len()), 0, 0)
+                let (bytes, length) = (message.as_ptr(), message.len());
+                (ffi::tarnoklej_store(start, size, entries, index_size, owner, bytes, length), 0, 0)
             }
-            Ask::Remove(sin, group) => (ffi::tarnoklej_remove(start, size, owner, sin, group), 0, 0),
+            Ask::Remove(sin, group) => {
+                (ffi::tarnoklej_remove(start, size, entries, index_size, owner, sin, group), 0, 0)
+            }
             Ask::Find(sin, group) => {
-                let found = ffi::tarnoklej_find(start, size, owner, sin, group);
+                let found = ffi::tarnoklej_find(start, size, entries, index_size, owner, sin, group);
                 (found.refusal, found.at, found.length)
             }
         }
@@ -66,21 +71,23 @@ fn ask_library(table: &mut [u8], call: &Call) -> Reply {
     Reply { refusal, shown: table[at..at + length].to_vec() }
 }
 
-/// Plays calls on a fresh table.
+/// Plays calls on a fresh table with a fresh index, which must agree after each.
 fn play(calls: &[Call], owner: u8) -> Played {
-    let mut table = vec![0; SIZE];
+    let (mut table, mut index) = (vec![0; SIZE], vec![0; INDEX_SIZE]);
     let (mut dictionaries, mut kept) = (Dictionaries::default(), Kept::default());
     let mut played = Played { calls: calls.len(), replies: Vec::new(), full: false, difference: None };
     for (turn, call) in calls.iter().enumerate() {
-        let reply = ask_library(&mut table, call);
+        let reply = ask_library(&mut table, &mut index, call);
         let expected = dictionaries.reply(call);
         kept.note(call, reply.refusal);
         let used = used_slots(&table);
         played.full |= used[0] == SLOTS;
-        let differs = reply != expected || used != kept.counts();
+        let agreement = agrees(&table, &index);
+        let differs = reply != expected || used != kept.counts() || agreement != Ok(());
         if differs && played.difference.is_none() {
             played.difference = Some(format!(
-                "call {turn}, {call:?}\nlibrary      {reply:?}, slots in use {used:?}\ndictionaries {expected:?}, keys kept {:?}",
+                "call {turn}, {call:?}\nlibrary      {reply:?}, slots in use {used:?}, agreement {agreement:?}\n\
+                 dictionaries {expected:?}, keys kept {:?}",
                 kept.counts()
             ));
         }
@@ -148,8 +155,8 @@ impl Met {
     pub fn line(&self) -> String {
         format!(
             "two owners: {} pairs of histories, {} replies alike with other calls of the other in between, in {} pairs with \
-             twelve keys and a full table in one history alone; {} times the slots in use are the keys kept; the thirteenth \
-             key differs",
+             twelve keys and a full table in one history alone; {} times the slots in use are the keys kept and the index \
+             agrees; the thirteenth key differs",
             self.pairs, self.replies, self.only_one_full, self.calls
         )
     }

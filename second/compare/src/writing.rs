@@ -65,7 +65,7 @@ fn none_with_value(random: &mut Random, mut row: Row) -> Row {
 }
 
 /// The row with presence bytes from 2 to 255 at one place or at some.
-fn other_presence(random: &mut Random, mut row: Row) -> Row {
+pub fn other_presence(random: &mut Random, mut row: Row) -> Row {
     let at = place(random, &row.present);
     row.present[at] = random.within(2, 255) as u8;
     if random.below(3) == 0 {
@@ -100,7 +100,7 @@ fn any_buffers(random: &mut Random) -> Row {
 }
 
 /// Any number of 64 bits, often a small one or one at the ends.
-fn any_integer(random: &mut Random) -> i64 {
+pub fn any_integer(random: &mut Random) -> i64 {
     match random.below(6) {
         0 => i64::MIN,
         1 => i64::MAX,

@@ -2,6 +2,8 @@
 
 pub mod antimeridian;
 mod frames;
+mod heights;
+mod indexes;
 mod parts;
 mod reads;
 mod record_shifts;
@@ -21,7 +23,7 @@ use std::path::Path;
 /// The longest line of the standard input.
 const LONGEST_LINE: usize = 900;
 /// The most cases.
-const MOST_CASES: usize = 30_000;
+const MOST_CASES: usize = 40_000;
 /// The longest name of a case.
 const LONGEST_NAME: usize = 40;
 
@@ -58,6 +60,8 @@ pub struct Wanted {
     pub frame: bool,
     /// Cases of rows of shifts.
     pub row: bool,
+    /// Cases of making a height grid.
+    pub heights: bool,
 }
 
 /// What every byte of a buffer holds before a call.
@@ -102,12 +106,16 @@ pub fn cases(wanted: Wanted) -> Vec<Case> {
     }
     if wanted.table {
         cases.extend(tables::cases());
+        cases.extend(indexes::cases());
     }
     if wanted.frame {
         cases.extend(frames::cases());
     }
     if wanted.row {
         cases.extend(rows::cases());
+    }
+    if wanted.heights {
+        cases.extend(heights::cases());
     }
     check(&cases);
     cases

@@ -1,14 +1,13 @@
-//! Cases of the table with two owners: histories of calls, each beginning with a fresh table.
+//! Cases of the table with two owners: histories of calls, each beginning with a fresh table and a fresh index.
 
 use super::{sums, Case};
 use crate::hex::hex;
+use crate::index::{agrees, find, remove, store, write_index, INDEX_SIZE};
 use crate::layouts::NUMBERS;
 use crate::random::Random;
 use crate::refusal::number_of;
 use crate::samples::Sample;
-use crate::table::{
-    find, group_of, other_than, remove, store, MOST_HELD, OWNERS, SIZE, SLOT, SLOTS, SLOT_HEAD, SLOT_ROOM,
-};
+use crate::table::{group_of, other_than, MOST_HELD, OWNERS, SIZE, SLOT, SLOTS, SLOT_HEAD, SLOT_ROOM};
 
 /// Numbers that are no owner.
 const NO_OWNERS: [u8; 5] = [0, 3, 127, 128, 255];
@@ -17,26 +16,31 @@ const SINS_OF_ONE: u8 = MOST_HELD as u8;
 /// The system identification numbers from 0 on that the other owner can hold beside them.
 const SINS_OF_OTHER: u8 = SLOTS as u8 - SINS_OF_ONE;
 
-/// A history under way: the table, and the cases so far.
-struct History {
+/// A history under way: the table, its index, and the cases so far.
+pub struct History {
     name: String,
-    table: Vec<u8>,
-    cases: Vec<Case>,
-    random: Random,
+    /// The table as it stands.
+    pub table: Vec<u8>,
+    /// The index as it stands.
+    pub index: Vec<u8>,
+    /// The cases so far.
+    pub cases: Vec<Case>,
+    /// Where its messages come from.
+    pub random: Random,
 }
 
 impl History {
-    /// Begins a history with a table of zeros.
-    fn new(name: &str, size: usize) -> Self {
+    /// Begins a history with a table and an index of zeros.
+    pub fn new(name: &str, size: usize) -> Self {
         let seed = name.bytes().fold(41, |seed: u64, b| seed.wrapping_mul(31).wrapping_add(b as u64));
-        let mut history =
-            History { name: name.to_string(), table: Vec::new(), cases: Vec::new(), random: Random::new(seed) };
+        let (name, random) = (name.to_string(), Random::new(seed));
+        let mut history = History { name, table: Vec::new(), index: Vec::new(), cases: Vec::new(), random };
         history.fresh(size);
         history
     }
 
     /// Begins a history of an owner with a full table: 20 slots of the owner, then 12 of the other.
-    fn full(name: &str, owner: u8) -> Self {
+    pub fn full(name: &str, owner: u8) -> Self {
         let mut history = History::new(name, SIZE);
         history.fill(owner, SINS_OF_ONE);
         history.fill(other_than(owner), SINS_OF_OTHER);
@@ -54,32 +58,63 @@ impl History {
         self.cases.last_mut().expect("a case").name = name.to_string();
     }
 
-    /// Takes a fresh table of zeros.
-    fn fresh(&mut self, size: usize) {
+    /// Takes a fresh table of zeros and a fresh index.
+    pub fn fresh(&mut self, size: usize) {
         self.table = vec![0; size];
         self.add("fresh", format!("table {size}"), "ok".to_string());
+        self.fresh_index(INDEX_SIZE);
+    }
+
+    /// Takes a fresh index of zeros.
+    pub fn fresh_index(&mut self, size: usize) {
+        self.index = vec![0; size];
+        self.add("index", format!("index {size}"), "ok".to_string());
+    }
+
+    /// Puts a byte into the index.
+    pub fn poke_index(&mut self, at: usize, value: u8) {
+        self.index[at] = value;
+        self.add("pokeindex", format!("pokeindex {at} {value}"), "ok".to_string());
+    }
+
+    /// Asks whether table and index agree.
+    pub fn agrees(&mut self) {
+        let refusal = number_of(&agrees(&self.table, &self.index));
+        self.add("agrees", "agrees".to_string(), refusal.to_string());
+    }
+
+    /// Writes the index anew.
+    pub fn rebuild(&mut self) {
+        let refusal = number_of(&write_index(&self.table, &mut self.index));
+        self.add("rebuild", "rebuild".to_string(), refusal.to_string());
+    }
+
+    /// Sums all bytes of the index.
+    pub fn index_sum(&mut self) {
+        let (a, b) = sums(&self.index);
+        self.add("indexsum", "indexsum".to_string(), format!("{a} {b}"));
     }
 
     /// Puts a byte into the table.
-    fn poke(&mut self, at: usize, value: u8) {
+    pub fn poke(&mut self, at: usize, value: u8) {
         self.table[at] = value;
         self.add("poke", format!("poke {at} {value}"), "ok".to_string());
     }
 
     /// Stores a message.
-    fn store(&mut self, owner: u8, message: &[u8]) {
-        let refusal = number_of(&store(&mut self.table, owner, message));
+    pub fn store(&mut self, owner: u8, message: &[u8]) {
+        let refusal = number_of(&store(&mut self.table, &mut self.index, owner, message));
         self.add("store", format!("store {owner} {}", hex(message)), refusal.to_string());
     }
 
     /// Stores a random message of a number and a system identification number.
-    fn store_any(&mut self, owner: u8, number: u16, sin: u8) {
+    pub fn store_any(&mut self, owner: u8, number: u16, sin: u8) {
         let message = self.message(number, sin);
         self.store(owner, &message);
     }
 
     /// Stores random messages 1025 under the first system identification numbers.
-    fn fill(&mut self, owner: u8, sins: u8) {
+    pub fn fill(&mut self, owner: u8, sins: u8) {
         (0..sins).for_each(|sin| self.store_any(owner, 1025, sin));
     }
 
@@ -93,33 +128,33 @@ impl History {
     }
 
     /// Removes a key.
-    fn remove(&mut self, owner: u8, sin: u8, group: u8) {
-        let refusal = number_of(&remove(&mut self.table, owner, sin, group));
+    pub fn remove(&mut self, owner: u8, sin: u8, group: u8) {
+        let refusal = number_of(&remove(&mut self.table, &mut self.index, owner, sin, group));
         self.add("remove", format!("remove {owner} {sin} {group}"), refusal.to_string());
     }
 
     /// Finds a key.
-    fn find(&mut self, owner: u8, sin: u8, group: u8) {
-        let found = find(&self.table, owner, sin, group);
+    pub fn find(&mut self, owner: u8, sin: u8, group: u8) {
+        let found = find(&self.table, &self.index, owner, sin, group);
         let refusal = number_of(&found);
-        let (at, length) = found.unwrap_or((0, 0));
+        let (at, length, probes) = found.map_or((0, 0, 0), |found| (found.at, found.length, found.probes));
         let shown = hex(&self.table[at..at + length]);
-        self.add("find", format!("find {owner} {sin} {group}"), format!("{refusal} {at} {length} {shown}"));
+        self.add("find", format!("find {owner} {sin} {group}"), format!("{refusal} {at} {length} {probes} {shown}"));
     }
 
     /// Finds a key for both owners.
-    fn find_for_both(&mut self, sin: u8, group: u8) {
+    pub fn find_for_both(&mut self, sin: u8, group: u8) {
         OWNERS.into_iter().for_each(|owner| self.find(owner, sin, group));
     }
 
     /// Sums all bytes of the table.
-    fn sum(&mut self) {
+    pub fn sum(&mut self) {
         let (a, b) = sums(&self.table);
         self.add("sum", "sum".to_string(), format!("{a} {b}"));
     }
 
     /// Makes every kind of call on a table that should be refused, and sums it.
-    fn all_calls(&mut self, owner: u8, sin: u8, group: u8) {
+    pub fn all_calls(&mut self, owner: u8, sin: u8, group: u8) {
         self.find(owner, sin, group);
         self.store_any(owner, 1025, sin);
         self.remove(owner, sin, group);
@@ -426,7 +461,7 @@ fn wrong_sizes() -> History {
 }
 
 /// A table of three messages, of which the middle one is to be damaged.
-fn three_messages(name: &str) -> History {
+pub fn three_messages(name: &str) -> History {
     let mut history = History::new(name, SIZE);
     history.store_any(1, 1025, 1);
     history.store_any(2, 1027, 2);
@@ -438,6 +473,7 @@ fn three_messages(name: &str) -> History {
 fn damage(history: &mut History, at: usize, value: u8) {
     let before = history.table[at];
     history.poke(at, value);
+    history.agrees();
     history.all_calls(1, 1, 2);
     history.find(2, 2, 2);
     history.poke(at, before);
@@ -459,8 +495,12 @@ fn wrong_owner_bytes() -> History {
         history.poke(SLOT, owner);
         history.find_for_both(2, 2);
         history.store_any(1, 1026, 2);
+        history.rebuild();
+        history.find_for_both(2, 2);
+        history.store_any(1, 1026, 2);
         history.find_for_both(2, 2);
         history.sum();
+        history.index_sum();
     }
     history
 }
@@ -517,7 +557,7 @@ fn last_zeros() -> History {
 }
 
 /// Puts an owner's message into a slot of the table byte by byte.
-fn poke_slot(history: &mut History, slot: usize, owner: u8, message: &[u8]) {
+pub fn poke_slot(history: &mut History, slot: usize, owner: u8, message: &[u8]) {
     history.poke(slot * SLOT, owner);
     history.poke(slot * SLOT + 1, message.len() as u8);
     for (i, &byte) in message.iter().enumerate() {
@@ -538,14 +578,20 @@ fn same_key_twice() -> History {
         history.all_calls(owner, 77, group);
         history.find(other, 78, group);
         history.store(other, &Sample::zeros(1025).with(147, 78).bytes());
+        history.rebuild();
         history.poke(20 * SLOT, other);
         history.find_for_both(77, group);
+        history.all_calls(other, 77, group);
+        history.rebuild();
         history.all_calls(other, 77, group);
         history.find_for_both(77, group);
         let sin_byte = SLOT_HEAD + if group == 0 { 3 } else { 2 };
         let value = history.table[sin_byte];
         history.poke(sin_byte, value ^ 0x10);
         history.all_calls(owner, 77, group);
+        history.rebuild();
+        history.all_calls(owner, 77, group);
+        history.index_sum();
     }
     history
 }
@@ -569,6 +615,8 @@ fn crowded() -> History {
         history.all_calls(owner, 3, 2);
         (12..SLOTS).for_each(|slot| history.poke(slot * SLOT, other));
         history.all_calls(other, 100, 2);
+        history.rebuild();
+        history.all_calls(other, 100, 2);
         history.store_any(other, 1025, 200);
         history.store_any(other, 1025, 201);
         history.store_any(owner, 1025, 201);
@@ -577,6 +625,7 @@ fn crowded() -> History {
         history.fill(owner, SINS_OF_ONE);
         poke_slot(&mut history, 25, owner, &Sample::zeros(1025).with(147, 99).bytes());
         history.all_calls(other, 99, 2);
+        history.rebuild();
     }
     history
 }
@@ -612,7 +661,11 @@ fn held_from_start() -> History {
     let mut history = History::new("first", SIZE);
     poke_slot(&mut history, 31, 1, &Sample::zeros(1025).with(147, 5).bytes());
     history.find_for_both(5, 2);
+    history.rebuild();
+    history.find_for_both(5, 2);
     poke_slot(&mut history, 2, 2, &Sample::zeros(1021).with(147, 5).bytes());
+    history.agrees();
+    history.rebuild();
     history.find_for_both(5, 0);
     for (owner, sin) in [(1, 6), (2, 6), (1, 8)] {
         history.store_any(owner, 1025, sin);
@@ -704,6 +757,10 @@ fn random_calls(name: &str, sins: u64, calls: usize) -> History {
         if call % 3 == 2 {
             history.sum();
         }
+        if call % 9 == 8 {
+            history.index_sum();
+        }
     }
+    history.agrees();
     history
 }

@@ -1,0 +1,25 @@
+-- `heights::says_none` meets its contract: each return is a case of the definition.
+-- Assumes nothing.
+use borrow.Author.Needs.{needs}
+use borrow.Author.Tests.{eq-eqb, ne-eqb}
+use Rattle.arith.proofs.Order.{same-yes, same-no, fits-literal}
+use Rattle.heights.specs.Heights.{saysNone}
+use Rattle.heights.proofs.says_none.Statement.{statement}
+use Rattle.heights.proofs.says_none.Tie as tie
+
+returns : tie.Need-returns
+unfolding saysNone
+returns c = rw (ne-eqb _ 0 (c .if1 .taken))
+
+returns-2 : tie.Need-returns-2
+unfolding saysNone
+returns-2 c =
+    rw (eq-eqb _ 0 (c .before .before .if1 .left), same-no _ _ (record { sfits = c .before .if22 .given }) (fits-literal tt) (c .if2 .taken))
+
+returns-3 : tie.Need-returns-3
+unfolding saysNone
+returns-3 c =
+    rw (eq-eqb _ 0 (c .before .before .if1 .left), same-yes _ _ (record { sfits = c .before .if22 .given }) (fits-literal tt) (c .if2 .left))
+
+pub says-none-spec : {M : Type 1} → statement M
+says-none-spec = tie.close (tie.spec (λ c. search needs) returns (λ c. search needs) (λ c. search needs) returns-2 returns-3)

@@ -1,0 +1,9 @@
+pub mod Bytes
+pub mod Change
+pub mod Pigeon
+pub mod Moved
+pub mod Inserted
+pub mod Deleted
+pub mod Rebuilt
+pub mod Laws
+pub mod Examples

@@ -1,0 +1,5 @@
+pub mod Named
+pub mod Keys
+pub mod Found
+pub mod Step
+pub mod Histories
