@@ -60,7 +60,7 @@ fn count_of(mean: i64, p: Part, area: u64) -> i64
 }
 
 // Fills a row with the counts of a sum that grows by the same from place to place.
-pub fn fill(row: &mut [i64], mean: i64, first: Part, by: Part, area: u64)
+pub(crate) fn fill(row: &mut [i64], mean: i64, first: Part, by: Part, area: u64)
     requires { ⌜ Goes mean first by area (length (now row)) ⌝ }
     ensures { λ _. ⌜ now (row .exit) ≡ upTo (countsFrom mean area (numberOf area (first .whole) (first .rest)) (numberOf area (by .whole) (by .rest))) (length (now (row .entry))) ⌝ }
 {
