@@ -42,15 +42,18 @@ abbrev pub countTests : List ℤ → List ℕ → List ℤ → List Test
 countTests z b wanted =
     (5, not (eqb (length z) 64)) ∷ (5, not (eqb (length b) 64)) ∷ (5, not (eqb (length wanted) 16)) ∷ []
 
--- what place k says: the value 0, another value, or none. A presence byte above 1, or a value beside a 0, says nothing and is out of RANGE
-unfoldable pub saysZero : List ℤ → List ℕ → ℕ → Bool
-saysZero z b k = eqb (getD b k 0) 1 && sameZ (at z k) (pos 0)
+-- what place k says: the value 0, none (a 0 that is no value), or another value. A presence byte above 1, or a value beside a 0, says nothing and is out of RANGE
+unfoldable pub zeroBeside : ℕ → List ℤ → List ℕ → ℕ → Bool
+zeroBeside mark z b k = eqb (getD b k 0) mark && sameZ (at z k) (pos 0)
+
+abbrev pub saysZero : List ℤ → List ℕ → ℕ → Bool
+saysZero = zeroBeside 1
+
+abbrev pub saysNone : List ℤ → List ℕ → ℕ → Bool
+saysNone = zeroBeside 0
 
 unfoldable pub saysOther : List ℤ → List ℕ → ℕ → Bool
 saysOther z b k = eqb (getD b k 0) 1 && not (sameZ (at z k) (pos 0))
-
-unfoldable pub saysNone : List ℤ → List ℕ → ℕ → Bool
-saysNone z b k = eqb (getD b k 0) 0 && sameZ (at z k) (pos 0)
 
 -- "OFF, METHOD, ORIGIN, SPACING from the record first", each given when document 01 says: 10, 11, 12, 13
 abbrev pub recordTests : List ℤ → List ℕ → List Test

@@ -8,14 +8,14 @@ ghost use lib.ListN.{length};
 ghost use lib.IntN.{natAbs};
 ghost use Rattle.arith.specs.First.{first};
 ghost use Rattle.height_mean.specs.Means.{less, near, fits};
-ghost use Rattle.heights.specs.Heights.{valueWith, presentWith, heightValues, heightPresent, saysZero, saysOther, saysNone, recordTests, writeHeights};
+ghost use Rattle.heights.specs.Heights.{valueWith, presentWith, heightValues, heightPresent, zeroBeside, saysOther, recordTests, writeHeights};
 
-// Whether place k of a row says the value 0.
-fn says_zero(values: &[i64], present: &[u8], k: usize) -> bool
+// Whether place k of a row holds the value 0 beside the presence byte `mark`.
+fn zero_beside(values: &[i64], present: &[u8], k: usize, mark: u8) -> bool
     requires { ⌜ (k < length (now values)) × (k < length (now present)) ⌝ }
-    ensures { λ r. ⌜ r ≡ saysZero (now (values .entry)) (now (present .entry)) k ⌝ }
+    ensures { λ r. ⌜ r ≡ zeroBeside mark (now (values .entry)) (now (present .entry)) k ⌝ }
 {
-    if present[k] != 1 {
+    if present[k] != mark {
         return false;
     }
     if values[k] != 0 {
@@ -24,7 +24,7 @@ fn says_zero(values: &[i64], present: &[u8], k: usize) -> bool
     true
 }
 
-// Whether it says another value.
+// Whether place k says a value other than 0.
 fn says_other(values: &[i64], present: &[u8], k: usize) -> bool
     requires { ⌜ (k < length (now values)) × (k < length (now present)) ⌝ }
     ensures { λ r. ⌜ r ≡ saysOther (now (values .entry)) (now (present .entry)) k ⌝ }
@@ -38,41 +38,27 @@ fn says_other(values: &[i64], present: &[u8], k: usize) -> bool
     false
 }
 
-// Whether it says that there is none.
-fn says_none(values: &[i64], present: &[u8], k: usize) -> bool
-    requires { ⌜ (k < length (now values)) × (k < length (now present)) ⌝ }
-    ensures { λ r. ⌜ r ≡ saysNone (now (values .entry)) (now (present .entry)) k ⌝ }
-{
-    if present[k] != 0 {
-        return false;
-    }
-    if values[k] != 0 {
-        return false;
-    }
-    true
-}
-
 // OFF, METHOD, ORIGIN, SPACING, or 0.
 fn record_refusal(values: &[i64], present: &[u8]) -> u8
     requires { ⌜ (length (now values) ≡ 64) × (length (now present) ≡ 64) ⌝ }
     ensures { λ r. ⌜ r ≡ first (recordTests (now (values .entry)) (now (present .entry))) ⌝ }
 {
-    if says_zero(values, present, 3) {
+    if zero_beside(values, present, 3, 1) {
         return 10;
     }
     if says_other(values, present, 60) {
         return 11;
     }
-    if says_none(values, present, 4) {
+    if zero_beside(values, present, 4, 0) {
         return 12;
     }
-    if says_none(values, present, 5) {
+    if zero_beside(values, present, 5, 0) {
         return 12;
     }
-    if says_zero(values, present, 6) {
+    if zero_beside(values, present, 6, 1) {
         return 13;
     }
-    if says_zero(values, present, 7) {
+    if zero_beside(values, present, 7, 1) {
         return 13;
     }
     0

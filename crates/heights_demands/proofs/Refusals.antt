@@ -25,7 +25,7 @@ use Rattle.height_mean.specs.Means.{smallestMean}
 use Rattle.height_mean.specs.declared.Mean.{Mean}
 use Rattle.height_mean.specs.declared.Mean.the-variants.{Found, Missing}
 use Rattle.height_mean.proofs.Choice.{Smallest, smallest, smallest-missing, found-or-none}
-use Rattle.heights.specs.Heights.{ofHeight, valueWith, presentWith, heightValues, heightPresent, countTests, saysZero, saysOther, saysNone, recordTests, meanTests, heightsRefusal, heightsMessage, messageWith}
+use Rattle.heights.specs.Heights.{ofHeight, valueWith, presentWith, heightValues, heightPresent, countTests, zeroBeside, saysZero, saysOther, saysNone, recordTests, meanTests, heightsRefusal, heightsMessage, messageWith}
 use Rattle.heights.proofs.Calls.{record-out, behind, mean-out}
 use Rattle.heights_demands.specs.Heights.{NoneFits, ChoosesSmallest, Counted, NoMeanExactly, OthersTaken, OnlyOthers, SameOthers, NotLookedAt}
 use Rattle.heights_demands.proofs.Row.{said, length-values, length-present, other-value, other-byte, says-other, height-taken, all-places}
@@ -173,24 +173,20 @@ only-others z b wanted n c number others e = by (first (recordTests z b)) refl
 
 module _ (z y : List ℤ) (b a : List ℕ) (s : SameOthers z y b a) where
   module _ (k : ℕ) (o : ofHeight k ≡ false) where
-    same-zero : saysZero z b k ≡ saysZero y a k
-    unfolding saysZero
-    same-zero = λ i. eqb (s .byte k o i) 1 && sameZ (s .value k o i) (pos 0)
+    same-zero : (mark : ℕ) → zeroBeside mark z b k ≡ zeroBeside mark y a k
+    unfolding zeroBeside
+    same-zero mark = λ i. eqb (s .byte k o i) mark && sameZ (s .value k o i) (pos 0)
 
     same-other : saysOther z b k ≡ saysOther y a k
     unfolding saysOther
     same-other = λ i. eqb (s .byte k o i) 1 && not (sameZ (s .value k o i) (pos 0))
 
-    same-none : saysNone z b k ≡ saysNone y a k
-    unfolding saysNone
-    same-none = λ i. eqb (s .byte k o i) 0 && sameZ (s .value k o i) (pos 0)
-
   same-record : recordTests z b ≡ recordTests y a
   same-record =
-      λ i. (10, same-zero 3 refl i)
+      λ i. (10, same-zero 3 refl 1 i)
       ∷ (11, same-other 60 refl i)
-      ∷ (12, same-none 4 refl i || same-none 5 refl i)
-      ∷ (13, same-zero 6 refl i || same-zero 7 refl i)
+      ∷ (12, same-zero 4 refl 0 i || same-zero 5 refl 0 i)
+      ∷ (13, same-zero 6 refl 1 i || same-zero 7 refl 1 i)
       ∷ []
 
   same-byte : (k : ℕ) (t : Bool) → ofHeight k ≡ t → presentWith b k ≡ presentWith a k

@@ -45,7 +45,7 @@ use Rattle.height_mean.proofs.Near.{less-most}
 use Rattle.height_mean.specs.declared.Mean.{Mean}
 use Rattle.height_mean.specs.declared.Mean.the-variants.{Found}
 use Rattle.height_mean.proofs.Choice.{NoneFits, Smallest, smallest, found-or-none}
-use Rattle.heights.specs.Heights.{ofHeight, heightValues, heightPresent, countTests, saysZero, saysOther, saysNone, recordTests, meanTests, heightsRefusal, heightsMessage}
+use Rattle.heights.specs.Heights.{ofHeight, heightValues, heightPresent, countTests, zeroBeside, saysZero, saysOther, saysNone, recordTests, meanTests, heightsRefusal, heightsMessage}
 use Rattle.heights.proofs.Calls.{message-is}
 use Rattle.heights_demands.specs.Heights.{nodeNorth, nodeEast, Gives, GivesWanted}
 use Rattle.heights_demands.proofs.Metres.{metres-is}
@@ -297,7 +297,7 @@ module _ (z : List ℤ) (b : List ℕ) (wanted : List ℤ) (n : ℕ) (e : height
         ap (λ (s : Shifts). s .height) (getD-upTo (λ i. shiftsAt (says v) (11 + 3 * i)) 16 k zeros l) ∙ ap (says v) e ∙ says-node z b wanted m k l
 
     facts : Facts z wanted m (gridOf (says v))
-    unfolding gridOf pairAt originAt spacingAt shiftsAt nodesAt saysZero saysOther saysNone layout1023
+    unfolding gridOf pairAt originAt spacingAt shiftsAt nodesAt zeroBeside saysOther layout1023
     facts =
         let r = recorded in
         let t0 = said 12 (Row.at z 0) (getD b 0 0) refl (place 0 (omega arith) refl) in
