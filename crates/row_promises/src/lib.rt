@@ -167,7 +167,7 @@ pub fn numbers_of(values: &[i64], present: &[u8]) -> row::Numbers
 pub fn check_by(s: &[u8], number: u64, n: usize, m: usize) -> u8
     ensures { λ r. ⌜ r ≡ refusalOf (layoutBy number n m) (now (s .entry)) ⌝ }
 {
-    layouts::check_by(s, number, n, m)
+    by_number::check_by(s, number, n, m)
 }
 
 pub fn decode_by(
@@ -182,13 +182,13 @@ pub fn decode_by(
     ensures values { λ r. ⌜ now (values .exit) ≡ stored (decodeRefusal (layoutBy number n m) (now (s .entry)) (length (now (values .entry))) (length (now (present .entry)))) (map valueIn (decodeAll (layoutBy number n m) 0 (now (s .entry)))) (now (values .entry)) ⌝ }
     ensures present { λ r. ⌜ now (present .exit) ≡ stored (decodeRefusal (layoutBy number n m) (now (s .entry)) (length (now (values .entry))) (length (now (present .entry)))) (map presentIn (decodeAll (layoutBy number n m) 0 (now (s .entry)))) (now (present .entry)) ⌝ }
 {
-    layouts::decode_by(s, number, n, m, values, present)
+    by_number::decode_by(s, number, n, m, values, present)
 }
 
 pub fn taken_by(number: u64, n: usize, m: usize, values: &[i64], present: &[u8]) -> bool
     ensures { λ r. ⌜ r ≡ rowTakes (layoutBy number n m) (now (values .entry)) (now (present .entry)) ⌝ }
 {
-    layouts::taken_by(number, n, m, values, present)
+    by_number::taken_by(number, n, m, values, present)
 }
 
 pub fn encode_by(
@@ -202,7 +202,7 @@ pub fn encode_by(
     ensures answer { λ r. ⌜ r ≡ answered (encodeRefusal (layoutBy number n m) (now (values .entry)) (now (present .entry)) (length (now (out .entry)))) (encodeAll (layoutBy number n m) (rowOf (now (values .entry)) (now (present .entry)))) ⌝ }
     ensures output { λ r. ⌜ now (out .exit) ≡ stored (encodeRefusal (layoutBy number n m) (now (values .entry)) (now (present .entry)) (length (now (out .entry)))) (encodeAll (layoutBy number n m) (rowOf (now (values .entry)) (now (present .entry)))) (now (out .entry)) ⌝ }
 {
-    layouts::encode_by(number, n, m, values, present, out)
+    by_number::encode_by(number, n, m, values, present, out)
 }
 
 pub fn helmert_of(values: &[i64; 96], present: &[u8; 96]) -> transformation_records::Helmert

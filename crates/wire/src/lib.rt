@@ -42,11 +42,11 @@ pub fn check_message(s: &[u8]) -> u8
     }
     let number = field::field_at(s, 0, 12);
     if 1022 < number {
-        return layouts::check_by(s, number, 0, 0);
+        return by_number::check_by(s, number, 0, 0);
     }
     let n = field::field_at(s, 12, 5) as usize;
     let m = field::field_at(s, 17 + 8 * n, 5) as usize;
-    layouts::check_by(s, number, n, m)
+    by_number::check_by(s, number, n, m)
 }
 
 // The same, then KIND where its number is not lo to hi.
@@ -123,11 +123,11 @@ pub fn read_row(s: &[u8], values: &mut [i64], present: &mut [u8]) -> u8
     }
     let number = field::field_at(s, 0, 12);
     if 1022 < number {
-        return layouts::decode_by(s, number, 0, 0, values, present);
+        return by_number::decode_by(s, number, 0, 0, values, present);
     }
     let n = field::field_at(s, 12, 5) as usize;
     let m = field::field_at(s, 17 + 8 * n, 5) as usize;
-    layouts::decode_by(s, number, n, m, values, present)
+    by_number::decode_by(s, number, n, m, values, present)
 }
 
 // The row of a message of one kind, whose numbers are lo to hi: refusals 1 to 5, KIND, then ROOM.
@@ -163,7 +163,7 @@ pub fn write_row(values: &[i64], present: &[u8], out: &mut [u8]) -> Written
     }
     let n = row::counter_at(values, present, 1);
     let m = row::counter_at(values, present, 2 + n);
-    layouts::encode_by(number, n, m, values, present, out)
+    by_number::encode_by(number, n, m, values, present, out)
 }
 
 // The message of a record's row in the first bytes of out: RANGE also for a bad name and a number not of the kind.
@@ -213,5 +213,5 @@ pub fn row_held(values: &[i64], present: &[u8], lo: u64, hi: u64) -> bool
     }
     let n = row::counter_at(values, present, 1);
     let m = row::counter_at(values, present, 2 + n);
-    layouts::taken_by(number, n, m, values, present)
+    by_number::taken_by(number, n, m, values, present)
 }

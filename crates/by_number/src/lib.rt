@@ -1,0 +1,371 @@
+// Messages checked, read and written by the layout of their number.
+use layout::Written;
+use layouts::INT;
+use layouts::RANGE;
+ghost use mathlib.Core.Path.{_≡_};
+ghost use Prim.Native.Nat.{_+_, _≤_};
+ghost use mathlib.Core.List.{_++_, map};
+ghost use lib.ListN.{length, take};
+ghost use Rattle.layout.specs.Layout.{refusalOf, decodeRefusal, decodeAll, valueIn, presentIn, stored, rowTakes, rowOf, encodeRefusal, encodeAll, answered};
+ghost use Rattle.layouts.specs.Layouts.{names, counter, layout1025, layout1026, layout1027, layoutBy};
+ghost use Rattle.by_number.specs.Private.{Other};
+
+// DF002, DF143, which DF145 is as wide as, and a character of DF144 or DF146.
+const NUMBER: u64 = 12;
+
+const COUNTER: u64 = 5;
+
+const CHARACTER: u64 = 8;
+
+// DF152 and DF153: the origin of the area of validity.
+const LATITUDE: u64 = 162000 * RANGE + INT + 19;
+
+const LONGITUDE: u64 = 324000 * RANGE + INT + 20;
+
+// Behind the names of 1021.
+const TAIL_1021: [u64; 22] = [
+    8, // DF147
+    10, // DF148
+    5, // DF149
+    4, // DF150
+    2, // DF151
+    LATITUDE,
+    LONGITUDE,
+    14, // DF154
+    14, // DF155
+    INT + 23, // DF156
+    INT + 23, // DF157
+    INT + 23, // DF158
+    INT + 32, // DF159
+    INT + 32, // DF160
+    INT + 32, // DF161
+    INT + 25, // DF162
+    24, // DF166
+    25, // DF167
+    24, // DF168
+    25, // DF169
+    3, // DF214
+    3, // DF215
+];
+
+// Behind the names of 1022.
+const TAIL_1022: [u64; 25] = [
+    8, // DF147
+    10, // DF148
+    5, // DF149
+    4, // DF150
+    2, // DF151
+    LATITUDE,
+    LONGITUDE,
+    14, // DF154
+    14, // DF155
+    INT + 23, // DF156
+    INT + 23, // DF157
+    INT + 23, // DF158
+    INT + 32, // DF159
+    INT + 32, // DF160
+    INT + 32, // DF161
+    INT + 25, // DF162
+    INT + 35, // DF163
+    INT + 35, // DF164
+    INT + 35, // DF165
+    24, // DF166
+    25, // DF167
+    24, // DF168
+    25, // DF169
+    3, // DF214
+    3, // DF215
+];
+
+// A latitude, a longitude or an azimuth of a projection.
+const ANGLE_90: u64 = 8181818181 * RANGE + INT + 34;
+
+const ANGLE_180: u64 = 16363636363 * RANGE + INT + 35;
+
+const ANGLE_360: u64 = 32727272727 * RANGE + 35;
+
+const LAYOUT_1025: [u64; 8] = [
+    12, // DF002
+    8, // DF147
+    6, // DF170
+    ANGLE_90, // DF171
+    ANGLE_180, // DF172
+    30, // DF173
+    36, // DF174
+    INT + 35, // DF175
+];
+
+const LAYOUT_1026: [u64; 9] = [
+    12, // DF002
+    8, // DF147
+    6, // DF170
+    ANGLE_90, // DF176
+    ANGLE_180, // DF177
+    ANGLE_90, // DF178
+    ANGLE_90, // DF179
+    36, // DF180
+    INT + 35, // DF181
+];
+
+const LAYOUT_1027: [u64; 11] = [
+    12, // DF002
+    8, // DF147
+    6, // DF170
+    1, // DF182
+    ANGLE_90, // DF183
+    ANGLE_180, // DF184
+    ANGLE_360, // DF185
+    INT + 26, // DF186
+    30, // DF187
+    36, // DF188
+    INT + 35, // DF189
+];
+
+// The first bits of the fields with a declared range, and their entries.
+const STARTS_1025: [u64; 2] = [26, 60];
+
+const RANGED_1025: [u64; 2] = [ANGLE_90, ANGLE_180];
+
+const STARTS_1026: [u64; 4] = [26, 60, 95, 129];
+
+const RANGED_1026: [u64; 4] = [ANGLE_90, ANGLE_180, ANGLE_90, ANGLE_90];
+
+const STARTS_1027: [u64; 3] = [27, 61, 96];
+
+const RANGED_1027: [u64; 3] = [ANGLE_90, ANGLE_180, ANGLE_360];
+
+// A layout in the first entries.
+struct Plan {
+    entries: [u64; 96],
+    count: usize,
+}
+
+// src behind the first `at` entries: how many there are then.
+fn append(dst: &mut [u64], at: usize, src: &[u64]) -> usize
+    requires { ⌜ at + length (now src) ≤ length (now dst) ⌝ }
+    ensures { λ r. ⌜ (r ≡ at + length (now (src .entry))) × (take r (now (dst .exit)) ≡ take at (now (dst .entry)) ++ now (src .entry)) ⌝ }
+{
+    let mut k: usize = 0;
+    while k < src.len() {
+        let i = at + k;
+        dst[i] = src[k];
+        k += 1;
+    }
+    at + k
+}
+
+// The layout that starts with names of n and m characters and goes on with `tail`.
+fn named_plan(n: usize, m: usize, tail: &[u64]) -> Plan
+    requires { ⌜ (n ≤ 31) × ((m ≤ 31) × (length (now tail) ≤ 31)) ⌝ }
+    ensures { λ r. ⌜ (r .count ≤ 96) × ((length (r .entries) ≡ 96) × (take (r .count) (r .entries) ≡ names n m ++ now (tail .entry))) ⌝ }
+{
+    let mut e = [CHARACTER; 96];
+    e[0] = NUMBER;
+    e[1] = COUNTER;
+    let second = n + 2;
+    e[second] = COUNTER;
+    let count = append(&mut e, n + m + 3, tail);
+    Plan { entries: e, count }
+}
+
+// A name counter; 0 for a number that none has.
+fn counter_of(n: usize) -> usize
+    ensures { λ r. ⌜ (r ≡ counter n) × (r ≤ 31) ⌝ }
+{
+    if 31 < n {
+        return 0;
+    }
+    n
+}
+
+// The layout of 1021 or 1022 with names of n and m characters, or the layout of no field.
+fn other_plan(number: u64, n: usize, m: usize) -> Plan
+    requires { ⌜ Other number ⌝ }
+    ensures { λ r. ⌜ (r .count ≤ 96) × ((length (r .entries) ≡ 96) × (take (r .count) (r .entries) ≡ layoutBy number n m)) ⌝ }
+{
+    match number {
+        1021 => named_plan(counter_of(n), counter_of(m), &TAIL_1021),
+        1022 => named_plan(counter_of(n), counter_of(m), &TAIL_1022),
+        _ => Plan {
+            entries: [0u64; 96],
+            count: 0,
+        },
+    }
+}
+
+fn check_1025(s: &[u8]) -> u8
+    ensures { λ r. ⌜ r ≡ refusalOf layout1025 (now (s .entry)) ⌝ }
+{
+    layout::check_places(s, 196, &STARTS_1025, &RANGED_1025)
+}
+
+fn check_1026(s: &[u8]) -> u8
+    ensures { λ r. ⌜ r ≡ refusalOf layout1026 (now (s .entry)) ⌝ }
+{
+    layout::check_places(s, 234, &STARTS_1026, &RANGED_1026)
+}
+
+fn check_1027(s: &[u8]) -> u8
+    ensures { λ r. ⌜ r ≡ refusalOf layout1027 (now (s .entry)) ⌝ }
+{
+    layout::check_places(s, 258, &STARTS_1027, &RANGED_1027)
+}
+
+// Why s is no message of the layout of another number.
+fn check_other(s: &[u8], number: u64, n: usize, m: usize) -> u8
+    requires { ⌜ Other number ⌝ }
+    ensures { λ r. ⌜ r ≡ refusalOf (layoutBy number n m) (now (s .entry)) ⌝ }
+{
+    let p = other_plan(number, n, m);
+    let e = p.entries;
+    let k = p.count;
+    layout::check(s, &e[..k])
+}
+
+// Why s is no message of the layout of a number, with names of n and m characters where it carries names: 3 LENGTH, 4 FILL, 5 RANGE; or 0.
+pub fn check_by(s: &[u8], number: u64, n: usize, m: usize) -> u8
+    ensures { λ r. ⌜ r ≡ refusalOf (layoutBy number n m) (now (s .entry)) ⌝ }
+{
+    match number {
+        1023 => grid_layouts::check_1023(s),
+        1024 => grid_layouts::check_1024(s),
+        1025 => check_1025(s),
+        1026 => check_1026(s),
+        1027 => check_1027(s),
+        _ => check_other(s, number, n, m),
+    }
+}
+
+// What the fields of the layout say where r, why s is no message of it, is 0; or r, or 6 ROOM.
+fn decode_checked(r: u8, s: &[u8], layout: &[u64], values: &mut [i64], present: &mut [u8]) -> u8
+    requires { ⌜ r ≡ refusalOf (now layout) (now s) ⌝ }
+    ensures answer { λ r. ⌜ r ≡ decodeRefusal (now (layout .entry)) (now (s .entry)) (length (now (values .entry))) (length (now (present .entry))) ⌝ }
+    ensures values { λ r. ⌜ now (values .exit) ≡ stored (decodeRefusal (now (layout .entry)) (now (s .entry)) (length (now (values .entry))) (length (now (present .entry)))) (map valueIn (decodeAll (now (layout .entry)) 0 (now (s .entry)))) (now (values .entry)) ⌝ }
+    ensures present { λ r. ⌜ now (present .exit) ≡ stored (decodeRefusal (now (layout .entry)) (now (s .entry)) (length (now (values .entry))) (length (now (present .entry)))) (map presentIn (decodeAll (now (layout .entry)) 0 (now (s .entry)))) (now (present .entry)) ⌝ }
+{
+    if r != 0 {
+        return r;
+    }
+    if values.len() < layout.len() {
+        return 6;
+    }
+    if present.len() < layout.len() {
+        return 6;
+    }
+    load::read(s, 0, layout, values, present);
+    0
+}
+
+fn decode_1025(s: &[u8], values: &mut [i64], present: &mut [u8]) -> u8
+    ensures answer { λ r. ⌜ r ≡ decodeRefusal layout1025 (now (s .entry)) (length (now (values .entry))) (length (now (present .entry))) ⌝ }
+    ensures values { λ r. ⌜ now (values .exit) ≡ stored (decodeRefusal layout1025 (now (s .entry)) (length (now (values .entry))) (length (now (present .entry)))) (map valueIn (decodeAll layout1025 0 (now (s .entry)))) (now (values .entry)) ⌝ }
+    ensures present { λ r. ⌜ now (present .exit) ≡ stored (decodeRefusal layout1025 (now (s .entry)) (length (now (values .entry))) (length (now (present .entry)))) (map presentIn (decodeAll layout1025 0 (now (s .entry)))) (now (present .entry)) ⌝ }
+{
+    decode_checked(check_1025(s), s, &LAYOUT_1025, values, present)
+}
+
+fn decode_1026(s: &[u8], values: &mut [i64], present: &mut [u8]) -> u8
+    ensures answer { λ r. ⌜ r ≡ decodeRefusal layout1026 (now (s .entry)) (length (now (values .entry))) (length (now (present .entry))) ⌝ }
+    ensures values { λ r. ⌜ now (values .exit) ≡ stored (decodeRefusal layout1026 (now (s .entry)) (length (now (values .entry))) (length (now (present .entry)))) (map valueIn (decodeAll layout1026 0 (now (s .entry)))) (now (values .entry)) ⌝ }
+    ensures present { λ r. ⌜ now (present .exit) ≡ stored (decodeRefusal layout1026 (now (s .entry)) (length (now (values .entry))) (length (now (present .entry)))) (map presentIn (decodeAll layout1026 0 (now (s .entry)))) (now (present .entry)) ⌝ }
+{
+    decode_checked(check_1026(s), s, &LAYOUT_1026, values, present)
+}
+
+fn decode_1027(s: &[u8], values: &mut [i64], present: &mut [u8]) -> u8
+    ensures answer { λ r. ⌜ r ≡ decodeRefusal layout1027 (now (s .entry)) (length (now (values .entry))) (length (now (present .entry))) ⌝ }
+    ensures values { λ r. ⌜ now (values .exit) ≡ stored (decodeRefusal layout1027 (now (s .entry)) (length (now (values .entry))) (length (now (present .entry)))) (map valueIn (decodeAll layout1027 0 (now (s .entry)))) (now (values .entry)) ⌝ }
+    ensures present { λ r. ⌜ now (present .exit) ≡ stored (decodeRefusal layout1027 (now (s .entry)) (length (now (values .entry))) (length (now (present .entry)))) (map presentIn (decodeAll layout1027 0 (now (s .entry)))) (now (present .entry)) ⌝ }
+{
+    decode_checked(check_1027(s), s, &LAYOUT_1027, values, present)
+}
+
+// The same of another number.
+fn decode_other(
+    s: &[u8],
+    number: u64,
+    n: usize,
+    m: usize,
+    values: &mut [i64],
+    present: &mut [u8],
+) -> u8
+    requires { ⌜ Other number ⌝ }
+    ensures answer { λ r. ⌜ r ≡ decodeRefusal (layoutBy number n m) (now (s .entry)) (length (now (values .entry))) (length (now (present .entry))) ⌝ }
+    ensures values { λ r. ⌜ now (values .exit) ≡ stored (decodeRefusal (layoutBy number n m) (now (s .entry)) (length (now (values .entry))) (length (now (present .entry)))) (map valueIn (decodeAll (layoutBy number n m) 0 (now (s .entry)))) (now (values .entry)) ⌝ }
+    ensures present { λ r. ⌜ now (present .exit) ≡ stored (decodeRefusal (layoutBy number n m) (now (s .entry)) (length (now (values .entry))) (length (now (present .entry)))) (map presentIn (decodeAll (layoutBy number n m) 0 (now (s .entry)))) (now (present .entry)) ⌝ }
+{
+    let p = other_plan(number, n, m);
+    let e = p.entries;
+    let k = p.count;
+    let r = layout::check(s, &e[..k]);
+    decode_checked(r, s, &e[..k], values, present)
+}
+
+// What the fields of a message of that layout say, into the first places of both buffers; or why not: as check_by, then 6 ROOM.
+pub fn decode_by(
+    s: &[u8],
+    number: u64,
+    n: usize,
+    m: usize,
+    values: &mut [i64],
+    present: &mut [u8],
+) -> u8
+    ensures answer { λ r. ⌜ r ≡ decodeRefusal (layoutBy number n m) (now (s .entry)) (length (now (values .entry))) (length (now (present .entry))) ⌝ }
+    ensures values { λ r. ⌜ now (values .exit) ≡ stored (decodeRefusal (layoutBy number n m) (now (s .entry)) (length (now (values .entry))) (length (now (present .entry)))) (map valueIn (decodeAll (layoutBy number n m) 0 (now (s .entry)))) (now (values .entry)) ⌝ }
+    ensures present { λ r. ⌜ now (present .exit) ≡ stored (decodeRefusal (layoutBy number n m) (now (s .entry)) (length (now (values .entry))) (length (now (present .entry)))) (map presentIn (decodeAll (layoutBy number n m) 0 (now (s .entry)))) (now (present .entry)) ⌝ }
+{
+    match number {
+        1023 => grid_layouts::decode_1023(s, values, present),
+        1024 => grid_layouts::decode_1024(s, values, present),
+        1025 => decode_1025(s, values, present),
+        1026 => decode_1026(s, values, present),
+        1027 => decode_1027(s, values, present),
+        _ => decode_other(s, number, n, m, values, present),
+    }
+}
+
+// Whether each field of that layout takes its place of a row.
+pub fn taken_by(number: u64, n: usize, m: usize, values: &[i64], present: &[u8]) -> bool
+    ensures { λ r. ⌜ r ≡ rowTakes (layoutBy number n m) (now (values .entry)) (now (present .entry)) ⌝ }
+{
+    match number {
+        1023 => grid_layouts::taken_1023(values, present),
+        1024 => grid_layouts::taken_1024(values, present),
+        1025 => layout::row_taken(&LAYOUT_1025, values, present),
+        1026 => layout::row_taken(&LAYOUT_1026, values, present),
+        1027 => layout::row_taken(&LAYOUT_1027, values, present),
+        _ => {
+            let p = other_plan(number, n, m);
+            let e = p.entries;
+            let k = p.count;
+            layout::row_taken(&e[..k], values, present)
+        }
+    }
+}
+
+// The message of a row of that layout in the first bytes of out, or 5 RANGE, 6 ROOM.
+pub fn encode_by(
+    number: u64,
+    n: usize,
+    m: usize,
+    values: &[i64],
+    present: &[u8],
+    out: &mut [u8],
+) -> Written
+    ensures answer { λ r. ⌜ r ≡ answered (encodeRefusal (layoutBy number n m) (now (values .entry)) (now (present .entry)) (length (now (out .entry)))) (encodeAll (layoutBy number n m) (rowOf (now (values .entry)) (now (present .entry)))) ⌝ }
+    ensures output { λ r. ⌜ now (out .exit) ≡ stored (encodeRefusal (layoutBy number n m) (now (values .entry)) (now (present .entry)) (length (now (out .entry)))) (encodeAll (layoutBy number n m) (rowOf (now (values .entry)) (now (present .entry)))) (now (out .entry)) ⌝ }
+{
+    match number {
+        1023 => grid_layouts::encode_1023(values, present, out),
+        1024 => grid_layouts::encode_1024(values, present, out),
+        1025 => layout::encode(&LAYOUT_1025, values, present, out),
+        1026 => layout::encode(&LAYOUT_1026, values, present, out),
+        1027 => layout::encode(&LAYOUT_1027, values, present, out),
+        _ => {
+            let p = other_plan(number, n, m);
+            let e = p.entries;
+            let k = p.count;
+            layout::encode(&e[..k], values, present, out)
+        }
+    }
+}
