@@ -24,7 +24,7 @@ fn message_in(line: &str) -> Option<Vec<u8>> {
         return Some(Vec::new());
     }
     let digits: Vec<u8> = line.bytes().map(digit).collect::<Option<_>>()?;
-    let whole = !digits.is_empty() && digits.len() % 2 == 0 && digits.len() <= 2 * LONGEST_MESSAGE;
+    let whole = !digits.is_empty() && digits.len().is_multiple_of(2) && digits.len() <= 2 * LONGEST_MESSAGE;
     whole.then(|| digits.chunks(2).map(|pair| 16 * pair[0] + pair[1]).collect())
 }
 

@@ -91,6 +91,15 @@ fn message_of(random: &mut Random, grid: &Grid) -> Vec<u8> {
     }
 }
 
+/// A component, one in twelve times 3 or any number.
+fn any_component(random: &mut Random) -> u8 {
+    match random.below(24) {
+        0 => 3,
+        1 => random.bits() as u8,
+        _ => random.below(3) as u8,
+    }
+}
+
 /// A list of points as the two buffers of the call.
 fn ask(message: Vec<u8>, component: u8, points: &[Point]) -> Ask {
     let [north, east] = [0, 1].map(|axis| points.iter().map(|point| point[axis]).collect());
@@ -144,13 +153,13 @@ fn words(ask: &Ask) -> String {
     format!("{} component {} north {} east {}", hex(&ask.message), ask.component, shown(&ask.north), shown(&ask.east))
 }
 
-/// Compares one report, one in twelve with another component and one in twelve with counts that may differ.
+/// Compares one report, one in twelve with counts that may differ.
 pub fn compare_report(random: &mut Random, turn: u64) -> Compared {
     let grid = grid_of(random, turn);
     let count = any_count(random, turn);
     let points = any_list(random, &grid, turn / LISTS, count);
     let message = message_of(random, &grid);
-    let component = if random.below(12) == 0 { random.bits() as u8 } else { random.below(3) as u8 };
+    let component = any_component(random);
     let mut ask = ask(message, component, &points);
     if random.below(12) == 0 {
         ask = other_count(random, ask);
