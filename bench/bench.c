@@ -60,12 +60,13 @@ const baseline LIBRARY = {.name = "library",
                           .write_frame = tarnoklej_write_frame,
                           .find_two_fields = tarnoklej_find,
                           .find_by_walk = tarnoklej_find,
-                          .datum_step = tarnoklej_datum_step};
+                          .datum_step = tarnoklej_datum_step,
+                          .report_points = tarnoklej_report_points};
 
 /* All that are timed, the library first. */
-enum { TIMED = 7 };
-static const baseline *const ALL[TIMED] = {&LIBRARY,   &BIT_BY_BIT, &ONE_LOAD,    &CALL_AT_EACH_PLACE,
-                                           &ADDITIONS, &UNCHECKED,  &TABLE_OF_256};
+enum { TIMED = 8 };
+static const baseline *const ALL[TIMED] = {&LIBRARY,   &BIT_BY_BIT, &ONE_LOAD,     &CALL_AT_EACH_PLACE,
+                                           &ADDITIONS, &UNCHECKED,  &TABLE_OF_256, &DOUBLES};
 
 static uint64_t run_read(const baseline *by, size_t turn, size_t size)
 {
@@ -305,7 +306,8 @@ static const call CALLS[] = {
 };
 
 enum { CALLS_COUNT = sizeof CALLS / sizeof *CALLS, BEFORE_FRAMES = CALLS_COUNT + ROW_CALLS_COUNT };
-enum { BEFORE_DATUM = BEFORE_FRAMES + FRAME_CALLS_COUNT, ALL_CALLS = BEFORE_DATUM + DATUM_CALLS_COUNT };
+enum { BEFORE_DATUM = BEFORE_FRAMES + FRAME_CALLS_COUNT, BEFORE_REPORTS = BEFORE_DATUM + DATUM_CALLS_COUNT };
+enum { ALL_CALLS = BEFORE_REPORTS + REPORT_CALLS_COUNT };
 
 /* One of all calls. */
 static const call *call_at(size_t i)
@@ -314,7 +316,9 @@ static const call *call_at(size_t i)
         return &CALLS[i];
     if (i < BEFORE_FRAMES)
         return &ROW_CALLS[i - CALLS_COUNT];
-    return i < BEFORE_DATUM ? &FRAME_CALLS[i - BEFORE_FRAMES] : &DATUM_CALLS[i - BEFORE_DATUM];
+    if (i < BEFORE_DATUM)
+        return &FRAME_CALLS[i - BEFORE_FRAMES];
+    return i < BEFORE_REPORTS ? &DATUM_CALLS[i - BEFORE_DATUM] : &REPORT_CALLS[i - BEFORE_REPORTS];
 }
 
 /* By splitmix64. */
@@ -419,6 +423,8 @@ static int has(const baseline *by, subject on)
         return by->find_frame != NULL;
     case ON_DATUM:
         return by->datum_step != NULL;
+    case ON_REPORTS:
+        return by->report_points != NULL;
     default:
         return by->read != NULL;
     }
@@ -533,6 +539,7 @@ int main(void)
     make_rows();
     make_frames();
     make_datum();
+    make_reports();
     for_all_calls(check_answers, nanoseconds);
     for (int pass = 0; pass < PASSES; pass++)
         for_all_calls(time_call, nanoseconds);

@@ -4,7 +4,7 @@
  * Every call ends with an answer for every input, keeps nothing between calls and allocates nothing.
  * A refusal number says why a call was refused; refusals are tested in the order given at each call.
  * No pointer may be null, not even where its length is 0, and no buffer that a call writes may overlap another.
- * Every buffer must be memory of at least the length given with it, and values and row must be aligned as an int64_t is.
+ * Every buffer must be memory of at least the length given with it, and one of int64_t must be aligned as an int64_t is.
  *
  * A row holds the fields of a message in wire order, DF002 first, in two buffers side by side: values and present.
  * Where a field has a value, present is 1; where it has none, that is where it is not available, present is 0 and its
@@ -24,7 +24,8 @@ enum {
     TARNOKLEJ_DONE = 0,
     TARNOKLEJ_SHORT = 1,      /* under 2 bytes */
     TARNOKLEJ_NUMBER = 2,     /* not 1021 to 1027 */
-    TARNOKLEJ_LENGTH = 3,     /* not the length called for, a name counter cannot be read, or too long for a frame */
+    TARNOKLEJ_LENGTH = 3,     /* not the length called for, a name counter cannot be read, or too long for a frame;
+                                 a report of too many points, or of counts that differ */
     TARNOKLEJ_FILL = 4,       /* a fill bit is set */
     TARNOKLEJ_RANGE = 5,      /* a field outside its range or width, or buffers that are no row of a message */
     TARNOKLEJ_ROOM = 6,       /* an output shorter than the message, its row or its frame, or than a row of shifts */
@@ -62,6 +63,7 @@ enum {
     TARNOKLEJ_FRAME_HEAD = 3,     /* bytes of a frame before its message: D3, six zero bits, a ten-bit length */
     TARNOKLEJ_FRAME_TAIL = 3,     /* bytes of a frame behind its message: the CRC-24Q of all before */
     TARNOKLEJ_MOST_FRAMED = 1023, /* bytes of the longest message that a frame holds */
+    TARNOKLEJ_MOST_POINTS = 10000, /* points of the longest report */
     TARNOKLEJ_MOST_PLACES = 4096  /* places of the longest row of shifts */
 };
 
@@ -85,6 +87,14 @@ typedef struct { uint8_t refusal; size_t length; } tarnoklej_written;
 typedef struct { uint8_t refusal; size_t at; size_t length; uint8_t probes; } tarnoklej_found;
 typedef struct { uint8_t refusal; size_t at; size_t length; } tarnoklej_frame; /* at: the place of D3, with NEED too */
 typedef struct { uint8_t refusal; int64_t x, y, z; } tarnoklej_position;
+typedef struct {
+    uint8_t refusal;
+    uint64_t answered;                       /* points answered */
+    uint64_t refused[15];                    /* points refused under each number, that of number n at n - 1 */
+    int64_t smallest, greatest;              /* the smallest and the greatest count, 0 where no point is answered */
+    uint64_t smallest_place, greatest_place; /* their first places, from 1, 0 where no point is answered */
+    int64_t sum;                             /* the sum of the counts */
+} tarnoklej_report;
 
 /* The shifts at a position: three parts, each a shift in arc seconds or metres, its count and its refusal number.
  * A refused part reads 0.0 and count 0.
@@ -256,6 +266,18 @@ tarnoklej_position tarnoklej_datum_step(const uint8_t *message, size_t message_l
 tarnoklej_written tarnoklej_write_heights(const int64_t *values, size_t values_count, const uint8_t *present,
                                           size_t present_count, const int64_t *wanted, size_t wanted_count,
                                           uint8_t *out, size_t room);
+
+/* Gives the numbers of one component over many points: how many are answered, how many refused under each number from 1
+ * to 15, the smallest and the greatest count with their first places, and the sum of the counts.
+ * Point i stands at north[i], east[i], and its place is i + 1. It is answered or refused as that component's part of
+ * tarnoklej_shifts_at there; positions, systems and counts are those of that call. A message that is refused is counted
+ * at each point. Answered and refused together are the points given.
+ * Refusals in order: COMPONENT, LENGTH where north_count and east_count differ or are above TARNOKLEJ_MOST_POINTS.
+ * Buffers: message, north and east are only read.
+ */
+tarnoklej_report tarnoklej_report_points(const uint8_t *message, size_t message_length, uint8_t component,
+                                         const int64_t *north, size_t north_count, const int64_t *east,
+                                         size_t east_count);
 
 /* Positions in a row by DF number: position, field, type, resolution, name.
  * N is the value at position 1, M the value at position 2+N; i is 0 to 15 for nodes 1 to 16.

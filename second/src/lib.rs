@@ -1,6 +1,6 @@
 //! An independent second program for RTCM messages 1021 to 1027.
 //!
-//! It is written from document 01, from requests A1, A2, A3, A5 to A9, A11 and A12 of document 02, from source documents 000,
+//! It is written from document 01, from requests A1, A2, A3 and A5 to A12 of document 02, from source documents 000,
 //! 003 and 004, and from docs/DECISIONS.md where these leave a choice. It shares no code with the proved library.
 
 pub mod bits;
@@ -31,6 +31,9 @@ pub mod random;
 pub mod record;
 pub mod recording;
 pub mod refusal;
+pub mod report;
+pub mod report_program;
+pub mod reportsamples;
 pub mod rows;
 pub mod samples;
 pub mod selfcheck;
@@ -40,6 +43,7 @@ pub mod selfcheck_grid;
 pub mod selfcheck_heights;
 pub mod selfcheck_index;
 pub mod selfcheck_nones;
+pub mod selfcheck_report;
 pub mod selfcheck_rows;
 pub mod selfcheck_table;
 pub mod services;

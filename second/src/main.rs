@@ -1,14 +1,15 @@
 //! The command line of the second program.
 
 use second::{
-    datumsamples, example, figures, frames, heights_example, page, papers, positions, selfcheck, services, vectors,
+    datumsamples, example, figures, frames, heights_example, page, papers, positions, report_program, reportsamples,
+    selfcheck, services, vectors,
 };
 use std::io::Read;
 use std::path::Path;
 use std::process::ExitCode;
 
 /// What the program can be asked for.
-const USAGE: &str = "second selfcheck | papers FILE | fields | positions | example LIST | vectors OUTDIR [--shift] [--table] [--frame] [--row] [--heights] | services DIR | figures DIR | identify | frames | datum SETS POSITIONS | heights LIST";
+const USAGE: &str = "second selfcheck | papers FILE | fields | positions | example LIST | vectors OUTDIR [--shift] [--table] [--frame] [--row] [--heights] | services DIR | figures DIR | identify | frames | datum SETS POSITIONS | heights LIST | report | reports DIR";
 
 /// Success or failure from a truth value.
 fn exit(good: bool) -> ExitCode {
@@ -75,6 +76,8 @@ fn run(arguments: &[String]) -> std::io::Result<bool> {
         ["frames"] => print(&frames::listing(&standard_input()?)),
         ["datum", sets, positions] => print(&datumsamples::list(count(sets)?, count(positions)?)),
         ["heights", list] => print(&heights_example::all(&std::fs::read_to_string(list)?)?),
+        ["report"] => print(&report_program::printed(&standard_input()?)),
+        ["reports", dir] => reportsamples::write(Path::new(dir)).map(|()| true),
         _ => {
             eprintln!("{USAGE}");
             Ok(false)

@@ -88,6 +88,28 @@ pub struct Position {
     pub z: i64,
 }
 
+/// The answer of `tarnoklej_report_points`.
+#[repr(C)]
+#[derive(Clone, Copy, PartialEq, Eq, Debug)]
+pub struct Report {
+    /// The refusal number, 0 where the call is done.
+    pub refusal: u8,
+    /// Points answered.
+    pub answered: u64,
+    /// Points refused under each number from 1 to 15.
+    pub refused: [u64; 15],
+    /// The smallest count.
+    pub smallest: i64,
+    /// The greatest count.
+    pub greatest: i64,
+    /// The first place of the smallest count, from 1.
+    pub smallest_place: u64,
+    /// The first place of the greatest count, from 1.
+    pub greatest_place: u64,
+    /// The sum of the counts.
+    pub sum: i64,
+}
+
 extern "C" {
     /// Gives number, length and system identification number of a message.
     pub fn tarnoklej_read(message: *const u8, message_length: usize) -> Header;
@@ -174,4 +196,14 @@ extern "C" {
         out: *mut u8,
         room: usize,
     ) -> Written;
+    /// Gives the numbers of one component over many points.
+    pub fn tarnoklej_report_points(
+        message: *const u8,
+        message_length: usize,
+        component: u8,
+        north: *const i64,
+        north_count: usize,
+        east: *const i64,
+        east_count: usize,
+    ) -> Report;
 }

@@ -10,7 +10,7 @@ pub enum Refusal {
     Short = 1,
     /// Not 1021 to 1027.
     Number = 2,
-    /// Not exactly the length called for, a name counter cannot be read, or too long for a frame.
+    /// Not exactly the length called for, a name counter cannot be read, or too long for a frame; a report of too many points.
     Length = 3,
     /// A fill bit is set.
     Fill = 4,

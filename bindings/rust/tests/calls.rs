@@ -90,6 +90,7 @@ fn the_header_names_the_same_numbers() {
         ("MOST_PROBES", MOST_PROBES as usize),
         ("MOST_BYTES", MOST_BYTES),
         ("MOST_FIELDS", MOST_FIELDS),
+        ("MOST_POINTS", MOST_POINTS),
     ];
     let refusals = Refusal::ALL.map(|(refusal, name)| (name, refusal.number() as usize));
     for (name, number) in refusals.into_iter().chain(sizes) {

@@ -5,6 +5,7 @@ mod framing;
 mod heights;
 mod messages;
 mod reading;
+mod reports;
 mod rows;
 mod shifting;
 mod tables;
@@ -29,7 +30,8 @@ type Single = fn(&mut Random, u64) -> Compared;
 
 /// The calls that keep nothing, with the refusal numbers each can give.
 /// E180 and W180 are shifts_at on grids across 180 degrees, at positions east and west of Greenwich; 180 is shift_row there.
-const SINGLES: [(&str, &[u8], Single); 12] = [
+/// Under report_points stand the reports' own numbers, under points those of each point of short ones.
+const SINGLES: [(&str, &[u8], Single); 14] = [
     ("read", &[0, 1, 2, 3, 4, 5], reading::compare_header),
     ("read_fields", &[0, 1, 2, 3, 4, 5, 6], reading::compare_row),
     ("write_fields", &[0, 5, 6], writing::compare_written),
@@ -42,6 +44,8 @@ const SINGLES: [(&str, &[u8], Single); 12] = [
     ("write_frame", &[0, 3, 6], framing::compare_framed),
     ("datum_step", &[0, 1, 2, 3, 4, 5, 7, 9, 11, 15], datum::compare_step),
     ("write_heights", &[0, 5, 6, 10, 11, 12, 13, 23], heights::compare_written),
+    ("report_points", &[0, 3, 8], reports::compare_report),
+    ("report, points", &[0, 1, 2, 3, 4, 5, 7, 9, 10, 11, 12, 13, 14, 15], reports::compare_points),
 ];
 
 /// The refusal numbers that the shifts of a sound grid message can give.
