@@ -50,6 +50,7 @@ pub fn groups() -> Vec<Group> {
     groups.extend(crate::selfcheck_datum::groups());
     groups.extend(crate::selfcheck_index::groups());
     groups.extend(crate::selfcheck_heights::groups());
+    groups.extend(crate::selfcheck_answers::groups());
     groups
 }
 

@@ -6,6 +6,7 @@ mod heights;
 mod messages;
 mod reading;
 mod rows;
+mod samples;
 mod shifting;
 mod tables;
 mod tally;
@@ -29,7 +30,7 @@ type Single = fn(&mut Random, u64) -> Compared;
 
 /// The calls that keep nothing, with the refusal numbers each can give.
 /// E180 and W180 are shifts_at on grids across 180 degrees, at positions east and west of Greenwich; 180 is shift_row there.
-const SINGLES: [(&str, &[u8], Single); 12] = [
+const SINGLES: [(&str, &[u8], Single); 14] = [
     ("read", &[0, 1, 2, 3, 4, 5], reading::compare_header),
     ("read_fields", &[0, 1, 2, 3, 4, 5, 6], reading::compare_row),
     ("write_fields", &[0, 5, 6], writing::compare_written),
@@ -42,6 +43,8 @@ const SINGLES: [(&str, &[u8], Single); 12] = [
     ("write_frame", &[0, 3, 6], framing::compare_framed),
     ("datum_step", &[0, 1, 2, 3, 4, 5, 7, 9, 11, 15], datum::compare_step),
     ("write_heights", &[0, 5, 6, 10, 11, 12, 13, 23], heights::compare_written),
+    ("write_samples", &[0, 1, 2, 3, 4, 5, 6, 7, 8, 9, 10, 11, 12, 13, 14, 15], samples::compare_written),
+    ("check_samples", &[0, 1, 2, 3, 4, 5, 7, 24, 25], samples::compare_checked),
 ];
 
 /// The refusal numbers that the shifts of a sound grid message can give.
