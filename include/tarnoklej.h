@@ -25,10 +25,11 @@ enum {
     TARNOKLEJ_SHORT = 1,      /* under 2 bytes */
     TARNOKLEJ_NUMBER = 2,     /* not 1021 to 1027 */
     TARNOKLEJ_LENGTH = 3,     /* not the length called for, a name counter cannot be read, or too long for a frame;
-                                 a report of too many points, or of counts that differ */
+                                 points of a report or of sample answers that are too many, or whose counts differ */
     TARNOKLEJ_FILL = 4,       /* a fill bit is set */
     TARNOKLEJ_RANGE = 5,      /* a field outside its range or width, or buffers that are no row of a message */
-    TARNOKLEJ_ROOM = 6,       /* an output shorter than the message, its row or its frame, or than a row of shifts */
+    TARNOKLEJ_ROOM = 6,       /* an output shorter than the message, its row or its frame, than a row of shifts, or than
+                                 a file of sample answers */
     TARNOKLEJ_KIND = 7,       /* a grid call on a message other than 1023 or 1024, a datum step on another than 1021 */
     TARNOKLEJ_COMPONENT = 8,  /* not 0 to 2 */
     TARNOKLEJ_POSITION = 9,   /* 1023: beyond +-3,240,000,000 or +-6,480,000,000; 1024: either beyond +-10^12;
@@ -47,7 +48,9 @@ enum {
     TARNOKLEJ_NOFRAME = 20,   /* neither a frame nor an unfinished one, or a start past the end */
     TARNOKLEJ_OWNER = 21,     /* an owner other than 1 or 2 */
     TARNOKLEJ_INDEX = 22,     /* the index has a wrong size or does not agree with the table */
-    TARNOKLEJ_NOMEAN = 23     /* no mean from which every wanted height is at most 255 mm away */
+    TARNOKLEJ_NOMEAN = 23,    /* no mean from which every wanted height is at most 255 mm away */
+    TARNOKLEJ_LAYOUT = 24,    /* a file of sample answers of another shape */
+    TARNOKLEJ_CLAIM = 25      /* a point of a file of sample answers that is refused, or has another count */
 };
 
 /* Sizes. */
@@ -64,7 +67,10 @@ enum {
     TARNOKLEJ_FRAME_TAIL = 3,     /* bytes of a frame behind its message: the CRC-24Q of all before */
     TARNOKLEJ_MOST_FRAMED = 1023, /* bytes of the longest message that a frame holds */
     TARNOKLEJ_MOST_POINTS = 10000, /* points of the longest report */
-    TARNOKLEJ_MOST_PLACES = 4096  /* places of the longest row of shifts */
+    TARNOKLEJ_MOST_PLACES = 4096, /* places of the longest row of shifts */
+    TARNOKLEJ_SAMPLES_HEAD = 3,   /* bytes of a file of sample answers before its message */
+    TARNOKLEJ_SAMPLE_SIZE = 28,   /* bytes of a point in such a file */
+    TARNOKLEJ_MOST_SAMPLES = 1000 /* points of such a file */
 };
 
 /* The components of a shift. */
@@ -81,7 +87,7 @@ enum {
     TARNOKLEJ_PROJECTION = 2      /* 1025, 1026 and 1027 */
 };
 
-/* With a refusal all other members of these are 0, but for the place that a frame's NEED carries. */
+/* With a refusal all other members of these are 0, but for the place that NEED and CLAIM carry. */
 typedef struct { uint8_t refusal; uint16_t number; uint8_t sin; size_t length; } tarnoklej_header;
 typedef struct { uint8_t refusal; size_t length; } tarnoklej_written;
 typedef struct { uint8_t refusal; size_t at; size_t length; uint8_t probes; } tarnoklej_found;
@@ -95,6 +101,7 @@ typedef struct {
     uint64_t smallest_place, greatest_place; /* their first places, from 1, 0 where no point is answered */
     int64_t sum;                             /* the sum of the counts */
 } tarnoklej_report;
+typedef struct { uint8_t refusal; size_t place; } tarnoklej_checked; /* place: of the first bad point, with CLAIM */
 
 /* The shifts at a position: three parts, each a shift in arc seconds or metres, its count and its refusal number.
  * A refused part reads 0.0 and count 0.
@@ -278,6 +285,33 @@ tarnoklej_written tarnoklej_write_heights(const int64_t *values, size_t values_c
 tarnoklej_report tarnoklej_report_points(const uint8_t *message, size_t message_length, uint8_t component,
                                          const int64_t *north, size_t north_count, const int64_t *east,
                                          size_t east_count);
+
+/* Writes a file of sample answers, as a vendor sends it with an add-on, and gives its length in bytes.
+ * The file is tagged fields: one byte tag, two bytes length, high byte first, and the contents. First comes tag 1, the
+ * grid message; then for each point tag 2 with 25 bytes: its component, its position north and east, and its count, the
+ * last three in 8 bytes two's complement, high byte first. docs/SAMPLES.md has a file byte by byte.
+ * Points are three buffers side by side, each at most 1,000: components, north and east. A count is that component's
+ * count of tarnoklej_shifts_at at the position; components, positions and systems are those of that call. The file has
+ * TARNOKLEJ_SAMPLES_HEAD + message_length bytes and TARNOKLEJ_SAMPLE_SIZE for each point, and tarnoklej_check_samples
+ * accepts it.
+ * Refusals in order: SHORT, NUMBER, LENGTH, FILL, RANGE, KIND of the message; LENGTH where the three counts differ; of the
+ * first refused point COMPONENT where its component is not 0 to 2, POSITION, OFF, METHOD, ORIGIN, SPACING, OUTSIDE,
+ * ABSENT; LENGTH where there are more than 1,000 points; ROOM where room is less than the file's bytes.
+ * Buffers: message, components, north and east are only read; the first bytes of out hold the file and the rest keep
+ * theirs; with a refusal all of out keeps its bytes.
+ */
+tarnoklej_written tarnoklej_write_samples(const uint8_t *message, size_t message_length, const uint8_t *components,
+                                          size_t components_count, const int64_t *north, size_t north_count,
+                                          const int64_t *east, size_t east_count, uint8_t *out, size_t room);
+
+/* Checks a file of sample answers: it is accepted where its shape and its grid message are right and every point is
+ * answered with the count that it claims.
+ * Refusals in order: LAYOUT where the file is anything but one field of tag 1 and at most 1,000 of tag 2 with 25 bytes
+ * behind it; SHORT, NUMBER, LENGTH, FILL, RANGE, KIND of the message; CLAIM where a point is refused or has another
+ * count. With CLAIM, place is that of the first such point, counted from 1.
+ * Buffers: file is only read.
+ */
+tarnoklej_checked tarnoklej_check_samples(const uint8_t *file, size_t size);
 
 /* Positions in a row by DF number: position, field, type, resolution, name.
  * N is the value at position 1, M the value at position 2+N; i is 0 to 15 for nodes 1 to 16.

@@ -1,8 +1,13 @@
 //! An independent second program for RTCM messages 1021 to 1027.
 //!
-//! It is written from document 01, from requests A1, A2, A3 and A5 to A12 of document 02, from source documents 000,
+//! It is written from document 01, from requests A1, A2, A3 and A5 to A13 of document 02, from source documents 000,
 //! 003 and 004, and from docs/DECISIONS.md where these leave a choice. It shares no code with the proved library.
 
+pub mod answers;
+pub mod answers_program;
+pub mod answers_table;
+pub mod answers_trials;
+pub mod answersamples;
 pub mod bits;
 pub mod damage;
 pub mod datum;
@@ -37,6 +42,7 @@ pub mod reportsamples;
 pub mod rows;
 pub mod samples;
 pub mod selfcheck;
+pub mod selfcheck_answers;
 pub mod selfcheck_datum;
 pub mod selfcheck_frame;
 pub mod selfcheck_grid;

@@ -1,15 +1,15 @@
 //! The command line of the second program.
 
 use second::{
-    datumsamples, example, figures, frames, heights_example, page, papers, positions, report_program, reportsamples,
-    selfcheck, services, vectors,
+    answers_program, answers_table, answers_trials, datumsamples, example, figures, frames, heights_example, page,
+    papers, positions, report_program, reportsamples, selfcheck, services, vectors,
 };
-use std::io::Read;
+use std::io::{Read, Write};
 use std::path::Path;
 use std::process::ExitCode;
 
 /// What the program can be asked for.
-const USAGE: &str = "second selfcheck | papers FILE | fields | positions | example LIST | vectors OUTDIR [--shift] [--table] [--frame] [--row] [--heights] | services DIR | figures DIR | identify | frames | datum SETS POSITIONS | heights LIST | report | reports DIR";
+const USAGE: &str = "second selfcheck | papers FILE | fields | positions | example LIST | vectors OUTDIR [--shift] [--table] [--frame] [--row] [--heights] | services DIR | figures DIR | identify | frames | datum SETS POSITIONS | heights LIST | report | reports DIR | samples | write_samples | samples_table | samples_trials DIR";
 
 /// Success or failure from a truth value.
 fn exit(good: bool) -> ExitCode {
@@ -48,6 +48,15 @@ fn print(text: &str) -> std::io::Result<bool> {
     Ok(true)
 }
 
+/// Writes the file of sample answers of a text to standard output, or why there is none to standard error.
+fn write_samples(text: &[u8]) -> std::io::Result<bool> {
+    match answers_program::written(text) {
+        Ok(file) => std::io::stdout().write_all(&file)?,
+        Err(line) => eprint!("{line}"),
+    }
+    Ok(true)
+}
+
 /// The whole standard input.
 fn standard_input() -> std::io::Result<Vec<u8>> {
     let mut input = Vec::new();
@@ -78,6 +87,10 @@ fn run(arguments: &[String]) -> std::io::Result<bool> {
         ["heights", list] => print(&heights_example::all(&std::fs::read_to_string(list)?)?),
         ["report"] => print(&report_program::printed(&standard_input()?)),
         ["reports", dir] => reportsamples::write(Path::new(dir)).map(|()| true),
+        ["samples"] => print(&answers_program::checked_line(&standard_input()?)),
+        ["write_samples"] => write_samples(&standard_input()?),
+        ["samples_table"] => print(&answers_table::table(&standard_input()?)?),
+        ["samples_trials", dir] => answers_trials::write(Path::new(dir)).map(|()| true),
         _ => {
             eprintln!("{USAGE}");
             Ok(false)

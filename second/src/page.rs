@@ -27,7 +27,7 @@ fn messages(field: &Field) -> String {
 }
 
 /// A whole number with commas between its thousands.
-fn grouped(value: i64) -> String {
+pub fn grouped(value: i64) -> String {
     let digits = value.abs().to_string();
     let first = digits.len() % 3;
     let mut parts: Vec<&str> = if first > 0 { vec![&digits[..first]] } else { vec![] };

@@ -49,6 +49,10 @@ pub enum Refusal {
     Index = 22,
     /// No mean fits the wanted heights.
     NoMean = 23,
+    /// A file of sample answers of another shape.
+    Layout = 24,
+    /// A point of a file of sample answers that is refused or has another count.
+    Claim = 25,
 }
 
 impl Refusal {

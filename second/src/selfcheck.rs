@@ -51,6 +51,7 @@ pub fn groups() -> Vec<Group> {
     groups.extend(crate::selfcheck_index::groups());
     groups.extend(crate::selfcheck_heights::groups());
     groups.extend(crate::selfcheck_report::groups());
+    groups.extend(crate::selfcheck_answers::groups());
     groups
 }
 

@@ -14,13 +14,13 @@ pub struct Header {
     pub length: usize,
 }
 
-/// The answer of `tarnoklej_write_fields`, `tarnoklej_write_frame` and `tarnoklej_write_heights`.
+/// The answer of `tarnoklej_write_fields`, `tarnoklej_write_frame`, `tarnoklej_write_heights` and `tarnoklej_write_samples`.
 #[repr(C)]
 #[derive(Clone, Copy, PartialEq, Eq, Debug)]
 pub struct Written {
     /// The refusal number, 0 where the call is done.
     pub refusal: u8,
-    /// The length of the message or frame written, in bytes.
+    /// The length of the message, frame or file written, in bytes.
     pub length: usize,
 }
 
@@ -108,6 +108,16 @@ pub struct Report {
     pub greatest_place: u64,
     /// The sum of the counts.
     pub sum: i64,
+}
+
+/// The answer of `tarnoklej_check_samples`.
+#[repr(C)]
+#[derive(Clone, Copy, PartialEq, Eq, Debug)]
+pub struct Checked {
+    /// The refusal number, 0 where the file is accepted.
+    pub refusal: u8,
+    /// The place of the first bad point, from 1, with CLAIM.
+    pub place: usize,
 }
 
 extern "C" {
@@ -206,4 +216,19 @@ extern "C" {
         east: *const i64,
         east_count: usize,
     ) -> Report;
+    /// Writes a file of sample answers.
+    pub fn tarnoklej_write_samples(
+        message: *const u8,
+        message_length: usize,
+        components: *const u8,
+        components_count: usize,
+        north: *const i64,
+        north_count: usize,
+        east: *const i64,
+        east_count: usize,
+        out: *mut u8,
+        room: usize,
+    ) -> Written;
+    /// Checks a file of sample answers.
+    pub fn tarnoklej_check_samples(file: *const u8, size: usize) -> Checked;
 }

@@ -14,6 +14,7 @@ mod frames;
 mod heights;
 mod refusal;
 mod reports;
+mod samples;
 mod tables;
 
 pub use datum::{datum_step, FARTHEST};
@@ -21,6 +22,7 @@ pub use frames::{find_frame, frames, write_frame, Frame, Frames, Missing, FRAME_
 pub use heights::{write_heights, NODES};
 pub use refusal::{NotARefusal, Refusal};
 pub use reports::{report_points, Report, MOST_POINTS};
+pub use samples::{check_samples, write_samples, NotAccepted, Sample, MOST_SAMPLES, SAMPLES_HEAD, SAMPLE_SIZE};
 pub use tables::{find, index_agrees, remove, store, write_index, Found, Table, INDEX_SIZE, MOST_PROBES};
 
 /// The bytes of a table; 4,224 zeros are an empty table.

@@ -10,13 +10,14 @@ pub enum Refusal {
     Short = 1,
     /// Not 1021 to 1027.
     Number = 2,
-    /// Not exactly the length called for, a name counter cannot be read, or too long for a frame; a report of too many points.
+    /// Not exactly the length called for, a name counter cannot be read, too long for a frame; more points than a report or a
+    /// file of sample answers has.
     Length = 3,
     /// A fill bit is set.
     Fill = 4,
     /// A field outside its range or width, or fields that are no row of a message.
     Range = 5,
-    /// An output shorter than the message, its row or its frame, or than a row of shifts.
+    /// An output shorter than the message, its row or its frame, than a row of shifts, or than a file of sample answers.
     Room = 6,
     /// A grid call on a message other than 1023 or 1024, or a datum step on one other than 1021.
     Kind = 7,
@@ -52,6 +53,10 @@ pub enum Refusal {
     Index = 22,
     /// No mean from which every wanted height is at most 255 mm away.
     NoMean = 23,
+    /// A file of sample answers of another shape.
+    Layout = 24,
+    /// A point of a file of sample answers that is refused, or has another count.
+    Claim = 25,
 }
 
 /// A number that is no refusal: 0, which is done, or one that no call gives.
@@ -60,7 +65,7 @@ pub struct NotARefusal(pub u8);
 
 impl Refusal {
     /// All refusals with the names of documents 01 and 02, in the order of their numbers.
-    pub const ALL: [(Refusal, &'static str); 23] = [
+    pub const ALL: [(Refusal, &'static str); 25] = [
         (Refusal::Short, "SHORT"),
         (Refusal::Number, "NUMBER"),
         (Refusal::Length, "LENGTH"),
@@ -84,6 +89,8 @@ impl Refusal {
         (Refusal::Owner, "OWNER"),
         (Refusal::Index, "INDEX"),
         (Refusal::NoMean, "NOMEAN"),
+        (Refusal::Layout, "LAYOUT"),
+        (Refusal::Claim, "CLAIM"),
     ];
 
     /// The refusal's number.

@@ -91,6 +91,9 @@ fn the_header_names_the_same_numbers() {
         ("MOST_BYTES", MOST_BYTES),
         ("MOST_FIELDS", MOST_FIELDS),
         ("MOST_POINTS", MOST_POINTS),
+        ("SAMPLES_HEAD", SAMPLES_HEAD),
+        ("SAMPLE_SIZE", SAMPLE_SIZE),
+        ("MOST_SAMPLES", MOST_SAMPLES),
     ];
     let refusals = Refusal::ALL.map(|(refusal, name)| (name, refusal.number() as usize));
     for (name, number) in refusals.into_iter().chain(sizes) {

@@ -7,6 +7,7 @@ mod messages;
 mod reading;
 mod reports;
 mod rows;
+mod samples;
 mod shifting;
 mod tables;
 mod tally;
@@ -31,7 +32,7 @@ type Single = fn(&mut Random, u64) -> Compared;
 /// The calls that keep nothing, with the refusal numbers each can give.
 /// E180 and W180 are shifts_at on grids across 180 degrees, at positions east and west of Greenwich; 180 is shift_row there.
 /// Under report_points stand the reports' own numbers, under points those of each point of short ones.
-const SINGLES: [(&str, &[u8], Single); 14] = [
+const SINGLES: [(&str, &[u8], Single); 16] = [
     ("read", &[0, 1, 2, 3, 4, 5], reading::compare_header),
     ("read_fields", &[0, 1, 2, 3, 4, 5, 6], reading::compare_row),
     ("write_fields", &[0, 5, 6], writing::compare_written),
@@ -46,6 +47,8 @@ const SINGLES: [(&str, &[u8], Single); 14] = [
     ("write_heights", &[0, 5, 6, 10, 11, 12, 13, 23], heights::compare_written),
     ("report_points", &[0, 3, 8], reports::compare_report),
     ("report, points", &[0, 1, 2, 3, 4, 5, 7, 9, 10, 11, 12, 13, 14, 15], reports::compare_points),
+    ("write_samples", &[0, 1, 2, 3, 4, 5, 6, 7, 8, 9, 10, 11, 12, 13, 14, 15], samples::compare_written),
+    ("check_samples", &[0, 1, 2, 3, 4, 5, 7, 24, 25], samples::compare_checked),
 ];
 
 /// The refusal numbers that the shifts of a sound grid message can give.

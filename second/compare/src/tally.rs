@@ -3,7 +3,7 @@
 use tarnoklej::Refusal;
 
 /// The refusal numbers, 0 being done.
-const NUMBERS: usize = 24;
+const NUMBERS: usize = 26;
 
 /// The inputs of one kind of call by refusal number, every part of an answer being counted.
 pub struct Tally {
