@@ -60,7 +60,8 @@ const baseline LIBRARY = {.name = "library",
                           .write_frame = tarnoklej_write_frame,
                           .find_two_fields = tarnoklej_find,
                           .find_by_walk = tarnoklej_find,
-                          .datum_step = tarnoklej_datum_step};
+                          .datum_step = tarnoklej_datum_step,
+                          .check_samples = tarnoklej_check_samples};
 
 /* All that are timed, the library first. */
 enum { TIMED = 7 };
@@ -305,7 +306,8 @@ static const call CALLS[] = {
 };
 
 enum { CALLS_COUNT = sizeof CALLS / sizeof *CALLS, BEFORE_FRAMES = CALLS_COUNT + ROW_CALLS_COUNT };
-enum { BEFORE_DATUM = BEFORE_FRAMES + FRAME_CALLS_COUNT, ALL_CALLS = BEFORE_DATUM + DATUM_CALLS_COUNT };
+enum { BEFORE_DATUM = BEFORE_FRAMES + FRAME_CALLS_COUNT, BEFORE_SAMPLES = BEFORE_DATUM + DATUM_CALLS_COUNT };
+enum { ALL_CALLS = BEFORE_SAMPLES + SAMPLE_CALLS_COUNT };
 
 /* One of all calls. */
 static const call *call_at(size_t i)
@@ -314,7 +316,9 @@ static const call *call_at(size_t i)
         return &CALLS[i];
     if (i < BEFORE_FRAMES)
         return &ROW_CALLS[i - CALLS_COUNT];
-    return i < BEFORE_DATUM ? &FRAME_CALLS[i - BEFORE_FRAMES] : &DATUM_CALLS[i - BEFORE_DATUM];
+    if (i < BEFORE_DATUM)
+        return &FRAME_CALLS[i - BEFORE_FRAMES];
+    return i < BEFORE_SAMPLES ? &DATUM_CALLS[i - BEFORE_DATUM] : &SAMPLE_CALLS[i - BEFORE_SAMPLES];
 }
 
 /* By splitmix64. */
@@ -419,6 +423,8 @@ static int has(const baseline *by, subject on)
         return by->find_frame != NULL;
     case ON_DATUM:
         return by->datum_step != NULL;
+    case ON_SAMPLES:
+        return by->check_samples != NULL;
     default:
         return by->read != NULL;
     }
@@ -533,6 +539,7 @@ int main(void)
     make_rows();
     make_frames();
     make_datum();
+    make_samples();
     for_all_calls(check_answers, nanoseconds);
     for (int pass = 0; pass < PASSES; pass++)
         for_all_calls(time_call, nanoseconds);

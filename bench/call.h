@@ -4,14 +4,14 @@
 #include "baseline.h"
 
 /* What a call is made on. */
-typedef enum { ON_MESSAGE, ON_ROWS, ON_TABLE, ON_CHECKED_TABLE, ON_FRAMES, ON_DATUM, SUBJECTS } subject;
+typedef enum { ON_MESSAGE, ON_ROWS, ON_TABLE, ON_CHECKED_TABLE, ON_FRAMES, ON_DATUM, ON_SAMPLES, SUBJECTS } subject;
 
 /* A call to time: makes the call of a turn and gives something of its answer, or whether the whole is the library's. */
 typedef struct {
     const char *name;
     uint64_t (*run)(const baseline *by, size_t turn, size_t size);
     int (*same)(const baseline *by, size_t turn, size_t size);
-    size_t size;    /* positions for each message, places of a row, slots in use, or bytes of a message */
+    size_t size;    /* positions for each message, places of a row, slots in use, bytes of a message, or points of a file */
     size_t answers; /* answers of one call */
     size_t checked; /* turns whose answers are compared */
     subject on;
@@ -31,6 +31,11 @@ void make_rows(void);
 enum { DATUM_CALLS_COUNT = 1 };
 extern const call DATUM_CALLS[DATUM_CALLS_COUNT];
 void make_datum(void);
+
+/* The calls on sample answers, for which make_samples must have been called. */
+enum { SAMPLE_CALLS_COUNT = 1 };
+extern const call SAMPLE_CALLS[SAMPLE_CALLS_COUNT];
+void make_samples(void);
 
 /* The library's calls. */
 extern const baseline LIBRARY;
