@@ -1,5 +1,5 @@
-/* Plain C baselines for message 1023, for rows of its shifts, for reports, for a table of such messages, for frames and for
- * the datum step of a 1021, with the answers of include/tarnoklej.h but for these:
+/* Plain C baselines for message 1023, for rows of its shifts, for reports, for sample answers, for a table of such messages,
+ * for frames and for the datum step of a 1021, with the answers of include/tarnoklej.h but for these:
  * a message, a row or a table's slot of any other number is refused (NUMBER, RANGE, TABLE);
  * a node of the cell that has no value is refused (ABSENT) also where it has no weight;
  * the weighted mean is a double before it is rounded, so that a count at or near a half can be another, but not in a row;
@@ -51,6 +51,7 @@ typedef struct {
     tarnoklej_position (*datum_step)(const uint8_t *message, size_t length, int64_t x, int64_t y, int64_t z);
     tarnoklej_report (*report_points)(const uint8_t *message, size_t length, uint8_t component, const int64_t *north,
                                       size_t north_count, const int64_t *east, size_t east_count);
+    tarnoklej_checked (*check_samples)(const uint8_t *file, size_t size);
 } baseline;
 
 /* Fields bit by bit, as GNSS decoders take them. */

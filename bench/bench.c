@@ -61,7 +61,8 @@ const baseline LIBRARY = {.name = "library",
                           .find_two_fields = tarnoklej_find,
                           .find_by_walk = tarnoklej_find,
                           .datum_step = tarnoklej_datum_step,
-                          .report_points = tarnoklej_report_points};
+                          .report_points = tarnoklej_report_points,
+                          .check_samples = tarnoklej_check_samples};
 
 /* All that are timed, the library first. */
 enum { TIMED = 8 };
@@ -307,7 +308,7 @@ static const call CALLS[] = {
 
 enum { CALLS_COUNT = sizeof CALLS / sizeof *CALLS, BEFORE_FRAMES = CALLS_COUNT + ROW_CALLS_COUNT };
 enum { BEFORE_DATUM = BEFORE_FRAMES + FRAME_CALLS_COUNT, BEFORE_REPORTS = BEFORE_DATUM + DATUM_CALLS_COUNT };
-enum { ALL_CALLS = BEFORE_REPORTS + REPORT_CALLS_COUNT };
+enum { BEFORE_SAMPLES = BEFORE_REPORTS + REPORT_CALLS_COUNT, ALL_CALLS = BEFORE_SAMPLES + SAMPLE_CALLS_COUNT };
 
 /* One of all calls. */
 static const call *call_at(size_t i)
@@ -318,7 +319,9 @@ static const call *call_at(size_t i)
         return &ROW_CALLS[i - CALLS_COUNT];
     if (i < BEFORE_DATUM)
         return &FRAME_CALLS[i - BEFORE_FRAMES];
-    return i < BEFORE_REPORTS ? &DATUM_CALLS[i - BEFORE_DATUM] : &REPORT_CALLS[i - BEFORE_REPORTS];
+    if (i < BEFORE_REPORTS)
+        return &DATUM_CALLS[i - BEFORE_DATUM];
+    return i < BEFORE_SAMPLES ? &REPORT_CALLS[i - BEFORE_REPORTS] : &SAMPLE_CALLS[i - BEFORE_SAMPLES];
 }
 
 /* By splitmix64. */
@@ -425,6 +428,8 @@ static int has(const baseline *by, subject on)
         return by->datum_step != NULL;
     case ON_REPORTS:
         return by->report_points != NULL;
+    case ON_SAMPLES:
+        return by->check_samples != NULL;
     default:
         return by->read != NULL;
     }
@@ -540,6 +545,7 @@ int main(void)
     make_frames();
     make_datum();
     make_reports();
+    make_samples();
     for_all_calls(check_answers, nanoseconds);
     for (int pass = 0; pass < PASSES; pass++)
         for_all_calls(time_call, nanoseconds);

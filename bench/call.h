@@ -4,7 +4,8 @@
 #include "baseline.h"
 
 /* What a call is made on. */
-typedef enum { ON_MESSAGE, ON_ROWS, ON_TABLE, ON_CHECKED_TABLE, ON_FRAMES, ON_DATUM, ON_REPORTS, SUBJECTS } subject;
+typedef enum { ON_MESSAGE, ON_ROWS, ON_TABLE, ON_CHECKED_TABLE, ON_FRAMES, ON_DATUM, ON_REPORTS, ON_SAMPLES,
+               SUBJECTS } subject;
 
 /* A call to time: makes the call of a turn and gives something of its answer, or whether the whole is the library's. */
 typedef struct {
@@ -36,6 +37,11 @@ void make_datum(void);
 enum { REPORT_CALLS_COUNT = 1 };
 extern const call REPORT_CALLS[REPORT_CALLS_COUNT];
 void make_reports(void);
+
+/* The calls on sample answers, for which make_samples must have been called. */
+enum { SAMPLE_CALLS_COUNT = 1 };
+extern const call SAMPLE_CALLS[SAMPLE_CALLS_COUNT];
+void make_samples(void);
 
 /* The library's calls. */
 extern const baseline LIBRARY;

@@ -96,13 +96,13 @@ pub fn tagged_fields(file: &[u8]) -> Option<Vec<Tagged<'_>>> {
 /// The claim that a field holds, or nothing where it is no field of a point.
 fn claim_in(&(tag, contents): &Tagged) -> Option<Claim> {
     let (&[component], numbers) = contents.split_first_chunk::<1>()?;
-    let eights: Vec<i64> = numbers.chunks(8).map(two_s_complement).collect();
+    let eights: Vec<i64> = numbers.chunks(8).map(signed_number).collect();
     let right = tag == POINT_TAG && contents.len() == POINT_LENGTH;
     right.then(|| Claim { point: Point { component, position: [eights[0], eights[1]] }, count: eights[2] })
 }
 
 /// The number that bytes say in two's complement, the high byte first.
-fn two_s_complement(bytes: &[u8]) -> i64 {
+fn signed_number(bytes: &[u8]) -> i64 {
     let unsigned = bytes.iter().fold(0i128, |number, &byte| number * 256 + i128::from(byte));
     let turn = 1i128 << (8 * bytes.len());
     (if unsigned >= turn / 2 { unsigned - turn } else { unsigned }) as i64
@@ -164,7 +164,7 @@ pub fn right_claims(message: &[u8], points: &[Point]) -> Result<Vec<Claim>, Refu
 }
 
 /// Writes the file of a message and points: refusals 1 to 5 and KIND of the message, LENGTH for buffers of different
-/// counts (decision D80), the refusal of the first refused point, LENGTH above 1,000 points, ROOM.
+/// counts (decision D81), the refusal of the first refused point, LENGTH above 1,000 points, ROOM.
 pub fn write(message: &[u8], points: &Points, room: usize) -> Result<Vec<u8>, Refusal> {
     grid_message(message)?;
     let points = points.list().ok_or(Refusal::Length)?;

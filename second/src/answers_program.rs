@@ -1,4 +1,4 @@
-//! The programs samples and write_samples: a file's check as a line, and the file of a text (document 02, A13; decision D83).
+//! The programs samples and write_samples: a file's check as a line, and the file of a text (document 02, A13; decision D85).
 
 use crate::answers::{check, write, Checked, Point, Points};
 
@@ -25,15 +25,18 @@ fn digit(byte: u8) -> Option<u8> {
     b"0123456789abcdef".iter().position(|&of| of == byte).map(|value| value as u8)
 }
 
+/// The byte that two digits spell.
+fn byte_of(digits: &[u8]) -> Option<u8> {
+    let &[high, low] = digits else { return None };
+    Some(digit(high)? * 16 + digit(low)?)
+}
+
 /// The bytes that a line spells in hexadecimal, none for a hyphen.
 pub fn message_in(line: &[u8]) -> Option<Vec<u8>> {
     match line {
         b"-" => Some(Vec::new()),
         [] => None,
-        _ => line
-            .chunks(2)
-            .map(|pair| if let &[high, low] = pair { Some(digit(high)? * 16 + digit(low)?) } else { None })
-            .collect(),
+        _ => line.chunks(2).map(byte_of).collect(),
     }
 }
 

@@ -95,7 +95,7 @@ fn texts() -> Vec<(String, String)> {
     ];
     texts.extend(other_grids().into_iter().map(|(number, message, points)| (number, text_of(&message, &points))));
     let first_lines = [("odd-digits", "3ff"), ("no-digit", "3g"), ("upper-case", "3FF0"), ("two-words", "3f f0")];
-    texts.extend(first_lines.map(|(name, line)| (format!("bad-{name}"), format!("{line}\n2 0 0\n"))));
+    texts.extend(first_lines.map(|(name, line)| (format!("bad-message-{name}"), format!("{line}\n2 0 0\n"))));
     let lines = [
         ("empty-line", ""),
         ("one-word", "2"),

@@ -19,7 +19,7 @@ const FILES: u64 = 20;
 /// The points of most lists at most, a list near the most points coming once in many.
 const FEW_POINTS: u64 = 9;
 /// Of the turns of a kind, that on which its list is near the most points.
-const ONCE_IN: u64 = 30;
+const ONCE_IN: u64 = 20;
 /// The bytes of a point in a file, and of room behind a file.
 const POINT_FIELD: usize = HEAD + POINT_LENGTH;
 const MORE_ROOM: usize = 40;
@@ -116,14 +116,14 @@ fn other_counts(random: &mut Random, mut points: Points) -> Points {
     points
 }
 
-/// Compares one file that is written, one in twelve times with buffers of any counts and two in twelve of any message.
+/// Compares one file that is written, two kinds of which are of any message, and one or more with buffers of any counts.
 pub fn compare_written(random: &mut Random, turn: u64) -> Compared {
     let grid = grid_of_list(random, turn);
     let mut points = Points::of(&any_list(random, &grid, turn));
-    if turn % LISTS == 10 {
+    let of_any_message = [3, 6].contains(&(turn % LISTS));
+    if turn % LISTS == 10 || (of_any_message && random.below(4) == 0) {
         points = other_counts(random, points);
     }
-    let of_any_message = [3, 6].contains(&(turn % LISTS));
     let message = if of_any_message { of_kind(random, turn / LISTS) } else { grid.bytes() }.into_boxed_slice();
     let components = points.components.clone().into_boxed_slice();
     let (north, east) = (points.north.clone().into_boxed_slice(), points.east.clone().into_boxed_slice());
