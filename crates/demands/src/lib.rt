@@ -2,34 +2,11 @@
 ghost use Prim.Native.Nat.{ℕ};
 ghost use mathlib.Core.Path.{_≡_};
 ghost use mathlib.Core.List.{List};
-ghost use Rattle.demands.specs.Messages.{Bytes, FirstThatApplies, CounterCut, AcceptedLengths, SinFound, ReportedLength, MessageAgain, RowAgain, RecordsAgain, RecordsBack};
 ghost use Rattle.demands.specs.Worked.{WorkedNumbers, WorkedMetres, GridsRead, GridKPresent};
 ghost use Rattle.demands.specs.Grids.{GridAnswer, SharedEdges, BothCalls, HeldIsWritten, OnlyWeighted, Lossless, SumBound, ThreeParts, BoundBetween, Lipschitz, PlainSteps, EastTurned, BothSides};
 ghost use Rattle.grid.specs.Shift.{messageShifts};
 ghost use Rattle.demands.specs.Absent.{NoneIsThePattern, UnsignedHasValue, PatternRefused, RefusedIsZero, MeanFormed};
-ghost use Rattle.demands.specs.Frames.{WrittenFound, ReadBack, FoundStays, NeedGoesOn, NeedNotEarlier, Exactly, WriterRefusals, PublishedFrames};
 ghost use Rattle.demands.specs.ShiftRows.{RowEqualsCalls, RowRefusedKeeps, RowNumbers, WholeTurn};
-
-// Demand 1 of reading: the first refusal that applies, and only then.
-pub fn refusals()
-    ensures order { λ r. ⌜ ((s : List ℕ) → FirstThatApplies s) ⌝ }
-    ensures counters { λ r. ⌜ CounterCut ⌝ }
-{}
-
-// Demand 2: the lengths of messages, and where the system identification number stands.
-pub fn lengths()
-    ensures accepted { λ r. ⌜ AcceptedLengths ⌝ }
-    ensures reported { λ r. ⌜ ReportedLength ⌝ }
-    ensures sin { λ r. ⌜ SinFound ⌝ }
-{}
-
-// Demand 2: both round trips, of rows and of records.
-pub fn round_trips()
-    ensures messages { λ r. ⌜ MessageAgain ⌝ }
-    ensures rows { λ r. ⌜ RowAgain ⌝ }
-    ensures records { λ r. ⌜ ((s : List ℕ) → Bytes s → RecordsAgain s) ⌝ }
-    ensures back { λ r. ⌜ ((n : ℕ) → RecordsBack n) ⌝ }
-{}
 
 // Not available is not a number: what reading says of it, what writing refuses, and that no mean is formed of it.
 pub fn absences()
@@ -89,18 +66,6 @@ pub fn worked_numbers()
     ensures metres { λ r. ⌜ WorkedMetres ⌝ }
     ensures read { λ r. ⌜ GridsRead ⌝ }
     ensures present { λ r. ⌜ GridKPresent ⌝ }
-{}
-
-// Request A1: frames written are read back, bytes that arrive behind lose none, and each answer is given exactly when the paper says.
-pub fn streams()
-    ensures found { λ r. ⌜ WrittenFound ⌝ }
-    ensures back { λ r. ⌜ ReadBack ⌝ }
-    ensures stays { λ r. ⌜ FoundStays ⌝ }
-    ensures further { λ r. ⌜ NeedGoesOn ⌝ }
-    ensures later { λ r. ⌜ NeedNotEarlier ⌝ }
-    ensures exactly { λ r. ⌜ ((s : List ℕ) (from : ℕ) → Bytes s → Exactly s from) ⌝ }
-    ensures refusals { λ r. ⌜ WriterRefusals ⌝ }
-    ensures published { λ r. ⌜ PublishedFrames ⌝ }
 {}
 
 // Request A6: a row of shifts equals the calls, place by place, and its number is given exactly when the paper says.

@@ -17,7 +17,7 @@ use Rattle.frame.proofs.Behind.{Clear, Waiting, Standing, Nothing, Answer, wait
 use Rattle.frame.proofs.Behind as behind
 use Rattle.frame.proofs.Put.{length-frame, too-long, no-room, accepted}
 use Rattle.frame.proofs.Words.{unfinished-calls, calls-unfinished, whole-stands, stands-whole, stands-finished, stands-size}
-use Rattle.demands.specs.Frames.{WrittenFound, ReadBack, FoundStays, NeedGoesOn, NeedNotEarlier, Empty, FoundAt, NeededAt, NothingFrom, Exactly, WriterRefusals, PublishedFrames}
+use Rattle.frame_demands.specs.Frames.{WrittenFound, ReadBack, FoundStays, NeedGoesOn, NeedNotEarlier, Empty, FoundAt, NeededAt, NothingFrom, Exactly, WriterRefusals, PublishedFrames}
 
 pub written-found : WrittenFound
 written-found before m more h = start.written-found m more h before

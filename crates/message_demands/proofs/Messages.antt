@@ -29,7 +29,7 @@ use Rattle.wire.proofs.Head.{head-of, head-passes, head-passed, accepted-head, 
 use Rattle.layouts.proofs.Length.{total-1021, total-1022, total-names, by-number}
 use Rattle.wire.proofs.Trips.{sized-head, message-of-row, row-written, message-accepted, buffers-of-message, length-message}
 use Rattle.message.proofs.RecordTrips.{layout-at, kept, kept-written, helmert-row, molodenski-badekas-row, grid-row, projection-row, lambert-row, oblique-mercator-row, helmert-back, molodenski-badekas-back, grid-back, projection-back, lambert-back, oblique-mercator-back}
-use Rattle.demands.specs.Messages.{Bytes, FirstThatApplies, CounterCut, AcceptedLengths, SinFound, ReportedLength, MessageAgain, RowAgain, RecordsAgain, RecordsBack}
+use Rattle.message_demands.specs.Messages.{Bytes, FirstThatApplies, CounterCut, AcceptedLengths, SinFound, ReportedLength, MessageAgain, RowAgain, RecordsAgain, RecordsBack}
 
 -- ---- the order of refusals
 

@@ -1,0 +1,11 @@
+-- `message_demands::refusals` carries its theorems: the order of refusals.
+-- Assumes nothing.
+use Rattle.message_demands.proofs.Messages.{first-that-applies, counter-cut}
+use Rattle.message_demands.proofs.refusals.Statement.{statement}
+use Rattle.message_demands.proofs.refusals.Tie as tie
+
+returns : tie.Need-returns
+returns c = (first-that-applies, counter-cut)
+
+pub refusals-spec : {M : Type 1} → statement M
+refusals-spec = tie.close (tie.spec returns)
