@@ -10,6 +10,7 @@ ghost use lib.IntN.{natAbs};
 ghost use Rattle.layout.specs.Layout.{valueIn};
 ghost use Rattle.grid_refusals.specs.Refusals.{available};
 ghost use Rattle.bilinear.specs.Bilinear.{lacks};
+ghost use Rattle.grid_fields.specs.Fields.{cellSays};
 ghost use Rattle.grid.specs.Shift.{messageShift};
 ghost use Rattle.grid.specs.Private.{valuesIn, lacking, cellShift};
 ghost use Rattle.part.specs.Part.{counted, refusedWith, keptOf, countedBy};
@@ -98,6 +99,20 @@ fn cell_count(number: i64, component: u8, mean: Reading, n: Nodes, k: Weights) -
     Counted { refusal: 0, count }
 }
 
+// What the nodes of a cell say of a component: each two of them are read by one load.
+fn nodes_of(message: &[u8], component: u8, row: u64, column: u64) -> Nodes
+    ensures { λ r. ⌜ r ≡ cellSays (now (message .entry)) component row column ⌝ }
+{
+    let n = grid_fields::cells_at(message, row, column);
+    if component == 0 {
+        return n.north;
+    }
+    if component == 1 {
+        return n.east;
+    }
+    n.height
+}
+
 // What is kept of a message, which is read once.
 pub fn keep(message: &[u8]) -> Kept
     ensures { λ r. ⌜ r ≡ keptOf (now (message .entry)) ⌝ }
@@ -122,7 +137,7 @@ pub fn count_at(message: &[u8], kept: Kept, component: u8, north: i64, east: i64
     }
     let k = cell::weights_in(p.height, p.width, p.north, p.east);
     let mean = grid_fields::mean_at(message, component);
-    let n = grid_fields::nodes_at(message, component, p.row, p.column);
+    let n = nodes_of(message, component, p.row, p.column);
     cell_count(f.number, component, mean, n, k)
 }
 

@@ -62,7 +62,7 @@ returns-3 c =
     let none : p k .refusal ≡ 0 = sym (ap (λ (q : Located). q .refusal) (place k)) ∙ t .before .before .before .before .if2 .left in
     c .cell-count .ensures
     ∙ rw (eq-eqb _ 0 (kept k), eq-eqb (p k .refusal) 0 none, ← place k)
-    (λ i. counted (cellShift (held (a .kept .frame .number) (t .struct-told .given .0 .1) i) (a .component) (mean t i) (t .before .nodes-at .ensures i) (t .before .before .before .weights-in .ensures i)))
+    (λ i. counted (cellShift (held (a .kept .frame .number) (t .struct-told .given .0 .1) i) (a .component) (mean t i) (t .before .nodes-of .ensures i) (t .before .before .before .weights-in .ensures i)))
 
 pub count-at-spec : {M : Type 1} → statement M
 count-at-spec =
