@@ -53,13 +53,17 @@ module _ (s : List ℕ) (c : ℕ) (ns es : List ℤ) where
     unfolding listsReport
     lists-unequal f = simp (passed .0, passed .1, ne-eqb (length ns) (length es) f)
 
-    pub lists-equal : length ns ≡ length es → reportFrom s (keptOf s) c 0 (pointsOf ns es) (startOf c (length ns)) ≡ listsReport s c ns es
-    lists-equal e =
-        ap (λ (n : ℕ). reportFrom s (keptOf s) c 0 (pointsOf ns es) (startOf c n)) (sym (points-length ns es e)) ∙ reports s c (pointsOf ns es)
-        ∙ (unfold reportOf listsReport in
-        ap (λ (n : ℕ). reportWith (reportRefusal c n) (outcomes s c (pointsOf ns es))) (points-length ns es e)
-        ∙ ap (λ (t : Bool). reportWith (cond (ltb 2 c) 8 (cond t 3 0)) (outcomes s c (pointsOf ns es))) (either (ltb 10000 (length ns)) (eqb (length ns) (length es)) (eq-eqb (length ns) (length es) e)))
-      where
-        either : (a b : Bool) → b ≡ true → a ≡ (a || not b)
-        either true b f = refl
-        either false b f = ap not (sym f)
+  -- lists of one length have the report of their points
+  pub lists-are : length ns ≡ length es → reportOf s c (pointsOf ns es) ≡ listsReport s c ns es
+  unfolding reportOf listsReport
+  lists-are e =
+      ap (λ (n : ℕ). reportWith (reportRefusal c n) (outcomes s c (pointsOf ns es))) (points-length ns es e)
+      ∙ ap (λ (t : Bool). reportWith (cond (ltb 2 c) 8 (cond t 3 0)) (outcomes s c (pointsOf ns es))) (either (ltb 10000 (length ns)) (eqb (length ns) (length es)) (eq-eqb (length ns) (length es) e))
+    where
+      either : (a b : Bool) → b ≡ true → a ≡ (a || not b)
+      either true b f = refl
+      either false b f = ap not (sym f)
+
+  pub lists-equal : length ns ≡ length es → reportFrom s (keptOf s) c 0 (pointsOf ns es) (startOf c (length ns)) ≡ listsReport s c ns es
+  lists-equal e =
+      ap (λ (n : ℕ). reportFrom s (keptOf s) c 0 (pointsOf ns es) (startOf c n)) (sym (points-length ns es e)) ∙ reports s c (pointsOf ns es) ∙ lists-are e

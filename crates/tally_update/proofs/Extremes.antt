@@ -41,7 +41,7 @@ module _ (before : ℤ → ℤ → Bool) (ord : Order before) where
       merge m false false e f = no _ _ f ∙ sym (no _ _ (ord .never z m w e f))
 
   -- a count before the first is not among them, and the first is
-  among-none : (w : ℤ) (zs : List ℤ) (z : ℤ) → before z (best (w ∷ zs)) ≡ true → among z (w ∷ zs) ≡ false
+  pub among-none : (w : ℤ) (zs : List ℤ) (z : ℤ) → before z (best (w ∷ zs)) ≡ true → among z (w ∷ zs) ≡ false
   among-none w [] z e = unlike w z e
     where
       unlike : (w z : ℤ) → before z w ≡ true → (eqZ w z || false) ≡ false
@@ -73,7 +73,7 @@ module _ (before : ℤ → ℤ → Bool) (ord : Order before) where
 
   -- ---- the first place, with one outcome more
 
-  best-ahead : (os : List Counted) (w : ℤ) (zs : List ℤ) → counts os ≡ w ∷ zs → ahead (best (counts os)) os < length os
+  pub best-ahead : (os : List Counted) (w : ℤ) (zs : List ℤ) → counts os ≡ w ∷ zs → ahead (best (counts os)) os < length os
   best-ahead os w zs e = ahead-in (best (counts os)) os (subst (λ (l : List ℤ). among (best l) l ≡ true) (sym e) (among-best w zs))
 
   pub some : (os : List Counted) (w : ℤ) (zs : List ℤ) → counts os ≡ w ∷ zs → eqb (howMany 0 os) 0 ≡ false

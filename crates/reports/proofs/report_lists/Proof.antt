@@ -38,7 +38,7 @@ returns-3 c =
     let a = k .before .before .args in
     c .steps .ensures
     ∙ (λ i. reportFrom (a .message .now) (c .before .keep .ensures i) (a .component) 0 (pointsOf (a .north .now) (a .east .now)) (k .start .ensures i))
-    ∙ lists-equal (a .message .now) (a .component) (a .north .now) (a .east .now) (ap (λ (x : Report). x .refusal) (sym (k .start .ensures)) ∙ c .before .before .before .if1 .left) (c .before .before .if2 .left)
+    ∙ lists-equal (a .message .now) (a .component) (a .north .now) (a .east .now) (c .before .before .if2 .left)
 
 pub report-lists-spec : {M : Type 1} → statement M
 report-lists-spec = tie.close (tie.spec (λ c κs. search needs) returns (λ c κs. search needs) returns-2 (λ c κs. search needs) (λ c κs. search needs) returns-3)
