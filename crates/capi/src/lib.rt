@@ -10,6 +10,8 @@ ghost use Rattle.indexed_table.specs.Indexed.{agreesRefusal, writeRefusal, writ
 ghost use Rattle.indexed_table.specs.Find.{foundBy};
 ghost use Rattle.datum.specs.Step.{Stepped};
 ghost use Rattle.heights.specs.Heights.{writeHeights};
+ghost use Rattle.reports.specs.Reports.{listsReport};
+ghost use Rattle.flat_reports.specs.Flat.{flat};
 
 // The number, the length and the system identification number of a message.
 #[no_mangle]
@@ -189,4 +191,17 @@ pub extern "C" fn tarnoklej_write_heights(
     ensures output { λ r. ⌜ now (out .exit) ≡ writeHeights (now (values .entry)) (now (present .entry)) (now (wanted .entry)) (now (out .entry)) .output ⌝ }
 {
     heights::write_heights(values, present, wanted, out)
+}
+
+// The report of the points whose coordinates stand in two lists, for a message and a component.
+#[no_mangle]
+pub extern "C" fn tarnoklej_report_points(
+    s: &[u8],
+    component: u8,
+    north: &[i64],
+    east: &[i64],
+) -> flat_reports::FlatReport
+    ensures { λ r. ⌜ r ≡ flat (listsReport (now (s .entry)) component (now (north .entry)) (now (east .entry))) ⌝ }
+{
+    flat_reports::report_lists(s, component, north, east)
 }

@@ -1,0 +1,13 @@
+-- `report_demands::numbers` meets its contract, in which the theorems on the numbers of a report stand.
+-- Assumes nothing.
+use Rattle.reports.proofs.Lists.{lists-are}
+use Rattle.report_demands.proofs.Agreement.{given-is-all}
+use Rattle.report_demands.proofs.Firsts.{smallest-is, greatest-is, none-answered}
+use Rattle.report_demands.proofs.numbers.Statement.{statement}
+use Rattle.report_demands.proofs.numbers.Tie as tie
+
+returns : tie.Need-returns
+returns c = (given-is-all, (smallest-is, (greatest-is, (none-answered, λ s c ns es. lists-are s c ns es))))
+
+pub numbers-spec : {M : Type 1} → statement M
+numbers-spec = tie.close (tie.spec returns)

@@ -1,0 +1,86 @@
+// The public functions of the crates on parts, tallies and reports, called once with their promises restated: a promise that is weakened there is missed here.
+ghost use mathlib.Core.List.{[]};
+ghost use mathlib.Core.Path.{_≡_};
+ghost use Rattle.grid.specs.Private.{lacking, valuesIn};
+ghost use Rattle.grid.specs.Shift.{messageShift};
+ghost use Rattle.part.specs.Part.{counted, countedBy, keptOf};
+ghost use Rattle.reports.specs.Reports.{listsReport};
+ghost use Rattle.tally.specs.Next.{nextOf};
+ghost use Rattle.tally_update.specs.Numbers.{reportWith};
+ghost use Rattle.tally_update.specs.Update.{grownBy};
+
+pub fn cell_lacks(mean: field::Reading, n: grid_fields::Nodes, k: cell::Weights) -> bool
+    ensures { λ r. ⌜ r ≡ lacking mean n k ⌝ }
+{
+    part::cell_lacks(mean, n, k)
+}
+
+pub fn values_of(n: grid_fields::Nodes) -> cell::Corners
+    ensures { λ r. ⌜ r ≡ valuesIn n ⌝ }
+{
+    part::values_of(n)
+}
+
+pub fn keep(message: &[u8]) -> part::Kept
+    ensures { λ r. ⌜ r ≡ keptOf (now (message .entry)) ⌝ }
+{
+    part::keep(message)
+}
+
+pub fn count_at(
+    message: &[u8],
+    kept: part::Kept,
+    component: u8,
+    north: i64,
+    east: i64,
+) -> part::Counted
+    ensures { λ r. ⌜ r ≡ countedBy (now (message .entry)) kept component north east ⌝ }
+{
+    part::count_at(message, kept, component, north, east)
+}
+
+pub fn part_at(message: &[u8], component: u8, north: i64, east: i64) -> part::Counted
+    ensures { λ r. ⌜ r ≡ counted (messageShift (now (message .entry)) component north east) ⌝ }
+{
+    part::part_at(message, component, north, east)
+}
+
+pub fn empty(refusal: u8) -> tally_update::Report
+    ensures { λ r. ⌜ r ≡ reportWith refusal [] ⌝ }
+{
+    tally_update::empty(refusal)
+}
+
+pub fn with_outcome(
+    t: tally_update::Tally,
+    refusal: u8,
+    count: i64,
+    before: u64,
+) -> tally_update::Tally
+    ensures { λ r. ⌜ r ≡ grownBy t refusal count before ⌝ }
+{
+    tally_update::with_outcome(t, refusal, count, before)
+}
+
+pub fn tally_next(
+    t: tally_update::Tally,
+    message: &[u8],
+    component: u8,
+    north: i64,
+    east: i64,
+) -> tally_update::Report
+    ensures { λ r. ⌜ r ≡ nextOf t (now (message .entry)) component north east ⌝ }
+{
+    tally::tally_next(t, message, component, north, east)
+}
+
+pub fn report_lists(
+    message: &[u8],
+    component: u8,
+    north: &[i64],
+    east: &[i64],
+) -> tally_update::Report
+    ensures { λ r. ⌜ r ≡ listsReport (now (message .entry)) component (now (north .entry)) (now (east .entry)) ⌝ }
+{
+    reports::report_lists(message, component, north, east)
+}
