@@ -1,0 +1,13 @@
+-- `part::keep` meets its contract.
+-- Assumes nothing.
+use borrow.Author.Needs.{needs}
+use Rattle.part.specs.Part.{keptOf}
+use Rattle.part.proofs.keep.Statement.{statement}
+use Rattle.part.proofs.keep.Tie as tie
+
+returns : tie.Need-returns
+unfolding keptOf
+returns c i = record { refusal = c .before .check-kind .ensures i; frame = c .frame-at .ensures i }
+
+pub keep-spec : {M : Type 1} → statement M
+keep-spec = tie.close (tie.spec (λ c κs. search needs) (λ c κs. search needs) returns)
