@@ -176,6 +176,13 @@ module _ (f : List ℕ) (b : Bytes f) where
   shape-tests : shape f ≡ true → tested f ≡ true
   shape-tests t = ap tested (shape-file t) ∙ tests-back (messageOf f) (pointsOf f) message-low (shape-few t)
 
+  -- law: the message of a file of the right shape ends within it
+  pub message-whole : shape f ≡ true → messageEnd f ≤ length f
+  message-whole t = first-whole (both-first (messageFirst f) (onlyPoints (restOf f)) (unfold tested in shape-tests t))
+    where
+      first-whole : messageFirst f ≡ true → messageEnd f ≤ length f
+      first-whole e = unfold messageFirst in leb-true (messageEnd f) (length f) (both-second (eqb (getD f 0 0) 1) (leb (messageEnd f) (length f)) (both-second (leb 3 (length f)) _ e))
+
   -- THE SHAPE is what the code tests
   pub shape-is : tested f ≡ shape f
   shape-is = by (tested f) (shape f) tests-shape shape-tests
