@@ -74,11 +74,16 @@ pub end-bytes : (out : List ℕ) (v k : ℕ) → k ≤ 0 → bytesOf k v ++ drop
 unfolding bytesOf
 end-bytes out v k h = let e : k ≡ 0 = omega arith in rw e
 
--- the part from a to a + k that a number is put into
-pub put-part : (t z : List ℕ) (a k v : ℕ) → a + k ≤ length t → z ≡ bytesOf (length (take (a + k - a) (drop a t))) v → putMid a (a + k - a) t z ≡ putBytes t a (bytesOf k v)
-put-part t z a k v h e =
+-- ---- the part from a to a + k that bytes are put into
+
+pub put-part : (t z b : List ℕ) (a k : ℕ) → length b ≡ k → a + k ≤ length t → z ≡ b → putMid a (a + k - a) t z ≡ putBytes t a b
+put-part t z b a k n h e =
+    ap (putMid a (a + k - a) t) e
+    ∙ ap (λ (r : List ℕ). take a t ++ (b ++ r)) (post-is a (a + k) t (omega arith))
+    ∙ ap (λ (j : ℕ). take a t ++ (b ++ drop (a + j) t)) (sym n)
+    ∙ sym (put-within t a b (omega arith))
+
+pub put-number : (t z : List ℕ) (a k v : ℕ) → a + k ≤ length t → z ≡ bytesOf (length (take (a + k - a) (drop a t))) v → putMid a (a + k - a) t z ≡ putBytes t a (bytesOf k v)
+put-number t z a k v h e =
     let n : length (take (a + k - a) (drop a t)) ≡ k = length-take-le (a + k - a) (drop a t) (omega (arith, length-drop a t)) ∙ omega arith in
-    ap (putMid a (a + k - a) t) (e ∙ ap (λ (j : ℕ). bytesOf j v) n)
-    ∙ ap (λ (r : List ℕ). take a t ++ (bytesOf k v ++ r)) (post-is a (a + k) t (omega arith))
-    ∙ ap (λ (j : ℕ). take a t ++ (bytesOf k v ++ drop (a + j) t)) (sym (length-bytesOf k v))
-    ∙ sym (put-within t a (bytesOf k v) (omega (arith, length-bytesOf k v)))
+    put-part t z (bytesOf k v) a k (length-bytesOf k v) h (e ∙ ap (λ (j : ℕ). bytesOf j v) n)

@@ -101,3 +101,25 @@ pub fn put_whole(out: &mut [u8], a: usize, z: i64)
 {
     put_at(out, a, 8, pattern_of(z));
 }
+
+// Fills out with the bytes of s.
+fn copy(out: &mut [u8], s: &[u8])
+    requires { ⌜ length (now out) ≡ length (now s) ⌝ }
+    ensures { λ _. ⌜ now (out .exit) ≡ now (s .entry) ⌝ }
+{
+    let mut k: usize = 0;
+    while k < s.len() {
+        out[k] = s[k];
+        k += 1;
+    }
+}
+
+// out with the bytes of s from byte a on; out as it is where they reach past its end.
+pub fn put_bytes(out: &mut [u8], a: usize, s: &[u8])
+    ensures { λ _. ⌜ now (out .exit) ≡ putBytes (now (out .entry)) a (now (s .entry)) ⌝ }
+{
+    if within(out.len(), a, s.len()) {
+        let e = a + s.len();
+        copy(&mut out[a..e], s);
+    }
+}

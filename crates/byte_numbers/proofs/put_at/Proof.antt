@@ -8,7 +8,7 @@ use borrow.Author.Needs.{needs}
 use borrow.Author.Tests.{leb-true}
 use Rattle.byte_numbers.specs.Number.{bytesOf, putBytes}
 use Rattle.byte_numbers.proofs.Number.{length-bytesOf}
-use Rattle.byte_numbers.proofs.Word.{put-part}
+use Rattle.byte_numbers.proofs.Word.{put-number}
 use Rattle.byte_numbers.proofs.put_at.Statement.{statement}
 use Rattle.byte_numbers.proofs.put_at.Tie as tie
 
@@ -26,7 +26,7 @@ returns : tie.Need-returns
 returns c =
     let k = c .before .before .before .before in
     let a = k .before .before .before .args in
-    put-part (a .out .now) _ (a .a) (a .k) (a .v) (stands k) (c .before .before .put-number .ensures)
+    put-number (a .out .now) _ (a .a) (a .k) (a .v) (stands k) (c .before .before .put-number .ensures)
 
 returns-2 : tie.Need-returns-2
 unfolding putBytes
