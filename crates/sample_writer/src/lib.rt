@@ -132,9 +132,9 @@ pub fn write_samples(
     if n != east.len() {
         return refused(LENGTH);
     }
-    let refusal = first_refused(message, kept, components, north, east);
-    if refusal != 0 {
-        return refused(refusal);
+    let point = first_refused(message, kept, components, north, east);
+    if point != 0 {
+        return refused(point);
     }
     if MOST_POINTS < n {
         return refused(LENGTH);
