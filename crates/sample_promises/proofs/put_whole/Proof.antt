@@ -1,21 +1,17 @@
+-- `sample_promises::put_whole` meets its contract: the number passed on is the number received.
+-- Assumes nothing.
+use mathlib.Core.Path.{ap, _∙_}
 use borrow.Author.Needs.{needs}
+use Rattle.arith.proofs.Back.{held}
+use Rattle.byte_numbers.specs.Number.{wholeBytes, putBytes}
 use Rattle.sample_promises.proofs.put_whole.Statement.{statement}
 use Rattle.sample_promises.proofs.put_whole.Tie as tie
-use Rattle.sample_promises.proofs.put_whole.Reads as reads
-use Rattle.sample_promises.proofs.put_whole.Lts as lts
-use Rattle.byte_numbers.proofs.put_whole.Reads as put-whole-reads
 
--- src/lib.rt:31:5
-put-whole-requires : tie.Need-put-whole-requires
-put-whole-requires c κs = search needs
-
--- src/lib.rt:28:1
-same-length : tie.Need-same-length
-same-length c = search needs
-
--- src/lib.rt:28:1
 returns : tie.Need-returns
-returns c = ?
+returns c =
+    let k = c .before .before in
+    let s = k .before .before .before in
+    k .put-whole .ensures ∙ ap (λ z. putBytes (s .args .out .now) (s .args .a) (wholeBytes z)) (held (s .args .z) (s .fits .z .sfits))
 
 pub put-whole-spec : {M : Type 1} → statement M
-put-whole-spec = tie.close (tie.spec put-whole-requires same-length returns)
+put-whole-spec = tie.close (tie.spec (λ c κs. search needs) (λ c. search needs) returns)
