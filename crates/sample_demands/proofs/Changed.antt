@@ -22,8 +22,10 @@ use Rattle.sample_files.specs.File.{field, pointField, pointFields, fileOf, poi
 use Rattle.sample_files.specs.Held.{Held, AllHeld, none, more}
 use Rattle.sample_files.proofs.Bytes.{length-contents, length-field, length-points}
 use Rattle.sample_checks.specs.Check.{right, claims, checked}
-use Rattle.sample_writer.specs.Write.{Position, answerAt, positions, sample, samplesFile, firstRefused}
-use Rattle.sample_writer.proofs.Writes.{length-positions, length-samples}
+use Rattle.sample_refusals.specs.Refusals.{Position, answerAt, positions}
+use Rattle.sample_refusals.proofs.Points.{length-positions}
+use Rattle.sample_writer.specs.Write.{sample, samplesFile}
+use Rattle.sample_writer.proofs.Writes.{length-samples}
 use Rattle.sample_demands.specs.Samples.{Bytes, Wholes, claimPlace, ClaimChanged}
 use Rattle.sample_demands.proofs.Checks.{file-back, back-checked, is-first}
 use Rattle.sample_demands.proofs.Written.{writes, few-samples, message-short, samples-held, samples-right}

@@ -6,8 +6,8 @@ use mathlib.Core.List.{List, [], _∷_, map}
 use Prim.Native.Nat.{ℕ, zero, suc, _^_, _≤_, _<_}
 use native.Mathlib.Nat.{not-suc-le-zero, le-of-suc-le-suc}
 use native.Mathlib.Omega.{arith}
-use borrow.Author.Tests.{eqb-true, eqb-false, ltb-false}
-use lib.Dec.{eqb, leb, ltb}
+use borrow.Author.Tests.{eqb-true, eqb-false}
+use lib.Dec.{eqb, leb}
 use lib.Ieee.{binary64, ofInt}
 use lib.Ieee.Casts.{toSigned-in}
 use lib.IntN.{ℤ}
@@ -15,9 +15,6 @@ use lib.ListN.{length, getD}
 use lib.Signed.{mag}
 use Rattle.arith.specs.First.{first}
 use Rattle.arith.specs.Whole.{sameZ}
-use Rattle.arith.proofs.First.{not-false}
-use Rattle.arith.proofs.Order.{none-first, none-rest}
-use Rattle.arith.proofs.Tests.{both-first, both-second}
 use Rattle.arith.proofs.Whole.{eqZ-refl}
 use Rattle.wire.specs.Message.{refusal, numberOf, kindRefusal}
 use Rattle.wire.proofs.Limits.{accepted-size, first-behind}
@@ -27,24 +24,21 @@ use Rattle.sample_files.specs.File.{mostPoints, fileOf, noPoint}
 use Rattle.sample_files.specs.declared.Point.{Point}
 use Rattle.sample_files.specs.Held.{AllHeld, none, more}
 use Rattle.sample_checks.specs.Check.{messageRefusal, right, firstBad, claims}
-use Rattle.sample_writer.specs.Write.{Position, answerAt, positions, sample, samplesFile, pointTest, firstRefused, equalCounts, writeRefusal}
-use Rattle.sample_writer.proofs.Writes.{length-positions, length-samples}
+use Rattle.sample_writer.specs.Write.{sample, samplesFile, writeRefusal}
+use Rattle.sample_refusals.specs.Refusals.{Position, answerAt, positions, pointTest, firstRefused, pointsRefusal}
+use Rattle.sample_refusals.proofs.Points.{length-positions, given-none, Passed, passed}
+use Rattle.sample_writer.proofs.Writes.{length-samples}
 use Rattle.sample_demands.specs.Samples.{Bytes, Wholes, WrittenAccepted}
 use Rattle.sample_demands.proofs.Checks.{all-right, file-back, back-checked}
 
--- a number that another call gives is 0, and so is what follows
-given-none : (n y : ℕ) (b : Bool) → eqb n 0 ≡ b → cond (not b) n y ≡ 0 → (n ≡ 0) × (y ≡ 0)
-given-none n y true e h = (eqb-true n 0 e, h)
-given-none n y false e h = absurd (eqb-false n 0 e h)
-
-passed : (n y : ℕ) (b : Bool) → eqb n 0 ≡ b → cond b y n ≡ 0 → n ≡ 0
-passed n y true e h = eqb-true n 0 e
-passed n y false e h = absurd (eqb-false n 0 e h)
+kept : (n y : ℕ) (b : Bool) → eqb n 0 ≡ b → cond b y n ≡ 0 → n ≡ 0
+kept n y true e h = eqb-true n 0 e
+kept n y false e h = absurd (eqb-false n 0 e h)
 
 short : (m : List ℕ) → messageRefusal m ≡ 0 → length m ≤ 65535
 unfolding kindRefusal
 short m h =
-    let r : refusal m ≡ 0 = passed (refusal m) _ (eqb (refusal m) 0) refl (sym (first-behind m ((7, not (leb 1023 (numberOf m) && leb (numberOf m) 1024)) ∷ [])) ∙ h) in
+    let r : refusal m ≡ 0 = kept (refusal m) _ (eqb (refusal m) 0) refl (sym (first-behind m ((7, not (leb 1023 (numberOf m) && leb (numberOf m) 1024)) ∷ [])) ∙ h) in
     omega (arith, accepted-size m r)
 
 claim-held : (m : List ℕ) (c : ℕ) (n e : ℤ) → messageShift m c n e .refusal ≡ 0 → mag (messageShift m c n e .count) < 2 ^ 63
@@ -78,34 +72,13 @@ module _ (m : List ℕ) where
   samples-right (p ∷ ps) h (suc k) l = samples-right ps (first-none p ps h .1) k (le-of-suc-le-suc l)
 
 -- what the writer has found where it writes
-pub record Writes (m cs : List ℕ) (ns es : List ℤ) : Type 0 where
-  pub message : messageRefusal m ≡ 0
-  pub north : length cs ≡ length ns
-  pub east : length cs ≡ length es
-  pub answered : firstRefused m (positions cs ns es) ≡ 0
-  pub few : length (positions cs ns es) ≤ mostPoints
-
-pub writes : (m cs : List ℕ) (ns es : List ℤ) (room : ℕ) → writeRefusal m cs ns es room ≡ 0 → Writes m cs ns es
+pub writes : (m cs : List ℕ) (ns es : List ℤ) (room : ℕ) → writeRefusal m cs ns es room ≡ 0 → Passed m cs ns es
 unfolding writeRefusal
-writes m cs ns es room h =
-    let ps : List Position = positions cs ns es in
-    let x : Bool = eqb (length cs) (length ns) in
-    let y : Bool = eqb (length cs) (length es) in
-    let a = given-none (messageRefusal m) _ (eqb (messageRefusal m) 0) refl h in
-    let q = not-false (x && y) (none-first (not (x && y)) 3 _ (omega arith) (a .1)) in
-    let e = none-rest (not (x && y)) 3 _ (omega arith) (a .1) in
-    let r = given-none (firstRefused m ps) _ (eqb (firstRefused m ps) 0) refl e in
-    record {
-      message = a .0;
-      north = eqb-true (length cs) (length ns) (both-first x y q);
-      east = eqb-true (length cs) (length es) (both-second x y q);
-      answered = r .0;
-      few = ltb-false mostPoints (length ps) (none-first (ltb mostPoints (length ps)) 3 _ (omega arith) (r .1));
-    }
+writes m cs ns es room h = passed m cs ns es (given-none (pointsRefusal m cs ns es) _ (eqb (pointsRefusal m cs ns es) 0) refl h .0)
 
-module _ (m cs : List ℕ) (ns es : List ℤ) (w : Writes m cs ns es) (b : Bytes cs) (u : Wholes ns) (v : Wholes es) where
+module _ (m cs : List ℕ) (ns es : List ℤ) (w : Passed m cs ns es) (b : Bytes cs) (u : Wholes ns) (v : Wholes es) where
   pub few-samples : length (map (sample m) (positions cs ns es)) ≤ 1000
-  few-samples = omega (arith, w .few, length-samples m (positions cs ns es))
+  few-samples = omega (arith, w .few, length-samples m (positions cs ns es), length-positions cs ns es (w .north) (w .east))
 
   pub message-short : length m ≤ 65535
   message-short = short m (w .message)

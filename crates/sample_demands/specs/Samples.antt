@@ -14,7 +14,8 @@ use Rattle.sample_files.specs.File.{fileOf, messageOf, pointsOf, shape, noPoint
 use Rattle.sample_files.specs.Held.{AllHeld}
 use Rattle.sample_checks.specs.Check.{messageRefusal, right, checked, refusedWith}
 use Rattle.sample_checks.specs.declared.Checked.{Checked}
-use Rattle.sample_writer.specs.Write.{positions, samplesFile, writeRefusal}
+use Rattle.sample_refusals.specs.Refusals.{positions}
+use Rattle.sample_writer.specs.Write.{samplesFile, writeRefusal}
 
 -- what slices of u8 and of i64 hold
 abbrev pub Bytes : List ℕ → Type 0

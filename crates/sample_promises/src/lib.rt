@@ -5,7 +5,8 @@ ghost use Rattle.layout.specs.Layout.{answered, stored};
 ghost use Rattle.byte_numbers.specs.Number.{bytesOf, wholeBytes, numberAt, wholeAt, putBytes};
 ghost use Rattle.sample_files.specs.File.{pointsOf, shape, endIn, pointAt};
 ghost use Rattle.sample_checks.specs.Check.{checked};
-ghost use Rattle.sample_writer.specs.Write.{positions, samplesFile, writeRefusal};
+ghost use Rattle.sample_refusals.specs.Refusals.{positions, pointsRefusal};
+ghost use Rattle.sample_writer.specs.Write.{samplesFile, writeRefusal};
 
 pub fn number_at(s: &[u8], a: usize, k: usize) -> u64
     ensures { λ r. ⌜ r ≡ numberAt (now (s .entry)) a k ⌝ }
@@ -65,6 +66,12 @@ pub fn check_samples(file: &[u8]) -> sample_checks::Checked
     ensures { λ r. ⌜ r ≡ checked (now (file .entry)) ⌝ }
 {
     sample_checks::check_samples(file)
+}
+
+pub fn points_refusal(message: &[u8], components: &[u8], north: &[i64], east: &[i64]) -> u8
+    ensures { λ r. ⌜ r ≡ pointsRefusal (now (message .entry)) (now (components .entry)) (now (north .entry)) (now (east .entry)) ⌝ }
+{
+    sample_refusals::points_refusal(message, components, north, east)
 }
 
 pub fn write_samples(

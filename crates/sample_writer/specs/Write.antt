@@ -1,68 +1,23 @@
 -- What the writer writes and refuses: request A13, "Write such a file from a message and points".
 -- Assumes nothing.
 use Prim.Native.Nat.{ℕ}
-use mathlib.Core.Bool.{Bool, not, _&&_}
 use mathlib.Core.List.{List, [], _∷_, map}
-use lib.Dec.{eqb, ltb}
+use lib.Dec.{ltb}
 use lib.ListN.{length}
 use lib.IntN.{ℤ}
-use Rattle.arith.specs.First.{Test, first}
-use Rattle.wire.specs.Message.{kindRefusal}
-use Rattle.grid.specs.declared.Shift.{Shift}
-use Rattle.grid.specs.Shift.{messageShift}
+use Rattle.arith.specs.First.{first}
 use Rattle.sample_files.specs.declared.Point.{Point}
-use Rattle.sample_files.specs.File.{mostPoints, fileOf}
+use Rattle.sample_files.specs.File.{fileOf}
+use Rattle.sample_refusals.specs.Refusals.{Position, positions, answerAt, given, pointsRefusal}
 
--- a point without a claim
-pub record Position : Type 0 where
-  pub component : ℕ
-  pub north : ℤ
-  pub east : ℤ
-
--- the points of three lists: as many as the shortest has
-unfoldable pub positions : List ℕ → List ℤ → List ℤ → List Position
-positions [] ns es = []
-positions (c ∷ cs) [] es = []
-positions (c ∷ cs) (n ∷ ns) [] = []
-positions (c ∷ cs) (n ∷ ns) (e ∷ es) = record { component = c; north = n; east = e } ∷ positions cs ns es
-
--- the message's answer at a point
-unfoldable pub answerAt : List ℕ → Position → Shift
-answerAt m p = messageShift m (p .component) (p .north) (p .east)
-
--- ---- the file: each point with the message's answer as its claim
-
+-- a point with the message's answer there as its claim
 unfoldable pub sample : List ℕ → Position → Point
 sample m p = record { component = p .component; north = p .north; east = p .east; claim = answerAt m p .count }
 
 unfoldable pub samplesFile : List ℕ → List Position → List ℕ
 samplesFile m ps = fileOf m (map (sample m) ps)
 
--- ---- refusals
-
--- a refusal number that another call gives
-abbrev pub given : ℕ → Test
-given n = (n, not (eqb n 0))
-
-unfoldable pub pointTest : List ℕ → Position → Test
-pointTest m p = given (answerAt m p .refusal)
-
--- "that of the first refused point"
-unfoldable pub firstRefused : List ℕ → List Position → ℕ
-firstRefused m ps = first (map (pointTest m) ps)
-
-abbrev pub equalCounts : List ℕ → List ℤ → List ℤ → Bool
-equalCounts cs ns es = eqb (length cs) (length ns) && eqb (length cs) (length es)
-
--- "1 to 5 and KIND for the message", 3 LENGTH where the three lists differ in length, "that of the first refused point",
--- 3 "LENGTH above 1,000 points, then" 6 "ROOM"
+-- the refusals of the message and the points, "then" 6 "ROOM"
 unfoldable pub writeRefusal : List ℕ → List ℕ → List ℤ → List ℤ → ℕ → ℕ
 writeRefusal m cs ns es room =
-    let ps = positions cs ns es in
-    first
-    (given (kindRefusal 1023 1024 m)
-    ∷ (3, not (equalCounts cs ns es))
-    ∷ given (firstRefused m ps)
-    ∷ (3, ltb mostPoints (length ps))
-    ∷ (6, ltb room (length (samplesFile m ps)))
-    ∷ [])
+    first (given (pointsRefusal m cs ns es) ∷ (6, ltb room (length (samplesFile m (positions cs ns es)))) ∷ [])

@@ -8,32 +8,13 @@ ghost use lib.ListN.{length};
 ghost use Rattle.layout.specs.Layout.{answered, stored};
 ghost use Rattle.part.specs.Part.{keptOf};
 ghost use Rattle.sample_files.specs.File.{pointSize, pointField, pointFields};
-ghost use Rattle.sample_writer.specs.Write.{positions, sample, samplesFile, firstRefused, writeRefusal};
+ghost use Rattle.sample_refusals.specs.Refusals.{positions};
+ghost use Rattle.sample_writer.specs.Write.{sample, samplesFile, writeRefusal};
 
 const POINT_SIZE: usize = 28;
 
-const MOST_POINTS: usize = 1000;
-
-// Refusal numbers.
-const LENGTH: u8 = 3;
-
+// Refusal number.
 const ROOM: u8 = 6;
-
-// The refusal of the first point that is refused, 0 where none is.
-fn first_refused(message: &[u8], kept: Kept, components: &[u8], north: &[i64], east: &[i64]) -> u8
-    requires { ⌜ (kept ≡ keptOf (now message)) × ((length (now components) ≡ length (now north)) × (length (now components) ≡ length (now east))) ⌝ }
-    ensures { λ r. ⌜ r ≡ firstRefused (now (message .entry)) (positions (now (components .entry)) (now (north .entry)) (now (east .entry))) ⌝ }
-{
-    let mut i: usize = 0;
-    while i < components.len() {
-        let refusal = part::count_at(message, kept, components[i], north[i], east[i]).refusal;
-        if refusal != 0 {
-            return refusal;
-        }
-        i += 1;
-    }
-    0
-}
 
 // Fills out with the field of a point.
 fn put_point(out: &mut [u8], component: u8, north: i64, east: i64, claim: i64)
@@ -121,28 +102,21 @@ pub fn write_samples(
     ensures answer { λ r. ⌜ r ≡ answered (writeRefusal (now (message .entry)) (now (components .entry)) (now (north .entry)) (now (east .entry)) (length (now (out .entry)))) (samplesFile (now (message .entry)) (positions (now (components .entry)) (now (north .entry)) (now (east .entry)))) ⌝ }
     ensures output { λ r. ⌜ now (out .exit) ≡ stored (writeRefusal (now (message .entry)) (now (components .entry)) (now (north .entry)) (now (east .entry)) (length (now (out .entry)))) (samplesFile (now (message .entry)) (positions (now (components .entry)) (now (north .entry)) (now (east .entry)))) (now (out .entry)) ⌝ }
 {
-    let kept = part::keep(message);
-    if kept.refusal != 0 {
-        return refused(kept.refusal);
+    let refusal = sample_refusals::points_refusal(message, components, north, east);
+    if refusal != 0 {
+        return refused(refusal);
     }
-    let n = components.len();
-    if n != north.len() {
-        return refused(LENGTH);
-    }
-    if n != east.len() {
-        return refused(LENGTH);
-    }
-    let point = first_refused(message, kept, components, north, east);
-    if point != 0 {
-        return refused(point);
-    }
-    if MOST_POINTS < n {
-        return refused(LENGTH);
-    }
-    let length = 3 + message.len() + POINT_SIZE * n;
+    let length = 3 + message.len() + POINT_SIZE * components.len();
     if out.len() < length {
         return refused(ROOM);
     }
-    put_file(&mut out[..length], message, kept, components, north, east);
+    put_file(
+        &mut out[..length],
+        message,
+        part::keep(message),
+        components,
+        north,
+        east,
+    );
     Written { refusal: 0, length }
 }

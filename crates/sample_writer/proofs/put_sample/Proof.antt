@@ -7,7 +7,8 @@ use Rattle.part.specs.Part.{counted, countedBy}
 use Rattle.part.proofs.Counts.{counted-is}
 use Rattle.grid.specs.Shift.{messageShift}
 use Rattle.sample_files.specs.File.{pointField}
-use Rattle.sample_writer.specs.Write.{answerAt, sample}
+use Rattle.sample_writer.specs.Write.{sample}
+use Rattle.sample_refusals.specs.Refusals.{answerAt}
 use borrow.Author.Needs.{needs}
 use Rattle.sample_writer.proofs.put_sample.Statement.{statement}
 use Rattle.sample_writer.proofs.put_sample.Tie as tie

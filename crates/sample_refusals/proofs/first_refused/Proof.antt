@@ -1,4 +1,4 @@
--- `sample_writer::first_refused` meets its contract: none of the points passed is refused.
+-- `sample_refusals::first_refused` meets its contract: none of the points passed is refused.
 -- Assumes nothing.
 use Prim.Native.Nat.{ℕ, _-_, _≤_}
 use mathlib.Core.Path.{_≡_, refl, sym, _∙_}
@@ -9,10 +9,10 @@ use lib.ListN.{length, getD}
 use Rattle.arith.proofs.Back.{held}
 use Rattle.part.specs.Part.{counted, countedBy}
 use Rattle.part.proofs.Counts.{counted-is}
-use Rattle.sample_writer.specs.Write.{answerAt, positions, firstRefused}
-use Rattle.sample_writer.proofs.Points.{from, point, turn-refused, turn-answered, end-refused}
-use Rattle.sample_writer.proofs.first_refused.Statement.{statement}
-use Rattle.sample_writer.proofs.first_refused.Tie as tie
+use Rattle.sample_refusals.specs.Refusals.{answerAt, positions, firstRefused}
+use Rattle.sample_refusals.proofs.Points.{from, point, turn-refused, turn-answered, end-refused}
+use Rattle.sample_refusals.proofs.first_refused.Statement.{statement}
+use Rattle.sample_refusals.proofs.first_refused.Tie as tie
 
 abbrev Inv-loop : tie.InvT-loop
 Inv-loop message kept components north east i₀ i =
