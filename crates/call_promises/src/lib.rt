@@ -28,6 +28,9 @@ ghost use Rattle.datum.specs.Step.{Stepped};
 ghost use Rattle.arith.specs.Row.{at};
 ghost use Rattle.height_mean.specs.Means.{smallestMean};
 ghost use Rattle.heights.specs.Heights.{writeHeights};
+ghost use Rattle.sample_checks.specs.Check.{checked};
+ghost use Rattle.sample_refusals.specs.Refusals.{positions};
+ghost use Rattle.sample_writer.specs.Write as samples;
 
 pub fn group_of(number: u16) -> u8
     ensures { λ r. ⌜ r ≡ groupOf number ⌝ }
@@ -394,4 +397,23 @@ pub fn tarnoklej_write_heights(
     ensures output { λ r. ⌜ now (out .exit) ≡ writeHeights (now (values .entry)) (now (present .entry)) (now (wanted .entry)) (now (out .entry)) .output ⌝ }
 {
     capi::tarnoklej_write_heights(values, present, wanted, out)
+}
+
+pub fn tarnoklej_write_samples(
+    message: &[u8],
+    components: &[u8],
+    north: &[i64],
+    east: &[i64],
+    out: &mut [u8],
+) -> layout::Written
+    ensures answer { λ r. ⌜ r ≡ answered (samples.writeRefusal (now (message .entry)) (now (components .entry)) (now (north .entry)) (now (east .entry)) (length (now (out .entry)))) (samples.samplesFile (now (message .entry)) (positions (now (components .entry)) (now (north .entry)) (now (east .entry)))) ⌝ }
+    ensures output { λ r. ⌜ now (out .exit) ≡ stored (samples.writeRefusal (now (message .entry)) (now (components .entry)) (now (north .entry)) (now (east .entry)) (length (now (out .entry)))) (samples.samplesFile (now (message .entry)) (positions (now (components .entry)) (now (north .entry)) (now (east .entry)))) (now (out .entry)) ⌝ }
+{
+    capi::tarnoklej_write_samples(message, components, north, east, out)
+}
+
+pub fn tarnoklej_check_samples(file: &[u8]) -> sample_checks::Checked
+    ensures { λ r. ⌜ r ≡ checked (now (file .entry)) ⌝ }
+{
+    capi::tarnoklej_check_samples(file)
 }
