@@ -12,6 +12,9 @@ ghost use Rattle.datum.specs.Step.{Stepped};
 ghost use Rattle.heights.specs.Heights.{writeHeights};
 ghost use Rattle.reports.specs.Reports.{listsReport};
 ghost use Rattle.flat_reports.specs.Flat.{flat};
+ghost use Rattle.sample_checks.specs.Check.{checked};
+ghost use Rattle.sample_refusals.specs.Refusals.{positions};
+ghost use Rattle.sample_writer.specs.Write as samples;
 
 // The number, the length and the system identification number of a message.
 #[no_mangle]
@@ -204,4 +207,27 @@ pub extern "C" fn tarnoklej_report_points(
     ensures { λ r. ⌜ r ≡ flat (listsReport (now (s .entry)) component (now (north .entry)) (now (east .entry))) ⌝ }
 {
     flat_reports::report_lists(s, component, north, east)
+}
+
+// The file of a message and the points of three slices of equal count, each with the message's answer as its claim, in the first bytes of out.
+#[no_mangle]
+pub extern "C" fn tarnoklej_write_samples(
+    message: &[u8],
+    components: &[u8],
+    north: &[i64],
+    east: &[i64],
+    out: &mut [u8],
+) -> layout::Written
+    ensures answer { λ r. ⌜ r ≡ answered (samples.writeRefusal (now (message .entry)) (now (components .entry)) (now (north .entry)) (now (east .entry)) (length (now (out .entry)))) (samples.samplesFile (now (message .entry)) (positions (now (components .entry)) (now (north .entry)) (now (east .entry)))) ⌝ }
+    ensures output { λ r. ⌜ now (out .exit) ≡ stored (samples.writeRefusal (now (message .entry)) (now (components .entry)) (now (north .entry)) (now (east .entry)) (length (now (out .entry)))) (samples.samplesFile (now (message .entry)) (positions (now (components .entry)) (now (north .entry)) (now (east .entry)))) (now (out .entry)) ⌝ }
+{
+    sample_writer::write_samples(message, components, north, east, out)
+}
+
+// Checks a file of sample answers: 0, LAYOUT, 1 to 5 or KIND, or CLAIM with the place of the first bad point from 1.
+#[no_mangle]
+pub extern "C" fn tarnoklej_check_samples(file: &[u8]) -> sample_checks::Checked
+    ensures { λ r. ⌜ r ≡ checked (now (file .entry)) ⌝ }
+{
+    sample_checks::check_samples(file)
 }

@@ -1,0 +1,3 @@
+pub mod Checks
+pub mod Written
+pub mod Changed

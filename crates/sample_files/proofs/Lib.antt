@@ -1,0 +1,4 @@
+pub mod Bytes
+pub mod Fields
+pub mod Back
+pub mod Shape
