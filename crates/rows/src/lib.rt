@@ -1,7 +1,6 @@
 // Rows of shifts: the counts of one component at equal steps east.
 use cell::Corners;
 use going::Part;
-use grid_fields::Nodes;
 use grid_records::Frame;
 use position::Located;
 ghost use mathlib.Core.Path.{_≡_};
@@ -96,22 +95,6 @@ fn fill_cell(
     going::fill(row, mean, first, growth(first, second, area), area);
 }
 
-// The values of a cell's nodes.
-fn values_of(n: Nodes) -> Corners
-    ensures { λ r. ⌜ r ≡ valuesIn n ⌝ }
-{
-    let sw = n.sw;
-    let se = n.se;
-    let nw = n.nw;
-    let ne = n.ne;
-    Corners {
-        sw: layout::value_in(sw),
-        se: layout::value_in(se),
-        nw: layout::value_in(nw),
-        ne: layout::value_in(ne),
-    }
-}
-
 // Fills a run of places in the cell of p, which is the first.
 fn fill_run(row: &mut [i64], message: &[u8], number: i64, component: u8, p: Located, step: u64)
     requires { ⌜ Standing (valueIn (meanSays (now message) component)) (valuesIn (cellSays (now message) component (p .row) (p .column))) p × (0 < length (now row)) × (length (now row) ≤ 4096) × (p .east + (length (now row) - 1) * step ≤ p .width) ⌝ }
@@ -124,7 +107,7 @@ fn fill_run(row: &mut [i64], message: &[u8], number: i64, component: u8, p: Loca
         row,
         100 * layout::value_in(mean),
         factor,
-        values_of(n),
+        part::values_of(n),
         p.height,
         p.width,
         p.north,

@@ -1,5 +1,4 @@
 // The refusal of a row of shifts at equal steps east.
-use cell::Weights;
 use field::Reading;
 use grid_fields::Nodes;
 use grid_records::Frame;
@@ -12,10 +11,7 @@ ghost use lib.IntN.{pos};
 ghost use lib.Signed.{_≤ℤ_};
 ghost use Rattle.arith.specs.First.{first};
 ghost use Rattle.arith.specs.Row.{allBelow};
-ghost use Rattle.grid_refusals.specs.Refusals.{available};
-ghost use Rattle.bilinear.specs.Bilinear.{lacks};
 ghost use Rattle.cell.specs.Private.{Within};
-ghost use Rattle.grid.specs.Private.{lacking};
 ghost use Rattle.shift_row_refusals.specs.Row.{eastAt, anyBeyond, misplaced, shiftRowRefusal, placesIn};
 ghost use Rattle.shift_row_refusals.specs.Private.{lackingAt, Ready, Looked, firstRefused};
 
@@ -42,42 +38,6 @@ pub fn places_in(left: usize, w: u64, x: u64, step: u64) -> usize
     left
 }
 
-// A node that has weight and no value.
-fn node_lacks(weight: u64, r: Reading) -> bool
-    ensures { λ q. ⌜ q ≡ lacks weight (available r) ⌝ }
-{
-    if weight == 0 {
-        return false;
-    }
-    let Reading::Value(_) = r else {
-        return true;
-    };
-    false
-}
-
-// The mean, or a node that has weight, has no value.
-fn cell_lacks(mean: Reading, n: Nodes, k: Weights) -> bool
-    ensures { λ r. ⌜ r ≡ lacking mean n k ⌝ }
-{
-    let Reading::Value(_) = mean else {
-        return true;
-    };
-    let sw = n.sw;
-    if node_lacks(k.sw, sw) {
-        return true;
-    }
-    let se = n.se;
-    if node_lacks(k.se, se) {
-        return true;
-    }
-    let nw = n.nw;
-    if node_lacks(k.nw, nw) {
-        return true;
-    }
-    let ne = n.ne;
-    node_lacks(k.ne, ne)
-}
-
 // ABSENT where one of so many places in a cell lacks a value, or 0: between the edges the same nodes have weight, and those of an edge too, so the first place and the second tell.
 fn run_refusal(
     mean: Reading,
@@ -92,13 +52,13 @@ fn run_refusal(
     requires { ⌜ Within h w y x × (0 < places) × (x + (places - 1) * step ≤ w) ⌝ }
     ensures { λ r. ⌜ r ≡ cond (allBelow (λ j. not (lackingAt mean n h w y (x + j * step))) places) 0 15 ⌝ }
 {
-    if cell_lacks(mean, n, cell::weights_in(h, w, y, x)) {
+    if part::cell_lacks(mean, n, cell::weights_in(h, w, y, x)) {
         return 15;
     }
     if places < 2 {
         return 0;
     }
-    if cell_lacks(mean, n, cell::weights_in(h, w, y, x + step)) {
+    if part::cell_lacks(mean, n, cell::weights_in(h, w, y, x + step)) {
         return 15;
     }
     0
