@@ -1,6 +1,7 @@
 // The public functions of the crates on parts, tallies and reports, called once with their promises restated: a promise that is weakened there is missed here.
 ghost use mathlib.Core.List.{[]};
 ghost use mathlib.Core.Path.{_≡_};
+ghost use Rattle.flat_reports.specs.Flat.{flat};
 ghost use Rattle.grid.specs.Private.{lacking, valuesIn};
 ghost use Rattle.grid.specs.Shift.{messageShift};
 ghost use Rattle.part.specs.Part.{counted, countedBy, keptOf};
@@ -83,4 +84,15 @@ pub fn report_lists(
     ensures { λ r. ⌜ r ≡ listsReport (now (message .entry)) component (now (north .entry)) (now (east .entry)) ⌝ }
 {
     reports::report_lists(message, component, north, east)
+}
+
+pub fn flat_report(
+    message: &[u8],
+    component: u8,
+    north: &[i64],
+    east: &[i64],
+) -> flat_reports::FlatReport
+    ensures { λ r. ⌜ r ≡ flat (listsReport (now (message .entry)) component (now (north .entry)) (now (east .entry))) ⌝ }
+{
+    flat_reports::report_lists(message, component, north, east)
 }

@@ -1,0 +1,276 @@
+// Reads a message, a component and points from standard input and prints the numbers of their report, one to a line: the points answered, those refused
+// under 1 to 15, the smallest and the greatest count, their first places, and the sum of counts; or `refused` and the refusal number.
+// The first line has the message in hexadecimal digits, `-` for none, the second the component, each further line a point: north and east in whole steps.
+// Empty lines at the end are ignored; any other bad line is answered by `bad input: line` and its number alone.
+use lines::input;
+use lines::input::Chunk;
+use lines::input::Got;
+use lines::input::Line;
+use lines::input::Place;
+use lines::output;
+use lines::output::Out;
+use numerals::Byte;
+use numerals::Bytes;
+use numerals::Count;
+use tally_update::Tally;
+
+// More lines than any list of points has.
+const TURNS: usize = 1099511627776;
+
+// The tally of the points so far, its refusal number or 0, the lines read, and two numbers of lines or 0: the first empty one, and a bad one.
+struct State {
+    tally: Tally,
+    refusal: u8,
+    lines: usize,
+    empty: usize,
+    bad: usize,
+}
+
+fn main() {
+    let mut chunk = [0u8; 4096];
+    let mut line = [0u8; 900];
+    let mut message = [0u8; 400];
+    let mut out = [0u8; 16384];
+    answer(&mut chunk, &mut line, &mut message, &mut out);
+}
+
+// The answer to the whole input.
+fn answer(chunk: &mut Chunk, line: &mut Line, message: &mut Bytes, out: &mut Out) {
+    let first = input::read_line(chunk, line, input::start());
+    let Count::Is(n) = message_of(line, first, message) else {
+        put_bad(out, 1);
+        return;
+    };
+    let second = input::read_line(chunk, line, first.place);
+    let Byte::Is(component) = component_of(line, second) else {
+        put_bad(out, 2);
+        return;
+    };
+    let state = add_points(
+        chunk,
+        line,
+        second.place,
+        words::before(message, n),
+        component,
+    );
+    put_end(out, state);
+}
+
+// The bytes that the first line spells.
+fn message_of(line: &Line, got: Got, message: &mut Bytes) -> Count {
+    if got.ended {
+        return Count::Bad;
+    }
+    if 900 < got.length {
+        return Count::Bad;
+    }
+    numerals::hex(words::before(line, got.length), message)
+}
+
+// The number that the second line spells.
+fn component_of(line: &Line, got: Got) -> Byte {
+    if got.ended {
+        return Byte::Bad;
+    }
+    if 900 < got.length {
+        return Byte::Bad;
+    }
+    numerals::small(words::before(line, got.length))
+}
+
+// The points of all further lines, up to a bad one.
+fn add_points(
+    chunk: &mut Chunk,
+    line: &mut Line,
+    behind: Place,
+    message: &[u8],
+    component: u8,
+) -> State {
+    let mut state = start(component);
+    let mut place = behind;
+    let mut turns: usize = TURNS;
+    while turns > 0 {
+        let got = input::read_line(chunk, line, place);
+        if got.ended {
+            return state;
+        }
+        place = got.place;
+        state = add_line(state, line, got.length, message, component);
+        if state.bad != 0 {
+            return state;
+        }
+        turns -= 1;
+    }
+    state
+}
+
+// Two lines are read, and no point: COMPONENT is refused without one.
+fn start(component: u8) -> State {
+    let zeros = tally_update::empty(0);
+    let tally = zeros.tally;
+    State {
+        tally,
+        refusal: component_refusal(component),
+        lines: 2,
+        empty: 0,
+        bad: 0,
+    }
+}
+
+fn component_refusal(component: u8) -> u8 {
+    if 2 < component {
+        return 8;
+    }
+    0
+}
+
+// One line more.
+fn add_line(state: State, line: &Line, length: usize, message: &[u8], component: u8) -> State {
+    let number = std::num::wrapping_add_usize(state.lines, 1);
+    if length == 0 {
+        return with_empty(state, number);
+    }
+    if state.empty != 0 {
+        return with_bad(state, state.empty);
+    }
+    if 900 < length {
+        return with_bad(state, number);
+    }
+    add_point(
+        state,
+        number,
+        words::before(line, length),
+        message,
+        component,
+    )
+}
+
+// A line with two whole numbers.
+fn add_point(state: State, number: usize, s: &[u8], message: &[u8], component: u8) -> State {
+    let mut numbers = [0i64; 100];
+    let Count::Is(n) = numerals::row(s, &mut numbers) else {
+        return with_bad(state, number);
+    };
+    if n != 2 {
+        return with_bad(state, number);
+    }
+    with_point(state, number, message, component, numbers[0], numbers[1])
+}
+
+// One point more; behind a refusal it is read and not counted.
+fn with_point(
+    state: State,
+    number: usize,
+    message: &[u8],
+    component: u8,
+    north: i64,
+    east: i64,
+) -> State {
+    let tally = state.tally;
+    if state.refusal != 0 {
+        return State {
+            tally,
+            refusal: state.refusal,
+            lines: number,
+            empty: 0,
+            bad: 0,
+        };
+    }
+    let r = tally::tally_next(tally, message, component, north, east);
+    let next = r.tally;
+    State {
+        tally: next,
+        refusal: r.refusal,
+        lines: number,
+        empty: 0,
+        bad: 0,
+    }
+}
+
+// An empty line more: the first of them is kept.
+fn with_empty(state: State, number: usize) -> State {
+    let tally = state.tally;
+    State {
+        tally,
+        refusal: state.refusal,
+        lines: number,
+        empty: first_of(state.empty, number),
+        bad: 0,
+    }
+}
+
+fn first_of(old: usize, new: usize) -> usize {
+    if old == 0 {
+        return new;
+    }
+    old
+}
+
+// A bad line.
+fn with_bad(state: State, number: usize) -> State {
+    let tally = state.tally;
+    State {
+        tally,
+        refusal: state.refusal,
+        lines: state.lines,
+        empty: state.empty,
+        bad: number,
+    }
+}
+
+fn put_bad(out: &mut Out, number: usize) {
+    let to = output::put_all(out, 0, b"bad input: line ");
+    let to = output::put_count(out, to, number);
+    let to = output::put(out, to, b'\n');
+    output::flush(out, to);
+}
+
+// The bad line, the refusal, or the numbers.
+fn put_end(out: &mut Out, state: State) {
+    if state.bad != 0 {
+        put_bad(out, state.bad);
+        return;
+    }
+    if state.refusal != 0 {
+        let to = output::put_all(out, 0, b"refused ");
+        let to = output::put_small(out, to, state.refusal);
+        let to = output::put(out, to, b'\n');
+        output::flush(out, to);
+        return;
+    }
+    let tally = state.tally;
+    put_numbers(out, tally);
+}
+
+fn put_numbers(out: &mut Out, t: Tally) {
+    let refused = t.refused;
+    let to = put_line(out, 0, t.answered);
+    let to = put_lines(out, to, &refused);
+    let to = put_whole_line(out, to, t.smallest);
+    let to = put_whole_line(out, to, t.greatest);
+    let to = put_line(out, to, t.smallest_place);
+    let to = put_line(out, to, t.greatest_place);
+    let to = put_whole_line(out, to, t.sum);
+    output::flush(out, to);
+}
+
+// Each number on a line.
+fn put_lines(out: &mut Out, at: usize, numbers: &[u64]) -> usize {
+    let mut to = at;
+    let mut k: usize = 0;
+    while k < numbers.len() {
+        to = put_line(out, to, numbers[k]);
+        k += 1;
+    }
+    to
+}
+
+fn put_line(out: &mut Out, at: usize, n: u64) -> usize {
+    let to = output::put_natural(out, at, n);
+    output::put(out, to, b'\n')
+}
+
+fn put_whole_line(out: &mut Out, at: usize, n: i64) -> usize {
+    let to = output::put_whole(out, at, n);
+    output::put(out, to, b'\n')
+}
