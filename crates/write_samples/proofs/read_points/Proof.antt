@@ -1,0 +1,26 @@
+-- `write_samples::read_points` is safe and ends: the measure is the number of turns that are left.
+-- Assumes nothing.
+use native.Mathlib.Omega.{arith}
+use Rattle.write_samples.proofs.read_points.Statement.{statement}
+use Rattle.write_samples.proofs.read_points.Tie as tie
+
+abbrev Inv-loop : tie.InvT-loop
+Inv-loop chunk₀ line₀ message components₀ north₀ east₀ state₀ turns₀ chunk line components north east state turns = Unit {0}
+
+abbrev μ-loop : tie.MeasureT-loop
+μ-loop chunk₀ line₀ message components₀ north₀ east₀ state₀ turns₀ chunk line components north east state turns = turns
+
+pub read-points-spec : {M : Type 1} → statement M
+read-points-spec =
+    tie.close
+    (tie.spec
+    Inv-loop
+    μ-loop
+    (λ c κs. tt)
+    (λ c. tt)
+    (λ c κs. tt)
+    (λ c. tt)
+    (λ c. omega arith)
+    (λ c. omega arith)
+    (λ c. tt)
+    (λ c. tt))
