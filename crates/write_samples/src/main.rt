@@ -6,34 +6,19 @@ use lines::input;
 use lines::input::Chunk;
 use lines::input::Line;
 use lines::input::Place;
-use numerals::Byte;
 use numerals::Bytes;
 use numerals::Count;
-use numerals::Integer;
-
-type Components = [u8; 1001];
-
-type Positions = [i64; 1001];
+use sample_texts::Components;
+use sample_texts::Positions;
 
 // 3 bytes, 127 of an accepted message and 28,000 of points.
 type Out = [u8; 28130];
 
 // More lines than any text has.
-const TURNS: usize = 1099511627776;
+const LINES: usize = 1099511627776;
 
 // Refusal number.
 const LENGTH: u8 = 3;
-
-// The place behind the last line and its number, the points held, the refusal of the first refused point behind these, whether no more lines come, and
-// whether the last line was bad.
-struct State {
-    place: Place,
-    line: usize,
-    count: usize,
-    later: u8,
-    done: bool,
-    bad: bool,
-}
 
 fn main() {
     let mut chunk = [0u8; 4096];
@@ -70,16 +55,27 @@ fn answer(
         return;
     };
     let message = words::before(bytes, n);
-    let place = got.place;
-    let s = read_points(chunk, line, message, components, north, east, place);
-    if s.bad {
-        bad_input(s.line);
+    let mut count: usize = 0;
+    let mut later: u8 = 0;
+    let bad = read_points(
+        chunk,
+        line,
+        message,
+        components,
+        north,
+        east,
+        &mut count,
+        &mut later,
+        got.place,
+    );
+    if bad != 0 {
+        bad_input(bad);
         return;
     }
-    write(message, components, north, east, s.count, s.later, out);
+    write(message, components, north, east, count, later, out);
 }
 
-// The points, up to the end of the text or a bad line.
+// The points, up to the end of the text or a bad line: the number of the bad line, 0 where there is none.
 fn read_points(
     chunk: &mut Chunk,
     line: &mut Line,
@@ -87,158 +83,33 @@ fn read_points(
     components: &mut Components,
     north: &mut Positions,
     east: &mut Positions,
-    place: Place,
-) -> State {
-    let mut state = start(place);
-    let mut turns: usize = TURNS;
-    while turns > 0 {
-        state = next_line(chunk, line, message, components, north, east, state);
-        if state.done {
-            return state;
+    count: &mut usize,
+    later: &mut u8,
+    first: Place,
+) -> usize {
+    let mut place = first;
+    let mut number: usize = 1;
+    while number < LINES {
+        let got = input::read_line(chunk, line, place);
+        if got.ended {
+            return 0;
         }
-        turns -= 1;
+        place = got.place;
+        number += 1;
+        let s = text_of(line, got.length);
+        if !sample_texts::take_point(s, message, components, north, east, count, later) {
+            return number;
+        }
     }
-    state
+    0
 }
 
-// The first line is read.
-fn start(place: Place) -> State {
-    State {
-        place,
-        line: 1,
-        count: 0,
-        later: 0,
-        done: false,
-        bad: false,
+// The bytes of a line, none of one that is too long to be held.
+fn text_of(line: &Line, length: usize) -> &[u8] {
+    if 900 < length {
+        return words::before(line, 0);
     }
-}
-
-// One line more.
-fn next_line(
-    chunk: &mut Chunk,
-    line: &mut Line,
-    message: &[u8],
-    components: &mut Components,
-    north: &mut Positions,
-    east: &mut Positions,
-    state: State,
-) -> State {
-    let place = state.place;
-    let got = input::read_line(chunk, line, place);
-    if got.ended {
-        return stop(state, false);
-    }
-    let next = got.place;
-    let s = passed(state, next);
-    if 900 < got.length {
-        return stop(s, true);
-    }
-    take_point(
-        words::before(line, got.length),
-        message,
-        components,
-        north,
-        east,
-        s,
-    )
-}
-
-fn stop(state: State, bad: bool) -> State {
-    let place = state.place;
-    State {
-        place,
-        line: state.line,
-        count: state.count,
-        later: state.later,
-        done: true,
-        bad,
-    }
-}
-
-// Behind a line.
-fn passed(state: State, place: Place) -> State {
-    State {
-        place,
-        line: std::num::wrapping_add_usize(state.line, 1),
-        count: state.count,
-        later: state.later,
-        done: false,
-        bad: false,
-    }
-}
-
-// The point that a line spells.
-fn take_point(
-    s: &[u8],
-    message: &[u8],
-    components: &mut Components,
-    north: &mut Positions,
-    east: &mut Positions,
-    state: State,
-) -> State {
-    let Byte::Is(c) = numerals::small(words::word(s)) else {
-        return stop(state, true);
-    };
-    let rest = words::rest(s);
-    let Integer::Is(n) = numerals::whole(words::word(rest)) else {
-        return stop(state, true);
-    };
-    let Integer::Is(e) = numerals::whole(words::rest(rest)) else {
-        return stop(state, true);
-    };
-    if state.count < 1001 {
-        return keep(components, north, east, c, n, e, state);
-    }
-    look(message, c, n, e, state)
-}
-
-// A point is held.
-fn keep(
-    components: &mut Components,
-    north: &mut Positions,
-    east: &mut Positions,
-    c: u8,
-    n: i64,
-    e: i64,
-    state: State,
-) -> State {
-    let k = state.count;
-    if k < 1001 {
-        components[k] = c;
-        north[k] = n;
-        east[k] = e;
-        return counted(state, k + 1);
-    }
-    state
-}
-
-fn counted(state: State, count: usize) -> State {
-    let place = state.place;
-    State {
-        place,
-        line: state.line,
-        count,
-        later: state.later,
-        done: state.done,
-        bad: state.bad,
-    }
-}
-
-// Of a point that is not held only its refusal is kept, where it is the first.
-fn look(message: &[u8], c: u8, n: i64, e: i64, state: State) -> State {
-    if state.later != 0 {
-        return state;
-    }
-    let answer = part::part_at(message, c, n, e);
-    let place = state.place;
-    State {
-        place,
-        line: state.line,
-        count: state.count,
-        later: answer.refusal,
-        done: state.done,
-        bad: state.bad,
-    }
+    words::before(line, length)
 }
 
 // The file, or the refusal.
