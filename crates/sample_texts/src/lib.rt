@@ -1,0 +1,47 @@
+// The points that lines of a text spell, `COMPONENT NORTH EAST`: the first 1,001 are held.
+use numerals::Byte;
+use numerals::Integer;
+
+pub type Components = [u8; 1001];
+
+pub type Positions = [i64; 1001];
+
+// The point that a line spells, held behind the first `count`; of a point behind 1,001 only the refusal is kept in `later`, where it is the first.
+// Answers whether the line spells a point.
+pub fn take_point(
+    s: &[u8],
+    message: &[u8],
+    components: &mut Components,
+    north: &mut Positions,
+    east: &mut Positions,
+    count: &mut usize,
+    later: &mut u8,
+) -> bool {
+    let Byte::Is(c) = numerals::small(words::word(s)) else {
+        return false;
+    };
+    let rest = words::rest(s);
+    let Integer::Is(n) = numerals::whole(words::word(rest)) else {
+        return false;
+    };
+    let Integer::Is(e) = numerals::whole(words::rest(rest)) else {
+        return false;
+    };
+    let k = *count;
+    if k < 1001 {
+        components[k] = c;
+        north[k] = n;
+        east[k] = e;
+        *count = k + 1;
+        return true;
+    }
+    look(message, c, n, e, later);
+    true
+}
+
+// The refusal of a point, where none is kept.
+fn look(message: &[u8], c: u8, n: i64, e: i64, later: &mut u8) {
+    if *later == 0 {
+        *later = part::part_at(message, c, n, e).refusal;
+    }
+}
