@@ -12,6 +12,7 @@ use lines::output::Out;
 use numerals::Byte;
 use numerals::Bytes;
 use numerals::Count;
+use numerals::Integer;
 use tally_update::Tally;
 
 // More lines than any list of points has.
@@ -145,16 +146,15 @@ fn add_line(state: State, line: &Line, length: usize, message: &[u8], component:
     )
 }
 
-// A line with two whole numbers.
+// A line with two whole numbers and one space between them.
 fn add_point(state: State, number: usize, s: &[u8], message: &[u8], component: u8) -> State {
-    let mut numbers = [0i64; 100];
-    let Count::Is(n) = numerals::row(s, &mut numbers) else {
+    let Integer::Is(north) = numerals::whole(words::word(s)) else {
         return with_bad(state, number);
     };
-    if n != 2 {
+    let Integer::Is(east) = numerals::whole(words::rest(s)) else {
         return with_bad(state, number);
-    }
-    with_point(state, number, message, component, numbers[0], numbers[1])
+    };
+    with_point(state, number, message, component, north, east)
 }
 
 // One point more; behind a refusal it is read and not counted.
