@@ -1,25 +1,24 @@
 -- The answers of `check_samples`, one law for each way out, and the loop over the points.
 -- Assumes nothing.
 use mathlib.Core.Path.{_≡_, refl, sym, ap, _∙_}
-use mathlib.Core.Bool.{Bool, true, false, not, cond, _&&_}
+use mathlib.Core.Bool.{Bool, true, false, not}
 use mathlib.Core.List.{List}
-use Prim.Native.Nat.{ℕ, suc, _+_, _-_, _^_, _≤_, _<_}
+use Prim.Native.Nat.{ℕ, _+_, _-_, _^_, _≤_, _<_}
 use native.Mathlib.Numerals.{add-one}
 use native.Mathlib.Omega.{arith}
 use lib.Dec.{eqb}
 use lib.IntN.{ℤ}
-use lib.ListN.{length, getD, take, drop}
+use lib.ListN.{length, take, drop}
 use lib.Signed.{mag}
 use mir.Syntax.{w64}
 use mir.Val.{ofZ}
-use borrow.Author.Tests.{eqb-true, eqb-false, eq-eqb, ne-eqb, lt-ltb, le-ltb}
+use borrow.Author.Tests.{eqb-true, eqb-false, ne-eqb, lt-ltb, le-ltb}
 use Rattle.arith.specs.Places.{firstOf}
 use Rattle.arith.specs.Whole.{sameZ}
 use Rattle.arith.proofs.Order.{same-yes, same-no}
 use Rattle.arith.proofs.Places.{turn-hit, turn-on, turn-end}
 use Rattle.byte_numbers.specs.Number.{number}
-use Rattle.sample_files.specs.declared.Point.{Point}
-use Rattle.sample_files.specs.File.{messageEnd, messageOf, pointsOf, shape, endIn, noPoint, pointAt}
+use Rattle.sample_files.specs.File.{messageEnd, messageOf, pointsOf, shape, endIn, pointAt}
 use Rattle.field.proofs.Bit.{Bytes}
 use Rattle.sample_files.proofs.Fields.{end-whole}
 use Rattle.sample_files.proofs.Shape.{message-whole}

@@ -3,7 +3,7 @@
 use mathlib.Core.Path.{_≡_, refl, sym, ap, ap₂, _∙_}
 use mathlib.Core.Bool.{Bool, true, false, _&&_}
 use mathlib.Core.List.{List, [], _∷_, _++_, map, append-assoc}
-use Prim.Native.Nat.{ℕ, zero, suc, _+_, _*_, _^_, _≤_, _<_}
+use Prim.Native.Nat.{ℕ, zero, suc, _+_, _<_}
 use native.Mathlib.Nat.{not-suc-le-zero, le-of-suc-le-suc}
 use native.Mathlib.Omega.{arith}
 use borrow.Author.Tests.{ne-eqb}
@@ -11,22 +11,20 @@ use lib.Dec.{eqb}
 use lib.IntN.{ℤ, pos}
 use lib.ListN.{length, getD, set, take, drop, length-append, length-set}
 use lib.Seq.{take-at, drop-at, drop-drop, length-take-le, split-at, set-split, getD-set-same, getD-set-other}
-use lib.Signed.{mag}
 use Rattle.arith.specs.Whole.{sameZ}
 use Rattle.arith.proofs.Whole.{eqZ-false}
-use Rattle.grid.specs.Shift.{messageShift}
 use Rattle.byte_numbers.specs.Number.{bytesOf, wholeBytes, putBytes}
 use Rattle.byte_numbers.proofs.Number.{length-bytesOf, length-whole, put-within}
 use Rattle.sample_files.specs.declared.Point.{Point}
-use Rattle.sample_files.specs.File.{field, pointField, pointFields, fileOf, pointSize, noPoint}
-use Rattle.sample_files.specs.Held.{Held, AllHeld, none, more}
+use Rattle.sample_files.specs.File.{field, pointField, pointFields, fileOf, noPoint}
+use Rattle.sample_files.specs.Held.{Held, AllHeld, more}
 use Rattle.sample_files.proofs.Bytes.{length-contents, length-field, length-points}
 use Rattle.sample_checks.specs.Check.{right, claims, checked}
 use Rattle.sample_refusals.specs.Refusals.{Position, answerAt, positions}
 use Rattle.sample_refusals.proofs.Points.{length-positions}
 use Rattle.sample_writer.specs.Write.{sample, samplesFile}
 use Rattle.sample_writer.proofs.Writes.{length-samples}
-use Rattle.sample_demands.specs.Samples.{Bytes, Wholes, claimPlace, ClaimChanged}
+use Rattle.sample_demands.specs.Samples.{claimPlace, ClaimChanged}
 use Rattle.sample_demands.proofs.Checks.{file-back, back-checked, is-first}
 use Rattle.sample_demands.proofs.Written.{writes, few-samples, message-short, samples-held, samples-right}
 

@@ -3,10 +3,10 @@
 use mathlib.Core.Path.{_≡_, refl, sym, ap, _∙_, subst}
 use mathlib.Core.Bool.{Bool, true, false, not, cond, _&&_, true≢false}
 use mathlib.Core.List.{List, [], _∷_}
-use Prim.Native.Nat.{ℕ, zero, suc, _+_, _≤_, _<_}
+use Prim.Native.Nat.{ℕ, suc, _≤_, _<_}
 use native.Mathlib.Decide.{decLt}
 use native.Mathlib.Omega.{arith}
-use borrow.Author.Tests.{eqb-true, eqb-false, eq-eqb, ne-eqb, lt-ltb, le-ltb, not-true, not-false}
+use borrow.Author.Tests.{eqb-true, eqb-false, ne-eqb, lt-ltb, le-ltb, not-true, not-false}
 use lib.Dec.{eqb}
 use lib.ListN.{length, getD}
 use Rattle.arith.specs.Places.{firstOf}
@@ -20,7 +20,7 @@ use Rattle.sample_files.proofs.Back.{message-back, points-of-back, shape-back}
 use Rattle.sample_files.proofs.Shape.{shape-file, shape-few, message-low, held-points}
 use Rattle.sample_checks.specs.declared.Checked.{Checked}
 use Rattle.sample_checks.specs.Check.{messageRefusal, right, badAt, placeOf, firstBad, refusedWith, claims, checked}
-use Rattle.sample_demands.specs.Samples.{ReadBack, FileBack, Made, ShapeExactly, Accepted, Exactly, AcceptedExactly, FirstBad, Place, PlaceIsFirst}
+use Rattle.sample_demands.specs.Samples.{ReadBack, FileBack, ShapeExactly, Accepted, Exactly, AcceptedExactly, FirstBad, Place, PlaceIsFirst}
 
 -- ---- the file
 

@@ -20,10 +20,9 @@ use Rattle.wire.specs.Message.{refusal, numberOf, kindRefusal}
 use Rattle.wire.proofs.Limits.{accepted-size, first-behind}
 use Rattle.grid.specs.Shift.{outcome, shiftWith, shiftRefusal, messageShift}
 use Rattle.grid.proofs.Calls.{count-lossless}
-use Rattle.sample_files.specs.File.{mostPoints, fileOf, noPoint}
-use Rattle.sample_files.specs.declared.Point.{Point}
+use Rattle.sample_files.specs.File.{noPoint}
 use Rattle.sample_files.specs.Held.{AllHeld, none, more}
-use Rattle.sample_checks.specs.Check.{messageRefusal, right, firstBad, claims}
+use Rattle.sample_checks.specs.Check.{messageRefusal, right, claims}
 use Rattle.sample_writer.specs.Write.{sample, samplesFile, writeRefusal}
 use Rattle.sample_refusals.specs.Refusals.{Position, answerAt, positions, pointTest, firstRefused, pointsRefusal}
 use Rattle.sample_refusals.proofs.Points.{length-positions, given-none, Passed, passed}

@@ -1,22 +1,22 @@
 -- What is read back from the bytes of a file: its message and its points.
 -- Assumes nothing.
 use mathlib.Core.Path.{_≡_, refl, sym, ap, _∙_}
-use mathlib.Core.Bool.{Bool, true, false, _&&_}
+use mathlib.Core.Bool.{true, _&&_}
 use mathlib.Core.List.{List, [], _∷_, _++_, append-assoc}
-use Prim.Native.Nat.{ℕ, zero, suc, _+_, _*_, _/_, _%_, _^_, _≤_, _<_}
+use Prim.Native.Nat.{ℕ, _+_, _/_, _%_, _≤_, _<_}
 use native.Mathlib.Omega.{arith}
-use borrow.Author.Tests.{lt-ltb, le-leb, eq-eqb}
-use lib.Dec.{eqb, leb}
-use lib.ListN.{length, getD, take, drop, length-append}
+use borrow.Author.Tests.{le-leb, eq-eqb}
+use lib.Dec.{eqb}
+use lib.ListN.{length, getD, take, drop}
 use lib.Seq.{take-at, drop-at, drop-drop}
 use Rattle.byte_numbers.specs.Number.{number, bytesOf, whole, wholeBytes}
 use Rattle.sample_files.specs.declared.Point.{Point}
 use Rattle.words.specs.Words.{same}
-use Rattle.sample_files.specs.File.{field, pointField, pointFields, fileOf, pointSize, mostPoints, messageEnd, messageOf, restOf, pointOf, pointsIn, pointsOf, shape}
+use Rattle.sample_files.specs.File.{field, pointField, pointFields, fileOf, pointSize, mostPoints, messageOf, restOf, pointOf, pointsIn, pointsOf, shape}
 use Rattle.sample_files.specs.Private.{messageFirst, pointHead, pointHeads, onlyPoints, tested}
-use Rattle.sample_files.specs.Held.{Held, AllHeld, none, more}
+use Rattle.sample_files.specs.Held.{Held, AllHeld, more}
 use Rattle.byte_numbers.proofs.Number.{length-bytesOf, length-whole, number-bytesOf, whole-back}
-use Rattle.sample_files.proofs.Bytes.{contents, length-contents, length-field, length-point, length-points, length-file}
+use Rattle.sample_files.proofs.Bytes.{length-contents, length-point, length-points, length-file}
 
 pub same-refl : (a : List ℕ) → same a a ≡ true
 unfolding same

@@ -1,14 +1,14 @@
 -- The tests of the code are the shape: a file of bytes that passes them is the bytes of its message and its points, and the other way round.
 -- Assumes nothing.
-use mathlib.Core.Path.{_≡_, refl, sym, ap, ap₂, _∙_, subst}
+use mathlib.Core.Path.{_≡_, refl, sym, ap, ap₂, _∙_}
 use mathlib.Core.Bool.{Bool, true, false, _&&_}
 use mathlib.Core.List.{List, [], _∷_, _++_}
 use Prim.Native.Nat.{ℕ, zero, suc, _+_, _*_, _/_, _%_, _^_, _≤_, _<_}
-use native.Mathlib.Nat.{not-suc-le-zero}
+use native.Mathlib.Nat.{min-le-left}
 use native.Mathlib.Omega.{arith}
-use borrow.Author.Tests.{le-leb, leb-true, eqb-true}
+use borrow.Author.Tests.{leb-true, eqb-true}
 use lib.Dec.{eqb, leb}
-use lib.ListN.{length, getD, take, drop, length-drop, take-append-drop}
+use lib.ListN.{length, getD, take, drop, length-drop, length-take, take-append-drop}
 use lib.Signed.{mag}
 use lib.Seq.{length-take-le, take-add, take-suc, drop-drop, getD-drop}
 use Rattle.arith.proofs.Tests.{false-ne-true, both-first, both-second}
@@ -20,7 +20,7 @@ use Rattle.sample_files.specs.declared.Point.{Point}
 use Rattle.sample_files.specs.File.{field, pointField, pointFields, fileOf, pointSize, mostPoints, messageEnd, messageOf, restOf, pointOf, pointsIn, pointsOf, shape}
 use Rattle.sample_files.specs.Private.{messageFirst, pointHead, pointHeads, onlyPoints, tested}
 use Rattle.sample_files.specs.Held.{Held, AllHeld, none, more}
-use Rattle.sample_files.proofs.Bytes.{contents, length-contents}
+use Rattle.sample_files.proofs.Bytes.{length-contents}
 use Rattle.sample_files.proofs.Fields.{length-points-in}
 use Rattle.sample_files.proofs.Back.{same-refl, tests-back}
 
@@ -162,12 +162,9 @@ module _ (f : List ℕ) (b : Bytes f) where
 
   pub message-low : length (messageOf f) < 65536
   unfolding messageOf
-  message-low = omega (arith, size-low, length-take-most (number 2 (drop 1 f)) (drop 3 f))
-    where
-      length-take-most : (n : ℕ) (s : List ℕ) → length (take n s) ≤ n
-      length-take-most zero s = omega arith
-      length-take-most (suc n) [] = omega arith
-      length-take-most (suc n) (x ∷ s) = omega (arith, length-take-most n s)
+  message-low =
+      let n : ℕ = number 2 (drop 1 f) in
+      omega (arith, size-low, length-take n (drop 3 f), min-le-left n (length (drop 3 f)))
 
   pub held-points : AllHeld (pointsOf f)
   unfolding pointsOf restOf

@@ -1,12 +1,11 @@
 -- `byte_numbers::put_at` meets its contract.
 -- Assumes nothing.
-use mathlib.Core.Path.{_≡_, sym, _∙_}
+use mathlib.Core.Path.{sym, _∙_}
 use Prim.Native.Nat.{_+_, _≤_}
-use native.Mathlib.Omega.{arith}
 use lib.ListN.{length}
 use borrow.Author.Needs.{needs}
 use borrow.Author.Tests.{leb-true}
-use Rattle.byte_numbers.specs.Number.{bytesOf, putBytes}
+use Rattle.byte_numbers.specs.Number.{putBytes}
 use Rattle.byte_numbers.proofs.Number.{length-bytesOf}
 use Rattle.byte_numbers.proofs.Word.{put-number}
 use Rattle.byte_numbers.proofs.put_at.Statement.{statement}

@@ -3,10 +3,8 @@
 use Prim.Native.Nat.{_-_, _≤_}
 use mathlib.Core.Path.{_≡_, refl, sym, ap, _∙_}
 use native.Mathlib.Omega.{arith}
-use borrow.Author.Needs.{needs}
 use borrow.Author.Tests.{not-true, not-false}
 use lib.ListN.{length}
-use Rattle.part.specs.Part.{keptOf}
 use Rattle.sample_files.specs.File.{pointsOf, pointAt}
 use Rattle.sample_checks.specs.Check.{right}
 use Rattle.sample_checks.proofs.Checks.{badFrom, turn-bad, turn-right, none-bad}

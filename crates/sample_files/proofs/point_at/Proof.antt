@@ -1,12 +1,12 @@
 -- `sample_files::point_at` meets its contract.
 -- Assumes nothing.
-use mathlib.Core.Path.{_≡_, sym, ap, _∙_}
+use mathlib.Core.Path.{ap, _∙_}
 use mathlib.Core.List.{List}
 use Prim.Native.Nat.{ℕ, _+_, _*_, _≤_}
 use native.Mathlib.Omega.{arith}
 use lib.ListN.{length, drop}
 use borrow.Author.Needs.{needs}
-use Rattle.sample_files.specs.File.{pointSize, pointOf, pointsOf}
+use Rattle.sample_files.specs.File.{pointSize, pointOf}
 use Rattle.sample_files.proofs.Fields.{end-within, count-is, point-is, point-none}
 use Rattle.sample_files.proofs.point_at.Statement.{statement}
 use Rattle.sample_files.proofs.point_at.Tie as tie
