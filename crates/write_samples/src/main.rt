@@ -1,6 +1,7 @@
 // Reads a message and points from standard input and writes the file of sample answers to standard output. The first line is the message in hexadecimal,
-// at most 400 bytes, each further line a point: COMPONENT NORTH EAST. On a refusal the only output is `refused` and the refusal number, and where a
-// line is no such line `bad input: line` and its number from 1.
+// at most 400 bytes, `-` for none, each further line a point: COMPONENT NORTH EAST. On a refusal standard output stays empty, and standard error has `refused` and the
+// refusal number, or, where a line is no such line, `bad input: line` and its number from 1.
+use libc::STDERR_FILENO;
 use libc::STDOUT_FILENO;
 use lines::input;
 use lines::input::Chunk;
@@ -98,10 +99,45 @@ fn read_points(
         number += 1;
         let s = text_of(line, got.length);
         if !sample_texts::take_point(s, message, components, north, east, count, later) {
-            return number;
+            return bad_line(chunk, line, got.length, place, number);
         }
     }
     0
+}
+
+// The number of a line that is no point; 0 where it is empty and so are all behind it.
+fn bad_line(
+    chunk: &mut Chunk,
+    line: &mut Line,
+    length: usize,
+    place: Place,
+    number: usize,
+) -> usize {
+    if length != 0 {
+        return number;
+    }
+    if only_empty(chunk, line, place) {
+        return 0;
+    }
+    number
+}
+
+// Whether all lines from a place on are empty.
+fn only_empty(chunk: &mut Chunk, line: &mut Line, first: Place) -> bool {
+    let mut place = first;
+    let mut number: usize = 0;
+    while number < LINES {
+        let got = input::read_line(chunk, line, place);
+        if got.ended {
+            return true;
+        }
+        if got.length != 0 {
+            return false;
+        }
+        place = got.place;
+        number += 1;
+    }
+    false
 }
 
 // The bytes of a line, none of one that is too long to be held.
@@ -148,13 +184,13 @@ fn refusal_of(refusal: u8, later: u8) -> u8 {
 }
 
 fn refused(refusal: u8) {
-    io::write_all(STDOUT_FILENO, b"refused ");
-    io::print_decimal(STDOUT_FILENO, refusal as u64);
-    io::write_all(STDOUT_FILENO, b"\n");
+    io::write_all(STDERR_FILENO, b"refused ");
+    io::print_decimal(STDERR_FILENO, refusal as u64);
+    io::write_all(STDERR_FILENO, b"\n");
 }
 
 fn bad_input(line: usize) {
-    io::write_all(STDOUT_FILENO, b"bad input: line ");
-    io::print_decimal(STDOUT_FILENO, line as u64);
-    io::write_all(STDOUT_FILENO, b"\n");
+    io::write_all(STDERR_FILENO, b"bad input: line ");
+    io::print_decimal(STDERR_FILENO, line as u64);
+    io::write_all(STDERR_FILENO, b"\n");
 }

@@ -23,6 +23,7 @@ read-points-spec =
     (λ c. omega arith)
     (λ c κs. tt)
     (λ c κs. tt)
+    (λ c κs. tt)
     (λ c. tt)
     (λ c. omega arith)
     (λ c. tt)
