@@ -1,10 +1,14 @@
 // The report of a list of points and one component.
 use part::Kept;
+use prepared::Prepared;
 use tally_update::Report;
 ghost use mathlib.Core.Path.{_≡_};
 ghost use lib.ListN.{length};
 ghost use Rattle.reports.specs.Reports.{reportOf, pointsOf, listsReport};
 ghost use Rattle.reports.specs.Private.{startOf, stepOf, reportFrom};
+ghost use Rattle.reports.specs.Ready.{Serves};
+
+mod prepared;
 
 // A position in whole steps.
 pub struct Point {
@@ -39,26 +43,54 @@ fn step(r: Report, message: &[u8], kept: Kept, component: u8, p: Point, before: 
     }
 }
 
+// The same by prepared numbers.
+fn prepared_step(
+    r: Report,
+    message: &[u8],
+    kept: Kept,
+    component: u8,
+    ready: Prepared,
+    nodes: &[i64; 16],
+    p: Point,
+    before: usize,
+) -> Report
+    requires { ⌜ Serves (now message) kept component ready (now nodes) ⌝ }
+    ensures { λ x. ⌜ x ≡ stepOf r (now (message .entry)) kept component p before ⌝ }
+{
+    if r.refusal != 0 {
+        return r;
+    }
+    let o = prepared::count_at(message, kept, component, ready, nodes, p.north, p.east);
+    Report {
+        refusal: 0,
+        tally: tally_update::with_outcome(r.tally, o.refusal, o.count, before as u64),
+    }
+}
+
 // A report of no points, and the points of two lists of one length.
 fn steps(
     r: Report,
     message: &[u8],
     kept: Kept,
     component: u8,
+    ready: Prepared,
+    nodes: &[i64; 16],
     north: &[i64],
     east: &[i64],
 ) -> Report
-    requires { ⌜ length (now north) ≡ length (now east) ⌝ }
+    requires { ⌜ (length (now north) ≡ length (now east)) × Serves (now message) kept component ready (now nodes) ⌝ }
     ensures { λ x. ⌜ x ≡ reportFrom (now (message .entry)) kept component 0 (pointsOf (now (north .entry)) (now (east .entry))) r ⌝ }
 {
     let mut x = r;
     let mut i = 0;
     while i < north.len() {
-        x = step(
+        x = prepared_step(
             x,
             message,
             kept,
             component,
+            ready,
+            nodes,
             Point {
                 north: north[i],
                 east: east[i],
@@ -82,7 +114,9 @@ pub fn report_lists(message: &[u8], component: u8, north: &[i64], east: &[i64]) 
         return tally_update::empty(3);
     }
     let kept = part::keep(message);
-    steps(r, message, kept, component, north, east)
+    let nodes = prepared::nodes_of(message, component);
+    let ready = prepared::prepare(message, kept, component);
+    steps(r, message, kept, component, ready, &nodes, north, east)
 }
 
 // The report of a list of points.

@@ -1,6 +1,6 @@
 -- `reports::report_lists` meets its contract.
 -- Assumes nothing.
-use mathlib.Core.Path.{_≡_, sym, ap, _∙_}
+use mathlib.Core.Path.{_≡_, sym, ap, _∙_, subst}
 use mathlib.Core.Logic.{_⊎_, inl, inr}
 use mathlib.Core.List.{List}
 use Prim.Native.Nat.{ℕ}
@@ -10,6 +10,7 @@ use borrow.Author.Needs.{needs}
 use Rattle.tally_update.specs.declared.Report.{Report}
 use Rattle.reports.specs.Reports.{listsReport, pointsOf}
 use Rattle.reports.specs.Private.{startOf, reportFrom}
+use Rattle.reports.specs.Ready.{Serves}
 use Rattle.reports.proofs.Lists.{lists-stop, lists-unequal, lists-equal}
 use Rattle.reports.proofs.report_lists.Statement.{statement}
 use Rattle.reports.proofs.report_lists.Tie as tie
@@ -32,13 +33,23 @@ returns-2 c =
     c .empty .ensures
     ∙ lists-unequal (a .message .now) (a .component) (a .north .now) (a .east .now) (ap (λ (x : Report). x .refusal) (sym (c .before .before .before .before .start .ensures)) ∙ c .before .before .if1 .left) (c .before .if2 .taken)
 
+steps-requires : tie.Need-steps-requires
+steps-requires c κs =
+    let n = c .before .before in
+    let d = n .before in
+    let a = d .before .before .before .before .before .before .args in (
+      d .before .if2 .left,
+      subst (λ (v : List ℤ). Serves (a .message .now) (d .keep .result) (a .component) (c .before .prepare .result) v) (sym (n .nodes-of .ensures)) (c .before .prepare .ensures),
+    )
+
 returns-3 : tie.Need-returns-3
 returns-3 c =
-    let k = c .before .before .before .before .before in
+    let d = c .before .before .before .before in
+    let k = d .before .before .before .before in
     let a = k .before .before .args in
     c .steps .ensures
-    ∙ (λ i. reportFrom (a .message .now) (c .before .keep .ensures i) (a .component) 0 (pointsOf (a .north .now) (a .east .now)) (k .start .ensures i))
-    ∙ lists-equal (a .message .now) (a .component) (a .north .now) (a .east .now) (c .before .before .if2 .left)
+    ∙ (λ i. reportFrom (a .message .now) (d .keep .ensures i) (a .component) 0 (pointsOf (a .north .now) (a .east .now)) (k .start .ensures i))
+    ∙ lists-equal (a .message .now) (a .component) (a .north .now) (a .east .now) (d .before .if2 .left)
 
 pub report-lists-spec : {M : Type 1} → statement M
-report-lists-spec = tie.close (tie.spec (λ c κs. search needs) returns (λ c κs. search needs) returns-2 (λ c κs. search needs) (λ c κs. search needs) returns-3)
+report-lists-spec = tie.close (tie.spec (λ c κs. search needs) returns (λ c κs. search needs) returns-2 (λ c κs. search needs) (λ c κs. search needs) (λ c κs. search needs) steps-requires returns-3)

@@ -15,26 +15,26 @@ use Rattle.reports.proofs.steps.Statement.{statement}
 use Rattle.reports.proofs.steps.Tie as tie
 
 abbrev Inv-loop : tie.InvT-loop
-Inv-loop message kept component north east x₀ i₀ x i =
+Inv-loop message kept component ready nodes north east x₀ i₀ x i =
     (i ≤ length north) × (reportFrom message kept component i (drop i (pointsOf north east)) x ≡ reportFrom message kept component 0 (pointsOf north east) x₀)
 
 abbrev μ-loop : tie.MeasureT-loop
-μ-loop message kept component north east x₀ i₀ x i = length north - i
+μ-loop message kept component ready nodes north east x₀ i₀ x i = length north - i
 
 loop-holds : tie.Need-loop-holds Inv-loop μ-loop
 loop-holds c = (omega arith, refl)
 
-mul-t9 : tie.Need-mul-t9 Inv-loop μ-loop
-mul-t9 c = omega (arith, c .before .before .before .good .1 .1 .1 .0)
+mul-t11 : tie.Need-mul-t11 Inv-loop μ-loop
+mul-t11 c = omega (arith, c .before .before .before .good .1 .1 .1 .1 .0)
 
-shared-slice-copy-out-t12 : tie.Need-shared-slice-copy-out-t12 Inv-loop μ-loop
-shared-slice-copy-out-t12 c = omega arith
+shared-slice-copy-out-t14 : tie.Need-shared-slice-copy-out-t14 Inv-loop μ-loop
+shared-slice-copy-out-t14 c = omega arith
 
-mul-t13 : tie.Need-mul-t13 Inv-loop μ-loop
-mul-t13 c = omega (arith, c .before .before .before .before .good .1 .1 .1 .0)
+mul-t15 : tie.Need-mul-t15 Inv-loop μ-loop
+mul-t15 c = omega (arith, c .before .before .before .before .good .1 .1 .1 .1 .0)
 
-shared-slice-copy-out-t15 : tie.Need-shared-slice-copy-out-t15 Inv-loop μ-loop
-shared-slice-copy-out-t15 c = omega (arith, c .before .before .before .before .pre)
+shared-slice-copy-out-t17 : tie.Need-shared-slice-copy-out-t17 Inv-loop μ-loop
+shared-slice-copy-out-t17 c = omega (arith, c .before .before .before .before .pre .0)
 
 add-i : tie.Need-add-i Inv-loop μ-loop
 add-i c = omega arith
@@ -49,10 +49,10 @@ loop-again c =
     let l = c .before .before .before .before .loop in
     let ps = pointsOf (a .north .now) (a .east .now) in (
       omega arith,
-      one-more (a .message .now) (a .kept) (a .component) ps (l .i) (l .x) (c .step .result) (omega (arith, points-length (a .north .now) (a .east .now) (s .pre)))
-          (c .step .ensures ∙ ap (λ (p : Point). stepOf (l .x) (a .message .now) (a .kept) (a .component) p (l .i))
-          ((λ j. record { north = held (getD (a .north .now) (l .i) (pos 0)) (c .before .before .t12 .given) j; east = held (getD (a .east .now) (l .i) (pos 0)) (c .before .t15 .given) j })
-          ∙ sym (points-at (a .north .now) (a .east .now) (l .i) (s .pre) (omega arith)))) ∙ l .inv .1,
+      one-more (a .message .now) (a .kept) (a .component) ps (l .i) (l .x) (c .prepared-step .result) (omega (arith, points-length (a .north .now) (a .east .now) (s .pre .0)))
+          (c .prepared-step .ensures ∙ ap (λ (p : Point). stepOf (l .x) (a .message .now) (a .kept) (a .component) p (l .i))
+          ((λ j. record { north = held (getD (a .north .now) (l .i) (pos 0)) (c .before .before .t14 .given) j; east = held (getD (a .east .now) (l .i) (pos 0)) (c .before .t17 .given) j })
+          ∙ sym (points-at (a .north .now) (a .east .now) (l .i) (s .pre .0) (omega arith)))) ∙ l .inv .1,
     )
 
 returns : tie.Need-returns Inv-loop μ-loop
@@ -61,7 +61,7 @@ returns c =
     let a = s .args in
     let l = c .before .loop in
     let ps = pointsOf (a .north .now) (a .east .now) in
-    sym (all-done (a .message .now) (a .kept) (a .component) ps (l .i) (l .x) (omega (arith, points-length (a .north .now) (a .east .now) (s .pre)))) ∙ l .inv .1
+    sym (all-done (a .message .now) (a .kept) (a .component) ps (l .i) (l .x) (omega (arith, points-length (a .north .now) (a .east .now) (s .pre .0)))) ∙ l .inv .1
 
 pub steps-spec : {M : Type 1} → statement M
 steps-spec =
@@ -70,11 +70,11 @@ steps-spec =
     Inv-loop
     μ-loop
     loop-holds
-    mul-t9
-    shared-slice-copy-out-t12
-    mul-t13
-    shared-slice-copy-out-t15
-    (λ c κs. tt)
+    mul-t11
+    shared-slice-copy-out-t14
+    mul-t15
+    shared-slice-copy-out-t17
+    (λ c κs. c .before .before .before .before .before .pre .1)
     add-i
     loop-less
     loop-again

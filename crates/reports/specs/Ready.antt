@@ -1,0 +1,98 @@
+-- What the prepared numbers of a message and a component are, and how they serve: private, of module prepared.
+-- Assumes nothing.
+use mathlib.Core.Path.{_≡_}
+use mathlib.Core.Bool.{Bool, true}
+use mathlib.Core.List.{List}
+use Prim.Native.Nat.{ℕ, _+_, _-_, _*_, _≤_, _<_}
+use lib.IntN.{ℤ, pos, natAbs, _+ℤ_, _-ℤ_}
+use lib.Signed.{_≤ℤ_}
+use Rattle.arith.specs.Row.{upTo, allBelow, at}
+use Rattle.layout.specs.Layout.{valueIn}
+use Rattle.bilinear.specs.Bilinear.{cell}
+use Rattle.cell.specs.Cell.{weightsIn, countBy}
+use Rattle.cell.specs.declared.Corners.{Corners}
+use Rattle.grid_refusals.specs.Refusals.{available}
+use Rattle.grid_fields.specs.Fields.{meanSays, nodeSays}
+use Rattle.position.specs.declared.Located.{Located}
+use Rattle.part.specs.Part.{countedBy}
+use Rattle.part.specs.declared.Kept.{Kept}
+use Rattle.reports.specs.declared.prepared.Prepared.{Prepared}
+
+-- ---- the nodes
+
+abbrev pub nodeValue : List ℕ → ℕ → ℕ → ℤ
+nodeValue s c i = valueIn (nodeSays s c i)
+
+abbrev pub nodeThere : List ℕ → ℕ → ℕ → Bool
+nodeThere s c i = available (nodeSays s c i)
+
+unfoldable pub nodeValues : List ℕ → ℕ → List ℤ
+nodeValues s c = upTo (nodeValue s c) 16
+
+-- all sixteen have values
+unfoldable pub nodesThere : List ℕ → ℕ → Bool
+nodesThere s c = allBelow (nodeThere s c) 16
+
+-- the message is accepted, and the mean and all nodes have values
+pub record There (s : List ℕ) (kept : Kept) (c : ℕ) : Type 0 where
+  pub accepted : kept .refusal ≡ 0
+  pub mean : available (meanSays s c) ≡ true
+  pub nodes : nodesThere s c ≡ true
+
+-- ---- the edges
+
+-- a position within the limits, and its place in a cell
+pub record Near (q : Located) (n e : ℤ) : Type 0 where
+  pub north : natAbs n ≤ 1000000000000
+  pub east : natAbs e ≤ 1000000000000
+  pub cell : (q .row ≤ 2) × (q .column ≤ 2)
+  pub steps : (q .north ≤ q .height) × (q .east ≤ q .width)
+  pub sizes : (q .height ≤ 40950000) × (q .width ≤ 40950000)
+
+-- the edges of the grid in which the position n, e has the place q
+abbrev pub aroundOf : Located → (n e mean : ℤ) → ℕ → Prepared
+aroundOf q n e mean f =
+    let south = n -ℤ pos (q .row * q .height + q .north) in
+    let west = e -ℤ pos (q .column * q .width + q .east) in
+    record {
+      south = south;
+      north = south +ℤ pos (3 * q .height);
+      west = west;
+      east = west +ℤ pos (3 * q .width);
+      height = q .height;
+      width = q .width;
+      mean = mean;
+      factor = f;
+    }
+
+-- a position on or between them
+pub record Between (p : Prepared) (n e : ℤ) : Type 0 where
+  pub south : p .south ≤ℤ n
+  pub north : n ≤ℤ p .north
+  pub west : p .west ≤ℤ e
+  pub east : e ≤ℤ p .east
+
+-- ---- the count
+
+-- the nodes of the cell k from the south and l from the west
+abbrev pub cornersOf : List ℤ → (k l : ℕ) → Corners
+cornersOf v k l =
+    record { sw = at v (4 * (3 - k) + l); se = at v (4 * (3 - k) + (l + 1)); nw = at v (4 * (2 - k) + l); ne = at v (4 * (2 - k) + (l + 1)) }
+
+-- at a place y and x steps from the southern and the western edge
+unfoldable pub countIn : Prepared → List ℤ → (y x : ℕ) → ℤ
+countIn p nodes y x =
+    let h = p .height in
+    let w = p .width in
+    countBy (p .mean) (p .factor) (cornersOf nodes (cell h y) (cell w x)) (weightsIn h w (y - cell h y * h) (x - cell w x * w))
+
+-- what the numbers say of a position on or between the edges
+pub record Told (s : List ℕ) (kept : Kept) (c : ℕ) (p : Prepared) (nodes : List ℤ) (n e : ℤ) : Type 0 where
+  pub high : (0 < p .height) × (p .height ≤ 40950000)
+  pub wide : (0 < p .width) × (p .width ≤ 40950000)
+  pub rows : natAbs (n -ℤ p .south) ≤ 3 * p .height
+  pub columns : natAbs (e -ℤ p .west) ≤ 3 * p .width
+  pub count : countedBy s kept c n e ≡ record { refusal = 0; count = countIn p nodes (natAbs (n -ℤ p .south)) (natAbs (e -ℤ p .west)) }
+
+abbrev pub Serves : List ℕ → Kept → ℕ → Prepared → List ℤ → Type 0
+Serves s kept c p nodes = (n e : ℤ) → Between p n e → Told s kept c p nodes n e
