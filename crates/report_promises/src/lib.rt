@@ -9,6 +9,8 @@ ghost use Rattle.reports.specs.Reports.{listsReport};
 ghost use Rattle.tally.specs.Next.{nextOf};
 ghost use Rattle.tally_update.specs.Numbers.{reportWith};
 ghost use Rattle.tally_update.specs.Update.{grownBy};
+ghost use Rattle.grid_refusals.specs.Refusals.{available};
+ghost use Rattle.prepared_grid.specs.Ready.{nodeValues, nodesThere};
 
 pub fn cell_lacks(mean: field::Reading, n: grid_fields::Nodes, k: cell::Weights) -> bool
     ensures { λ r. ⌜ r ≡ lacking mean n k ⌝ }
@@ -95,4 +97,22 @@ pub fn flat_report(
     ensures { λ r. ⌜ r ≡ flat (listsReport (now (message .entry)) component (now (north .entry)) (now (east .entry))) ⌝ }
 {
     flat_reports::report_lists(message, component, north, east)
+}
+
+pub fn nodes_of(message: &[u8], component: u8) -> [i64; 16]
+    ensures { λ r. ⌜ r ≡ nodeValues (now (message .entry)) component ⌝ }
+{
+    prepared_grid::nodes_of(message, component)
+}
+
+pub fn is_there(r: field::Reading) -> bool
+    ensures { λ x. ⌜ x ≡ available r ⌝ }
+{
+    prepared_grid::is_there(r)
+}
+
+pub fn nodes_there(message: &[u8], component: u8) -> bool
+    ensures { λ r. ⌜ r ≡ nodesThere (now (message .entry)) component ⌝ }
+{
+    prepared_grid::nodes_there(message, component)
 }

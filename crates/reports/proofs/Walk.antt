@@ -6,12 +6,12 @@ use mathlib.Core.List.{List, [], _∷_, _++_, append-assoc}
 use Prim.Native.Nat.{ℕ, suc, _+_, _≤_, _<_}
 use native.Mathlib.Numerals.{add-one}
 use native.Mathlib.Omega.{arith}
-use borrow.Author.Tests.{ltb-false}
+use borrow.Author.Tests.{ltb-false, eq-eqb}
 use lib.Dec.{eqb, ltb}
 use lib.IntN.{pos}
 use lib.ListN.{length, getD, drop, drop-of-length-le, length-append}
 use lib.Seq.{drop-cons}
-use Rattle.part.specs.Part.{keptOf}
+use Rattle.part.specs.Part.{keptOf, countedBy}
 use Rattle.part.specs.declared.Counted.{Counted}
 use Rattle.part.specs.declared.Kept.{Kept}
 use Rattle.part.proofs.Counts.{counted-is}
@@ -26,6 +26,15 @@ use Rattle.tally.proofs.Sound.{outcome-sound}
 use Rattle.reports.specs.declared.Point.{Point}
 use Rattle.reports.specs.Reports.{outcomes, reportOf}
 use Rattle.reports.specs.Private.{startOf, stepOf, reportFrom}
+
+-- ---- one point
+
+-- by what is counted at it
+pub stepped : (r : Report) (s : List ℕ) (kept : Kept) (c : ℕ) (p : Point) (before : ℕ) {o : Counted} → o ≡ countedBy s kept c (p .north) (p .east) → r .refusal ≡ 0
+    → record { refusal = 0; tally = grownBy (r .tally) (o .refusal) (o .count) before } ≡ stepOf r s kept c p before
+unfolding stepOf
+stepped r s kept c p before e z =
+    (λ i. record { refusal = 0; tally = grownBy (r .tally) (e i .refusal) (e i .count) before }) ∙ rw (eq-eqb (r .refusal) 0 z)
 
 -- ---- a report, and the points that are left
 

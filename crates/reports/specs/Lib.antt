@@ -1,3 +1,2 @@
 pub mod Reports
 pub mod Private
-pub mod Ready

@@ -1,12 +1,12 @@
 // The report of a list of points and one component.
 use part::Kept;
-use prepared::Prepared;
+use prepared_grid::Prepared;
 use tally_update::Report;
 ghost use mathlib.Core.Path.{_≡_};
 ghost use lib.ListN.{length};
 ghost use Rattle.reports.specs.Reports.{reportOf, pointsOf, listsReport};
 ghost use Rattle.reports.specs.Private.{startOf, stepOf, reportFrom};
-ghost use Rattle.reports.specs.Ready.{Serves};
+ghost use Rattle.prepared_grid.specs.Ready.{Serves};
 
 mod prepared;
 
@@ -114,7 +114,7 @@ pub fn report_lists(message: &[u8], component: u8, north: &[i64], east: &[i64]) 
         return tally_update::empty(3);
     }
     let kept = part::keep(message);
-    let nodes = prepared::nodes_of(message, component);
+    let nodes = prepared_grid::nodes_of(message, component);
     let ready = prepared::prepare(message, kept, component);
     steps(r, message, kept, component, ready, &nodes, north, east)
 }

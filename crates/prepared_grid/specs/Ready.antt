@@ -16,7 +16,7 @@ use Rattle.grid_fields.specs.Fields.{meanSays, nodeSays}
 use Rattle.position.specs.declared.Located.{Located}
 use Rattle.part.specs.Part.{countedBy}
 use Rattle.part.specs.declared.Kept.{Kept}
-use Rattle.reports.specs.declared.prepared.Prepared.{Prepared}
+use Rattle.prepared_grid.specs.declared.Prepared.{Prepared}
 
 -- ---- the nodes
 

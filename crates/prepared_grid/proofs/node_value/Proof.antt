@@ -1,11 +1,11 @@
--- `reports::prepared::node_value` meets its contract.
+-- `prepared_grid::node_value` meets its contract.
 -- Assumes nothing.
 use mathlib.Core.Path.{ap, _∙_}
 use borrow.Author.Needs.{needs}
 use Rattle.arith.proofs.Back.{held}
 use Rattle.layout.specs.Layout.{valueIn}
-use Rattle.reports.proofs.prepared.node_value.Statement.{statement}
-use Rattle.reports.proofs.prepared.node_value.Tie as tie
+use Rattle.prepared_grid.proofs.node_value.Statement.{statement}
+use Rattle.prepared_grid.proofs.node_value.Tie as tie
 
 returns : tie.Need-returns
 returns c = held (c .value-in .result) (c .value-in .ok) ∙ c .value-in .ensures ∙ ap valueIn (c .before .node-at .ensures)

@@ -1,4 +1,4 @@
--- `reports::prepared::nodes_of` meets its contract: a loop that fills the nodes from the front.
+-- `prepared_grid::nodes_of` meets its contract: a loop that fills the nodes from the front.
 -- Assumes nothing.
 use Prim.Native.Nat.{_-_, _≤_}
 use mathlib.Core.Path.{_≡_, refl, _∙_}
@@ -9,9 +9,9 @@ use lib.ListN.{drop}
 use Rattle.arith.specs.Row.{upTo}
 use Rattle.arith.proofs.Back.{held}
 use Rattle.arith.proofs.Rows.{fill-turn, fill-done}
-use Rattle.reports.specs.Ready.{nodeValue, nodeValues}
-use Rattle.reports.proofs.prepared.nodes_of.Statement.{statement}
-use Rattle.reports.proofs.prepared.nodes_of.Tie as tie
+use Rattle.prepared_grid.specs.Ready.{nodeValue, nodeValues}
+use Rattle.prepared_grid.proofs.nodes_of.Statement.{statement}
+use Rattle.prepared_grid.proofs.nodes_of.Tie as tie
 
 abbrev Inv-loop : tie.InvT-loop
 Inv-loop message component nodes₀ k₀ nodes k = (k ≤ 16) × (nodes ≡ upTo (nodeValue message component) k ++ drop k nodes₀)

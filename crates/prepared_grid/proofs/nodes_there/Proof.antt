@@ -1,4 +1,4 @@
--- `reports::prepared::nodes_there` meets its contract: the nodes passed have values.
+-- `prepared_grid::nodes_there` meets its contract: the nodes passed have values.
 -- Assumes nothing.
 use Prim.Native.Nat.{_-_, _≤_}
 use native.Mathlib.Omega.{arith}
@@ -8,9 +8,9 @@ use borrow.Author.Tests.{not-true, not-false}
 use Rattle.arith.specs.Row.{allBelow}
 use Rattle.arith.proofs.Tests.{all-more, all-stops}
 use Rattle.grid_refusals.specs.Refusals.{available}
-use Rattle.reports.specs.Ready.{nodeThere, nodesThere}
-use Rattle.reports.proofs.prepared.nodes_there.Statement.{statement}
-use Rattle.reports.proofs.prepared.nodes_there.Tie as tie
+use Rattle.prepared_grid.specs.Ready.{nodeThere, nodesThere}
+use Rattle.prepared_grid.proofs.nodes_there.Statement.{statement}
+use Rattle.prepared_grid.proofs.nodes_there.Tie as tie
 
 abbrev Inv-loop : tie.InvT-loop
 Inv-loop message component k₀ k = (k ≤ 16) × (allBelow (nodeThere message component) k ≡ true)
