@@ -38,7 +38,8 @@ use Rattle.grid.specs.Private.{valuesIn, lacking, countAt, cellShift}
 use Rattle.part.specs.Part.{counted, countedBy}
 use Rattle.part.specs.declared.Kept.{Kept}
 use Rattle.prepared_grid.specs.declared.Prepared.{Prepared}
-use Rattle.prepared_grid.specs.Ready.{nodeValue, nodeThere, nodeValues, nodesThere, There, Near, aroundOf, Between, cornersOf, countIn, Told, Serves}
+use Rattle.prepared_grid.specs.Nodes.{nodeValue, nodeThere, nodeValues, nodesThere}
+use Rattle.prepared_grid.specs.Private.{There, Near, aroundOf, Between, cornersOf, countIn, Told, Serves}
 
 -- ---- along one direction: a position x, where x₀ has the difference u₀ and the steps t₀ from the edge
 

@@ -2,7 +2,7 @@
 use field::Reading;
 ghost use mathlib.Core.Path.{_≡_};
 ghost use Rattle.grid_refusals.specs.Refusals.{available};
-ghost use Rattle.prepared_grid.specs.Ready.{nodeValue, nodesThere, nodeValues};
+ghost use Rattle.prepared_grid.specs.Nodes.{nodeValue, nodesThere, nodeValues};
 
 // The edges of a grid in steps, the height and the width of a cell, the mean in counts, and the counts in a raw number of a node.
 pub struct Prepared {

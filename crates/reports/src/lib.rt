@@ -6,7 +6,7 @@ ghost use mathlib.Core.Path.{_≡_};
 ghost use lib.ListN.{length};
 ghost use Rattle.reports.specs.Reports.{reportOf, pointsOf, listsReport};
 ghost use Rattle.reports.specs.Private.{startOf, stepOf, reportFrom};
-ghost use Rattle.prepared_grid.specs.Ready.{Serves};
+ghost use Rattle.prepared_grid.specs.Private.{Serves};
 
 mod prepared;
 

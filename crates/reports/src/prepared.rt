@@ -9,7 +9,8 @@ ghost use Prim.Native.Nat.{_≤_, _<_};
 ghost use lib.IntN.{pos, natAbs};
 ghost use Rattle.part.specs.Part.{countedBy};
 ghost use Rattle.bilinear.specs.Bilinear.{cell};
-ghost use Rattle.prepared_grid.specs.Ready.{nodeValues, There, Near, aroundOf, countIn, Serves};
+ghost use Rattle.prepared_grid.specs.Nodes.{nodeValues};
+ghost use Rattle.prepared_grid.specs.Private.{There, Near, aroundOf, countIn, Serves};
 
 // The origin in steps along one direction, or 0 where no message has such a one.
 fn middle(number: i64, raw: i64) -> i64

@@ -59,7 +59,7 @@ pub fn tally_next(t: Tally, message: &[u8], component: u8, north: i64, east: i64
     }
 }
 
-// The same of a tally in the caller's hands; the number is answered.
+// The same of a tally that the caller lends; the number is answered.
 pub fn tally_point(t: &mut Tally, message: &[u8], component: u8, north: i64, east: i64) -> u8
     ensures { λ r. ⌜ (r ≡ nextOf (now (t .entry)) (now (message .entry)) component north east .refusal) × (now (t .exit) ≡ nextOf (now (t .entry)) (now (message .entry)) component north east .tally) ⌝ }
 {

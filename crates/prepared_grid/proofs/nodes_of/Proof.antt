@@ -9,7 +9,7 @@ use lib.ListN.{drop}
 use Rattle.arith.specs.Row.{upTo}
 use Rattle.arith.proofs.Back.{held}
 use Rattle.arith.proofs.Rows.{fill-turn, fill-done}
-use Rattle.prepared_grid.specs.Ready.{nodeValue, nodeValues}
+use Rattle.prepared_grid.specs.Nodes.{nodeValue, nodeValues}
 use Rattle.prepared_grid.proofs.nodes_of.Statement.{statement}
 use Rattle.prepared_grid.proofs.nodes_of.Tie as tie
 

@@ -8,7 +8,7 @@ use borrow.Author.Tests.{not-true, not-false}
 use Rattle.arith.specs.Row.{allBelow}
 use Rattle.arith.proofs.Tests.{all-more, all-stops}
 use Rattle.grid_refusals.specs.Refusals.{available}
-use Rattle.prepared_grid.specs.Ready.{nodeThere, nodesThere}
+use Rattle.prepared_grid.specs.Nodes.{nodeThere, nodesThere}
 use Rattle.prepared_grid.proofs.nodes_there.Statement.{statement}
 use Rattle.prepared_grid.proofs.nodes_there.Tie as tie
 

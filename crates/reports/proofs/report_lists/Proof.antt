@@ -10,7 +10,7 @@ use borrow.Author.Needs.{needs}
 use Rattle.tally_update.specs.declared.Report.{Report}
 use Rattle.reports.specs.Reports.{listsReport, pointsOf}
 use Rattle.reports.specs.Private.{startOf, reportFrom}
-use Rattle.prepared_grid.specs.Ready.{Serves}
+use Rattle.prepared_grid.specs.Private.{Serves}
 use Rattle.reports.proofs.Lists.{lists-stop, lists-unequal, lists-equal}
 use Rattle.reports.proofs.report_lists.Statement.{statement}
 use Rattle.reports.proofs.report_lists.Tie as tie

@@ -14,7 +14,7 @@ use Rattle.arith.proofs.Machine.{Num, any, sub-within, fits, not-less, is-back}
 use Rattle.arith.proofs.Whole.{cast-natural}
 use Rattle.part.specs.Part.{countedBy}
 use Rattle.prepared_grid.specs.declared.Prepared.{Prepared}
-use Rattle.prepared_grid.specs.Ready.{Between, Told, countIn}
+use Rattle.prepared_grid.specs.Private.{Between, Told, countIn}
 use Rattle.reports.proofs.prepared.count_at.Statement.{statement}
 use Rattle.reports.proofs.prepared.count_at.Tie as tie
 

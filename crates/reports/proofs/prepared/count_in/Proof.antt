@@ -13,7 +13,7 @@ use Rattle.bilinear.specs.Bilinear.{cell}
 use Rattle.bilinear.proofs.Place.{cell-le, cell-from}
 use Rattle.cell.specs.Cell.{weightsIn, countBy}
 use Rattle.prepared_grid.specs.declared.Prepared.{Prepared}
-use Rattle.prepared_grid.specs.Ready.{cornersOf, countIn}
+use Rattle.prepared_grid.specs.Private.{cornersOf, countIn}
 use Rattle.reports.proofs.prepared.count_in.Statement.{statement}
 use Rattle.reports.proofs.prepared.count_in.Tie as tie
 

@@ -4,7 +4,7 @@ use mathlib.Core.Path.{_≡_, sym, ap, _∙_}
 use borrow.Author.Needs.{needs}
 use borrow.Author.Tests.{not-false}
 use Rattle.grid_refusals.specs.Refusals.{available}
-use Rattle.prepared_grid.specs.Ready.{nodeValues}
+use Rattle.prepared_grid.specs.Nodes.{nodeValues}
 use Rattle.prepared_grid.proofs.Served.{nowhere-serves}
 use Rattle.reports.proofs.prepared.prepare.Statement.{statement}
 use Rattle.reports.proofs.prepared.prepare.Tie as tie

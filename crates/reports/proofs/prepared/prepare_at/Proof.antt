@@ -22,7 +22,8 @@ use Rattle.position.specs.Position.{heldPlace}
 use Rattle.position.specs.declared.Located.{Located}
 use Rattle.part.proofs.Means.{mean-most}
 use Rattle.prepared_grid.specs.declared.Prepared.{Prepared}
-use Rattle.prepared_grid.specs.Ready.{nodeValues, Near, aroundOf, Serves}
+use Rattle.prepared_grid.specs.Nodes.{nodeValues}
+use Rattle.prepared_grid.specs.Private.{Near, aroundOf, Serves}
 use Rattle.prepared_grid.proofs.Served.{serves, near-is, nowhere-serves}
 use Rattle.reports.proofs.prepared.prepare_at.Statement.{statement}
 use Rattle.reports.proofs.prepared.prepare_at.Tie as tie

@@ -1,37 +1,22 @@
--- What the prepared numbers of a message and a component are, and how they serve: private, of module prepared.
+-- What the private functions of `reports` ask of prepared numbers, and how these serve.
 -- Assumes nothing.
 use mathlib.Core.Path.{_≡_}
-use mathlib.Core.Bool.{Bool, true}
+use mathlib.Core.Bool.{true}
 use mathlib.Core.List.{List}
 use Prim.Native.Nat.{ℕ, _+_, _-_, _*_, _≤_, _<_}
 use lib.IntN.{ℤ, pos, natAbs, _+ℤ_, _-ℤ_}
 use lib.Signed.{_≤ℤ_}
-use Rattle.arith.specs.Row.{upTo, allBelow, at}
-use Rattle.layout.specs.Layout.{valueIn}
+use Rattle.arith.specs.Row.{at}
 use Rattle.bilinear.specs.Bilinear.{cell}
 use Rattle.cell.specs.Cell.{weightsIn, countBy}
 use Rattle.cell.specs.declared.Corners.{Corners}
 use Rattle.grid_refusals.specs.Refusals.{available}
-use Rattle.grid_fields.specs.Fields.{meanSays, nodeSays}
+use Rattle.grid_fields.specs.Fields.{meanSays}
 use Rattle.position.specs.declared.Located.{Located}
 use Rattle.part.specs.Part.{countedBy}
 use Rattle.part.specs.declared.Kept.{Kept}
 use Rattle.prepared_grid.specs.declared.Prepared.{Prepared}
-
--- ---- the nodes
-
-abbrev pub nodeValue : List ℕ → ℕ → ℕ → ℤ
-nodeValue s c i = valueIn (nodeSays s c i)
-
-abbrev pub nodeThere : List ℕ → ℕ → ℕ → Bool
-nodeThere s c i = available (nodeSays s c i)
-
-unfoldable pub nodeValues : List ℕ → ℕ → List ℤ
-nodeValues s c = upTo (nodeValue s c) 16
-
--- all sixteen have values
-unfoldable pub nodesThere : List ℕ → ℕ → Bool
-nodesThere s c = allBelow (nodeThere s c) 16
+use Rattle.prepared_grid.specs.Nodes.{nodesThere}
 
 -- the message is accepted, and the mean and all nodes have values
 pub record There (s : List ℕ) (kept : Kept) (c : ℕ) : Type 0 where
