@@ -11,7 +11,7 @@ pub enum Refusal {
     /// Not 1021 to 1027.
     Number = 2,
     /// Not exactly the length called for, a name counter cannot be read, too long for a frame; more points than a report or a
-    /// file of sample answers has.
+    /// file of sample answers has, or slices of different lengths.
     Length = 3,
     /// A fill bit is set.
     Fill = 4,
