@@ -152,34 +152,8 @@ const LAYOUT_1024: [u64; 64] = [
     16, // DF051
 ];
 
-// The fields before the grid points.
-const HEAD_1023: [u64; 11] = [
-    12, // DF002
-    8, // DF147
-    1, // DF190
-    1, // DF191
-    GRID_LATITUDE,
-    GRID_LONGITUDE,
-    12, // DF194
-    12, // DF195
-    INT + 8, // DF196
-    INT + 8, // DF197
-    INT + 15, // DF198
-];
-
-const HEAD_1024: [u64; 11] = [
-    12, // DF002
-    8, // DF147
-    1, // DF190
-    1, // DF191
-    INT + 25, // DF202
-    26, // DF203
-    12, // DF204
-    12, // DF205
-    INT + 10, // DF206
-    INT + 10, // DF207
-    INT + 15, // DF208
-];
+// The number of fields before the grid points.
+const HEAD: usize = 11;
 
 // The fields behind the grid points: DF212, DF213, DF216, DF217 and DF051.
 const TAIL: [u64; 5] = [2, 2, 3, 3, 16];
@@ -266,7 +240,7 @@ pub fn decode_1023(s: &[u8], values: &mut [i64], present: &mut [u8]) -> u8
     ensures values { λ r. ⌜ now (values .exit) ≡ stored (decodeRefusal layout1023 (now (s .entry)) (length (now (values .entry))) (length (now (present .entry)))) (map valueIn (decodeAll layout1023 0 (now (s .entry)))) (now (values .entry)) ⌝ }
     ensures present { λ r. ⌜ now (present .exit) ≡ stored (decodeRefusal layout1023 (now (s .entry)) (length (now (values .entry))) (length (now (present .entry)))) (map presentIn (decodeAll layout1023 0 (now (s .entry)))) (now (present .entry)) ⌝ }
 {
-    decode_grid(check_1023(s), s, &HEAD_1023, 120, values, present)
+    decode_grid(check_1023(s), s, &LAYOUT_1023[..HEAD], 120, values, present)
 }
 
 pub fn decode_1024(s: &[u8], values: &mut [i64], present: &mut [u8]) -> u8
@@ -274,7 +248,7 @@ pub fn decode_1024(s: &[u8], values: &mut [i64], present: &mut [u8]) -> u8
     ensures values { λ r. ⌜ now (values .exit) ≡ stored (decodeRefusal layout1024 (now (s .entry)) (length (now (values .entry))) (length (now (present .entry)))) (map valueIn (decodeAll layout1024 0 (now (s .entry)))) (now (values .entry)) ⌝ }
     ensures present { λ r. ⌜ now (present .exit) ≡ stored (decodeRefusal layout1024 (now (s .entry)) (length (now (values .entry))) (length (now (present .entry)))) (map presentIn (decodeAll layout1024 0 (now (s .entry)))) (now (present .entry)) ⌝ }
 {
-    decode_grid(check_1024(s), s, &HEAD_1024, 132, values, present)
+    decode_grid(check_1024(s), s, &LAYOUT_1024[..HEAD], 132, values, present)
 }
 
 // Whether each field takes its place of a row.

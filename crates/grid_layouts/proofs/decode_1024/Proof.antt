@@ -1,4 +1,4 @@
--- `grid_layouts::decode_1024` meets its contract: the head equals its layout's by computation.
+-- `grid_layouts::decode_1024` meets its contract: the first entries of its layout and the points are the layout by computation.
 -- Assumes nothing.
 use mathlib.Core.Path.{refl}
 use native.Mathlib.Omega.{arith}
@@ -17,4 +17,4 @@ unfolding layout1024
 returns c = c .before .before .before .decode-grid .ensures
 
 pub decode-1024-spec : {M : Type 1} → statement M
-decode-1024-spec = tie.close (tie.spec (λ c κs. search needs) (λ c. search needs) decode-grid-requires (λ c. search needs) (λ c. search needs) returns)
+decode-1024-spec = tie.close (tie.spec (λ c κs. search needs) (λ c. search needs) (λ c. search needs) decode-grid-requires (λ c. search needs) (λ c. search needs) returns)
