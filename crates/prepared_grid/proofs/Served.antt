@@ -2,32 +2,31 @@
 -- Assumes nothing.
 use mathlib.Core.Path.{_≡_, refl, sym, ap, _∙_, subst}
 use mathlib.Core.Bool.{Bool, true, false, not, cond, _&&_, _||_}
-use mathlib.Core.List.{List, [], _∷_}
-use Prim.Native.Nat.{ℕ, suc, _+_, _*_, _-_, _/_, _≤_, _<_}
+use mathlib.Core.List.{List, _∷_}
+use Prim.Native.Nat.{ℕ, _+_, _*_, _-_, _/_, _≤_, _<_}
 use native.Mathlib.Omega.{arith}
-use borrow.Author.Tests.{le-ltb, ltb-false, eq-eqb}
+use borrow.Author.Tests.{le-ltb, ltb-false, eq-eqb, eqb-true}
 use lib.Dec.{eqb, ltb}
 use lib.IntN.{ℤ, pos, negℤ, natAbs, _+ℤ_, _-ℤ_, _*ℤ_}
 use lib.ListN.{getD, drop}
 use lib.Signed.{_≤ℤ_, _<ℤ_}
 use Rattle.arith.specs.First.{Test, first}
-use Rattle.arith.specs.Row.{upTo}
 use Rattle.arith.proofs.First.{passed, or-false}
-use Rattle.arith.proofs.Int.{Ex, at, nat, minus, _⊞_, _⊟_, _⊠_, ring, order, order-lt, known, abs-above, abs-within, within-abs, abs-most}
+use Rattle.arith.proofs.Int.{at, nat, minus, _⊞_, _⊟_, _⊠_, ring, order, order-lt, known, abs-above, abs-within, within-abs, abs-most}
 use Rattle.arith.proofs.Rows.{getD-upTo}
-use Rattle.arith.proofs.Tests.{all-at, false-ne-true}
+use Rattle.arith.proofs.Tests.{all-at, both-first, both-second}
 use Rattle.layout.specs.Layout.{valueIn}
 use Rattle.grid_records.specs.declared.Frame.{Frame}
 use Rattle.grid_refusals.specs.Refusals.{beyond, ellipsoidal, available, fieldTests}
 use Rattle.bilinear.specs.Bilinear.{fromEdge, outside, cell, lacks}
 use Rattle.bilinear.proofs.Place.{steps-are, cell-le}
-use Rattle.cell.specs.Cell.{alongOf, weightsIn, countBy}
+use Rattle.cell.specs.Cell.{alongOf, countBy}
 use Rattle.cell.specs.declared.Corners.{Corners}
 use Rattle.cell.specs.declared.Weights.{Weights}
 use Rattle.cell.proofs.Held.{along-steps, along-cell}
 use Rattle.grid_fields.specs.Fields.{meanSays, nodeSays, nodesSaid, cellSays}
 use Rattle.grid_fields.specs.declared.Nodes.{Nodes}
-use Rattle.position.specs.Position.{turn, halfTurn, byTurns, stepsOf, heightOf, widthOf, northFrom, eastFrom, frameHeld, placeTests, noPlace, placeOf, located, heldPlace}
+use Rattle.position.specs.Position.{turn, halfTurn, byTurns, stepsOf, heightOf, widthOf, northFrom, eastFrom, frameHeld, placeTests, placeOf, heldPlace}
 use Rattle.position.specs.Private.{Fields}
 use Rattle.position.specs.declared.Located.{Located}
 use Rattle.position.proofs.Antimeridian.{turnsOf, turned-same, turned-only}
@@ -39,7 +38,8 @@ use Rattle.part.specs.Part.{counted, countedBy}
 use Rattle.part.specs.declared.Kept.{Kept}
 use Rattle.prepared_grid.specs.declared.Prepared.{Prepared}
 use Rattle.prepared_grid.specs.Nodes.{nodeValue, nodeThere, nodeValues, nodesThere}
-use Rattle.prepared_grid.specs.Private.{There, Near, aroundOf, Between, cornersOf, countIn, Told, Serves}
+use Rattle.prepared_grid.specs.Edges.{nowhere, aroundOf, refusalAt, edgesAt, preparedOf}
+use Rattle.prepared_grid.specs.Private.{Near, Between, cornersOf, countIn, Serves}
 
 -- ---- along one direction: a position x, where x₀ has the difference u₀ and the steps t₀ from the edge
 
@@ -164,6 +164,20 @@ module _ (f : Frame) (c : ℕ) (n₀ e₀ : ℤ) (z : heldPlace f c n₀ e₀ .r
 
   found : q ≡ placeOf (alongOf h u₀) (alongOf w v₀) h w
   found = held-place f fields c n₀ e₀ ∙ located-in f c n₀ e₀ none
+
+  -- the position is near the place's edges
+  pub near-is : Near q n₀ e₀
+  near-is =
+      let u = in-cell h u₀ (sizes .0) (in-grid .north) in
+      let v = in-cell w v₀ (sizes .1) (in-grid .east) in
+      subst (λ (r : Located). Near r n₀ e₀) (sym found)
+      (record {
+        north = in-grid .early .north;
+        east = in-grid .early .east;
+        cell = (u .0, v .0);
+        steps = (u .2, v .2);
+        sizes = (sizes .0 .1, sizes .1 .1);
+      })
 
   -- the steps from the edges
   whole : {a b t : ℕ} → b ≤ t → a ≡ t - b → b + a ≡ t
@@ -298,7 +312,8 @@ module _ (s : List ℕ) (c : ℕ) (all : nodesThere s c ≡ true) where
 
 -- ---- the prepared numbers
 
-module _ (s : List ℕ) (kept : Kept) (c : ℕ) (t : There s kept c) (n₀ e₀ : ℤ) (z : heldPlace (kept .frame) c n₀ e₀ .refusal ≡ 0) where
+module _ (s : List ℕ) (kept : Kept) (c : ℕ) (accepted : kept .refusal ≡ 0) (mean : available (meanSays s c) ≡ true) (nodes : nodesThere s c ≡ true) (n₀ e₀ : ℤ)
+    (z : heldPlace (kept .frame) c n₀ e₀ .refusal ≡ 0) where
   abbrev f : Frame
   f = kept .frame
 
@@ -319,8 +334,8 @@ module _ (s : List ℕ) (kept : Kept) (c : ℕ) (t : There s kept c) (n₀ e₀ 
     count-is : (n e : ℤ) → Between p n e → countedBy s kept c n e ≡ record { refusal = 0; count = countIn p (nodeValues s c) (natAbs (n -ℤ p .south)) (natAbs (e -ℤ p .west)) }
     unfolding countedBy countIn
     count-is n e b =
-        rw (eq-eqb (kept .refusal) 0 (t .accepted), place-is f c n₀ e₀ z n e (b .south) (b .north) (b .west) (b .east) l₁ l₂)
-        (cell-counted s c (t .nodes) _ _ (cell-le _ _) (cell-le _ _) (t .mean) (f .number) _)
+        rw (eq-eqb (kept .refusal) 0 accepted, place-is f c n₀ e₀ z n e (b .south) (b .north) (b .west) (b .east) l₁ l₂)
+        (cell-counted s c nodes _ _ (cell-le _ _) (cell-le _ _) mean (f .number) _)
 
     serves-is : Serves s kept c p (nodeValues s c)
     serves-is n e b =
@@ -336,31 +351,51 @@ module _ (s : List ℕ) (kept : Kept) (c : ℕ) (t : There s kept c) (n₀ e₀ 
   a = aroundOf (heldPlace f c n₀ e₀) n₀ e₀ (pos meanFactor *ℤ valueIn (meanSays s c)) (nodeFactor (f .number) c)
 
   -- the edges around the place of a position
-  pub serves : beyond (f .number) (a .south) (a .west) ≡ false → beyond (f .number) (a .north) (a .east) ≡ false → Serves s kept c a (nodeValues s c)
-  serves l₁ l₂ =
+  around-serves : beyond (f .number) (a .south) (a .west) ≡ false → beyond (f .number) (a .north) (a .east) ≡ false → Serves s kept c a (nodeValues s c)
+  around-serves l₁ l₂ =
       let e = around-is f c n₀ e₀ z (pos meanFactor *ℤ valueIn (meanSays s c)) (nodeFactor (f .number) c) in
       subst (λ (r : Prepared). Serves s kept c r (nodeValues s c)) (sym e)
       (serves-is (subst (λ (r : Prepared). beyond (f .number) (r .south) (r .west) ≡ false) e l₁) (subst (λ (r : Prepared). beyond (f .number) (r .north) (r .east) ≡ false) e l₂))
 
-  -- and they are near
-  pub near-is : Near (heldPlace f c n₀ e₀) n₀ e₀
-  near-is =
-      let i = in-grid f c n₀ e₀ z in
-      let u = in-cell (heightOf f) (northFrom f n₀) (sizes f c n₀ e₀ z .0) (i .north) in
-      let v = in-cell (widthOf f) (eastFrom f e₀) (sizes f c n₀ e₀ z .1) (i .east) in
-      subst (λ (r : Located). Near r n₀ e₀) (sym (found f c n₀ e₀ z))
-      (record {
-        north = i .early .north;
-        east = i .early .east;
-        cell = (u .0, v .0);
-        steps = (u .2, v .2);
-        sizes = (sizes f c n₀ e₀ z .0 .1, sizes f c n₀ e₀ z .1 .1);
-      })
-
 -- ---- edges between which there is no position
 
-pub nowhere-serves : (s : List ℕ) (kept : Kept) (c : ℕ) (p : Prepared) (v : List ℤ) → (p .south ≡ pos 1) × (p .north ≡ pos 0) → Serves s kept c p v
-nowhere-serves s kept c p v h n e b =
-    let low : pos 1 ≤ℤ n = subst (λ (z : ℤ). z ≤ℤ n) (h .0) (b .south) in
-    let high : n ≤ℤ pos 0 = subst (λ (z : ℤ). n ≤ℤ z) (h .1) (b .north) in
-    absurd (omega (arith, known (nat 1) (at n) low, known (at n) (nat 0) high))
+nowhere-serves : (s : List ℕ) (kept : Kept) (c : ℕ) (v : List ℤ) → Serves s kept c nowhere v
+nowhere-serves s kept c v n e b = absurd (omega (arith, known (nat 1) (at n) (b .south), known (at n) (nat 0) (b .north)))
+
+-- ---- the prepared numbers serve
+
+module _ (s : List ℕ) (kept : Kept) (c : ℕ) where
+  abbrev Serve : Prepared → Type 0
+  Serve p = Serves s kept c p (nodeValues s c)
+
+  tested : (b : Bool) (p : Prepared) → (b ≡ true → Serve p) → Serve (cond b p nowhere)
+  tested true p h = h refl
+  tested false p h = nowhere-serves s kept c (nodeValues s c)
+
+  abbrev frame : Frame
+  frame = kept .frame
+
+  within : (n e : ℤ) → eqb (refusalAt (frame .number) c n e) 0 ≡ true → beyond (frame .number) n e ≡ false
+  within n e h = passed 8 (beyond (frame .number) n e) 0 (passed 7 (ltb 2 c) _ (eqb-true _ 0 h) .1) .0
+
+  edges-serve : kept .refusal ≡ 0 → available (meanSays s c) ≡ true → nodesThere s c ≡ true → (n e : ℤ) → Serve (edgesAt s frame c n e)
+  unfolding edgesAt
+  edges-serve accepted mean nodes n e =
+      let p = aroundOf (heldPlace frame c n e) n e (pos meanFactor *ℤ valueIn (meanSays s c)) (nodeFactor (frame .number) c) in
+      let x = eqb (heldPlace frame c n e .refusal) 0 in
+      let y = eqb (refusalAt (frame .number) c (p .south) (p .west)) 0 in
+      let z = eqb (refusalAt (frame .number) c (p .north) (p .east)) 0 in
+      tested (x && y && z) p
+      (λ t.
+      let u = both-first (x && y) z t in
+      around-serves s kept c accepted mean nodes n e (eqb-true _ 0 (both-first x y u)) (within (p .south) (p .west) (both-second x y u))
+      (within (p .north) (p .east) (both-second (x && y) z t)))
+
+  pub serves : Serve (preparedOf s kept c)
+  unfolding preparedOf
+  serves =
+      let x = eqb (kept .refusal) 0 in
+      let y = available (meanSays s c) in
+      let z = nodesThere s c in
+      tested (x && y && z) _
+      (λ t. let u = both-first (x && y) z t in edges-serve (eqb-true _ 0 (both-first x y u)) (both-second x y u) (both-second (x && y) z t) _ _)

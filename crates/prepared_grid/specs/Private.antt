@@ -1,28 +1,18 @@
--- What the private functions of `reports` ask of prepared numbers, and how these serve.
+-- What private functions ask: `around` of a place, and those of `reports` of prepared numbers and how these serve.
 -- Assumes nothing.
 use mathlib.Core.Path.{_≡_}
-use mathlib.Core.Bool.{true}
 use mathlib.Core.List.{List}
 use Prim.Native.Nat.{ℕ, _+_, _-_, _*_, _≤_, _<_}
-use lib.IntN.{ℤ, pos, natAbs, _+ℤ_, _-ℤ_}
+use lib.IntN.{ℤ, natAbs, _-ℤ_}
 use lib.Signed.{_≤ℤ_}
 use Rattle.arith.specs.Row.{at}
 use Rattle.bilinear.specs.Bilinear.{cell}
 use Rattle.cell.specs.Cell.{weightsIn, countBy}
 use Rattle.cell.specs.declared.Corners.{Corners}
-use Rattle.grid_refusals.specs.Refusals.{available}
-use Rattle.grid_fields.specs.Fields.{meanSays}
 use Rattle.position.specs.declared.Located.{Located}
 use Rattle.part.specs.Part.{countedBy}
 use Rattle.part.specs.declared.Kept.{Kept}
 use Rattle.prepared_grid.specs.declared.Prepared.{Prepared}
-use Rattle.prepared_grid.specs.Nodes.{nodesThere}
-
--- the message is accepted, and the mean and all nodes have values
-pub record There (s : List ℕ) (kept : Kept) (c : ℕ) : Type 0 where
-  pub accepted : kept .refusal ≡ 0
-  pub mean : available (meanSays s c) ≡ true
-  pub nodes : nodesThere s c ≡ true
 
 -- ---- the edges
 
@@ -34,23 +24,7 @@ pub record Near (q : Located) (n e : ℤ) : Type 0 where
   pub steps : (q .north ≤ q .height) × (q .east ≤ q .width)
   pub sizes : (q .height ≤ 40950000) × (q .width ≤ 40950000)
 
--- the edges of the grid in which the position n, e has the place q
-abbrev pub aroundOf : Located → (n e mean : ℤ) → ℕ → Prepared
-aroundOf q n e mean f =
-    let south = n -ℤ pos (q .row * q .height + q .north) in
-    let west = e -ℤ pos (q .column * q .width + q .east) in
-    record {
-      south = south;
-      north = south +ℤ pos (3 * q .height);
-      west = west;
-      east = west +ℤ pos (3 * q .width);
-      height = q .height;
-      width = q .width;
-      mean = mean;
-      factor = f;
-    }
-
--- a position on or between them
+-- a position on or between edges
 pub record Between (p : Prepared) (n e : ℤ) : Type 0 where
   pub south : p .south ≤ℤ n
   pub north : n ≤ℤ p .north

@@ -11,6 +11,7 @@ ghost use Rattle.tally_update.specs.Numbers.{reportWith};
 ghost use Rattle.tally_update.specs.Update.{grownBy};
 ghost use Rattle.grid_refusals.specs.Refusals.{available};
 ghost use Rattle.prepared_grid.specs.Nodes.{nodeValues, nodesThere};
+ghost use Rattle.prepared_grid.specs.Edges.{preparedOf};
 
 pub fn cell_lacks(mean: field::Reading, n: grid_fields::Nodes, k: cell::Weights) -> bool
     ensures { λ r. ⌜ r ≡ lacking mean n k ⌝ }
@@ -115,4 +116,10 @@ pub fn nodes_there(message: &[u8], component: u8) -> bool
     ensures { λ r. ⌜ r ≡ nodesThere (now (message .entry)) component ⌝ }
 {
     prepared_grid::nodes_there(message, component)
+}
+
+pub fn prepare(message: &[u8], kept: part::Kept, component: u8) -> prepared_grid::Prepared
+    ensures { λ r. ⌜ r ≡ preparedOf (now (message .entry)) kept component ⌝ }
+{
+    prepared_grid::prepare(message, kept, component)
 }

@@ -115,7 +115,7 @@ pub fn report_lists(message: &[u8], component: u8, north: &[i64], east: &[i64]) 
     }
     let kept = part::keep(message);
     let nodes = prepared_grid::nodes_of(message, component);
-    let ready = prepared::prepare(message, kept, component);
+    let ready = prepared_grid::prepare(message, kept, component);
     steps(r, message, kept, component, ready, &nodes, north, east)
 }
 

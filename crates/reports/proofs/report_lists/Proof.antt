@@ -1,6 +1,6 @@
 -- `reports::report_lists` meets its contract.
 -- Assumes nothing.
-use mathlib.Core.Path.{_≡_, sym, ap, _∙_, subst}
+use mathlib.Core.Path.{_≡_, sym, ap, _∙_}
 use mathlib.Core.Logic.{_⊎_, inl, inr}
 use mathlib.Core.List.{List}
 use Prim.Native.Nat.{ℕ}
@@ -10,7 +10,12 @@ use borrow.Author.Needs.{needs}
 use Rattle.tally_update.specs.declared.Report.{Report}
 use Rattle.reports.specs.Reports.{listsReport, pointsOf}
 use Rattle.reports.specs.Private.{startOf, reportFrom}
+use Rattle.part.specs.declared.Kept.{Kept}
+use Rattle.prepared_grid.specs.declared.Prepared.{Prepared}
+use Rattle.prepared_grid.specs.Nodes.{nodeValues}
+use Rattle.prepared_grid.specs.Edges.{preparedOf}
 use Rattle.prepared_grid.specs.Private.{Serves}
+use Rattle.prepared_grid.proofs.Served.{serves}
 use Rattle.reports.proofs.Lists.{lists-stop, lists-unequal, lists-equal}
 use Rattle.reports.proofs.report_lists.Statement.{statement}
 use Rattle.reports.proofs.report_lists.Tie as tie
@@ -33,13 +38,16 @@ returns-2 c =
     c .empty .ensures
     ∙ lists-unequal (a .message .now) (a .component) (a .north .now) (a .east .now) (ap (λ (x : Report). x .refusal) (sym (c .before .before .before .before .start .ensures)) ∙ c .before .before .if1 .left) (c .before .if2 .taken)
 
+served : (s : List ℕ) (kept : Kept) (c : ℕ) {p : Prepared} {v : List ℤ} → p ≡ preparedOf s kept c → v ≡ nodeValues s c → Serves s kept c p v
+served s kept c e k = rw (e, k) (serves s kept c)
+
 steps-requires : tie.Need-steps-requires
 steps-requires c κs =
     let n = c .before .before in
     let d = n .before in
     let a = d .before .before .before .before .before .before .args in (
       d .before .if2 .left,
-      subst (λ (v : List ℤ). Serves (a .message .now) (d .keep .result) (a .component) (c .before .prepare .result) v) (sym (n .nodes-of .ensures)) (c .before .prepare .ensures),
+      served (a .message .now) (d .keep .result) (a .component) (c .before .prepare .ensures) (n .nodes-of .ensures),
     )
 
 returns-3 : tie.Need-returns-3

@@ -1,4 +1,4 @@
--- `reports::prepared::around` meets its contract: no operation overflows.
+-- `prepared_grid::around` meets its contract: no operation overflows.
 -- Assumes nothing.
 use Prim.Native.Nat.{_+_, _*_, _≤_}
 use native.Mathlib.Nat.{mul-le-mul}
@@ -6,8 +6,8 @@ use native.Mathlib.Omega.{arith}
 use borrow.Author.Needs.{needs}
 use Rattle.arith.proofs.Machine.{Num, arg, cast, add, sub, fits, is-back}
 use Rattle.position.specs.declared.Located.{Located}
-use Rattle.reports.proofs.prepared.around.Statement.{statement}
-use Rattle.reports.proofs.prepared.around.Tie as tie
+use Rattle.prepared_grid.proofs.around.Statement.{statement}
+use Rattle.prepared_grid.proofs.around.Tie as tie
 
 module _ (s : tie.Start) where
   abbrev q : Located
