@@ -7,8 +7,9 @@ ghost use mathlib.Core.List.{[], map};
 ghost use mathlib.Core.Path.{_≡_};
 ghost use Rattle.arith.specs.Whole.{natural};
 ghost use Rattle.field.specs.Field.{fieldAt, putField, putSigned, signedAt};
+ghost use Rattle.field.specs.declared.Reading.the-variants.{Value};
 ghost use Rattle.grid_records.specs.Grids.{frameOf, gridOf, gridRow};
-ghost use Rattle.layout.specs.Layout.{answered, bitsOf, decodeAll, decodeRefusal, encodeAll, encodeRefusal, placesRefusal, presentIn, readingIn, refusalOf, rowOf, rowTakes, stored, valueIn};
+ghost use Rattle.layout.specs.Layout.{answered, bitsOf, decodeAll, decodeRefusal, encodeAll, encodeRefusal, placesRefusal, presentIn, readingIn, refusalOf, rowOf, rowTakes, stored, takes, valueIn};
 ghost use Rattle.layouts.specs.Layouts.{layoutBy};
 ghost use Rattle.load.specs.Load.{presentLoaded, valuesLoaded};
 ghost use Rattle.projection_records.specs.Projections.{lambertOf, lambertRow, obliqueMercatorOf, obliqueMercatorRow, projectionOf, projectionRow};
@@ -43,6 +44,12 @@ pub fn put_signed(s: &mut [u8], p: usize, w: usize, r: field::Reading)
     ensures { λ _. ⌜ now (s .exit) ≡ putSigned (now (s .entry)) p w r ⌝ }
 {
     field::put_signed(s, p, w, r)
+}
+
+pub fn takes_value(e: u64, z: i64) -> bool
+    ensures { λ r. ⌜ r ≡ takes e (Value z) ⌝ }
+{
+    layout::takes_value(e, z)
 }
 
 pub fn bits_of(layout: &[u64]) -> usize
@@ -84,14 +91,14 @@ pub fn reading_in(z: i64, b: u8) -> field::Reading
 pub fn row_taken(layout: &[u64], values: &[i64], present: &[u8]) -> bool
     ensures { λ r. ⌜ r ≡ rowTakes (now (layout .entry)) (now (values .entry)) (now (present .entry)) ⌝ }
 {
-    layout::row_taken(layout, values, present)
+    layout_writer::row_taken(layout, values, present)
 }
 
 pub fn encode(layout: &[u64], values: &[i64], present: &[u8], out: &mut [u8]) -> layout::Written
     ensures answer { λ r. ⌜ r ≡ answered (encodeRefusal (now (layout .entry)) (now (values .entry)) (now (present .entry)) (length (now (out .entry)))) (encodeAll (now (layout .entry)) (rowOf (now (values .entry)) (now (present .entry)))) ⌝ }
     ensures output { λ r. ⌜ now (out .exit) ≡ stored (encodeRefusal (now (layout .entry)) (now (values .entry)) (now (present .entry)) (length (now (out .entry)))) (encodeAll (now (layout .entry)) (rowOf (now (values .entry)) (now (present .entry)))) (now (out .entry)) ⌝ }
 {
-    layout::encode(layout, values, present, out)
+    layout_writer::encode(layout, values, present, out)
 }
 
 pub fn read(s: &[u8], p: usize, layout: &[u64], values: &mut [i64], present: &mut [u8])

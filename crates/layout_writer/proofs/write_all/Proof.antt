@@ -1,4 +1,4 @@
--- `layout::write_all` meets its contract.
+-- `layout_writer::write_all` meets its contract.
 -- Assumes nothing.
 use mathlib.Core.Path.{_≡_, _∙_}
 use Prim.Native.Nat.{_-_}
@@ -6,12 +6,13 @@ use native.Mathlib.Omega.{arith}
 use lib.IntN.{pos}
 use lib.ListN.{length, getD}
 use Rattle.field.proofs.Sign.{bits-z}
 use Rattle.layout.specs.Layout.{rowTakes}
 use Rattle.layout.proofs.Says.{from-T, of-true}
-use Rattle.layout.proofs.Loop.{Writing, writing-starts, writing-goes-on, writing-ends, entry-taken, row-lengths, at-fits, total-most}
+use Rattle.layout.proofs.Loop.{row-lengths, at-fits, total-most}
+use Rattle.layout_writer.proofs.Loop.{Writing, writing-starts, writing-goes-on, writing-ends, entry-taken}
 use borrow.Author.Needs.{needs}
-use Rattle.layout.proofs.write_all.Statement.{statement}
-use Rattle.layout.proofs.write_all.Tie as tie
+use Rattle.layout_writer.proofs.write_all.Statement.{statement}
+use Rattle.layout_writer.proofs.write_all.Tie as tie
 
 abbrev Inv-loop : tie.InvT-loop
 Inv-loop s₀ layout values present at₀ i₀ s at i = Writing s₀ layout values present s at i × ((length layout ≡ length values) × (length layout ≡ length present))
