@@ -53,10 +53,10 @@ fn write_entry(s: &mut [u8], p: usize, e: u64, z: i64, b: u8)
 {
     let w = (e % 64) as usize;
     if e / 64 % 2 == 1 {
-        field::put_signed(s, p, w, layout::reading_in(z, b));
+        field_writer::put_signed(s, p, w, layout::reading_in(z, b));
         return;
     }
-    field::put_field(s, p, w, field::magnitude(z));
+    field_writer::put_field(s, p, w, field::magnitude(z));
 }
 
 // What a row says into the fields of a layout.

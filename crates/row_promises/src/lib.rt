@@ -6,7 +6,7 @@ ghost use mathlib.Core.Bool.{_&&_, false, true};
 ghost use mathlib.Core.List.{[], map};
 ghost use mathlib.Core.Path.{_≡_};
 ghost use Rattle.arith.specs.Whole.{natural};
-ghost use Rattle.field.specs.Field.{fieldAt, putField, putSigned, signedAt};
+ghost use Rattle.field.specs.Field.{contains, fieldAt, putField, putSigned, signedAt};
 ghost use Rattle.field.specs.declared.Reading.the-variants.{Value};
 ghost use Rattle.grid_records.specs.Grids.{frameOf, gridOf, gridRow};
 ghost use Rattle.layout.specs.Layout.{answered, bitsOf, decodeAll, decodeRefusal, encodeAll, encodeRefusal, placesRefusal, presentIn, readingIn, refusalOf, rowOf, rowTakes, stored, takes, valueIn};
@@ -15,6 +15,12 @@ ghost use Rattle.load.specs.Load.{presentLoaded, valuesLoaded};
 ghost use Rattle.projection_records.specs.Projections.{lambertOf, lambertRow, obliqueMercatorOf, obliqueMercatorRow, projectionOf, projectionRow};
 ghost use Rattle.row.specs.Numbers.{appended, buffers, counterAt, numberAt, numbers, pairAt, placeBehind, says};
 ghost use Rattle.transformation_records.specs.Transformations.{goodName, helmertOf, helmertRow, molodenskiBadekasOf, molodenskiBadekasRow};
+
+pub fn contains_field(s: &[u8], p: usize, w: usize) -> bool
+    ensures { λ r. ⌜ r ≡ contains (now (s .entry)) p w ⌝ }
+{
+    field::contains_field(s, p, w)
+}
 
 pub fn field_at(s: &[u8], p: usize, w: usize) -> u64
     ensures { λ r. ⌜ r ≡ fieldAt (now (s .entry)) p w ⌝ }
@@ -37,13 +43,13 @@ pub fn magnitude(z: i64) -> u64
 pub fn put_field(s: &mut [u8], p: usize, w: usize, v: u64)
     ensures { λ _. ⌜ now (s .exit) ≡ putField (now (s .entry)) p w v ⌝ }
 {
-    field::put_field(s, p, w, v)
+    field_writer::put_field(s, p, w, v)
 }
 
 pub fn put_signed(s: &mut [u8], p: usize, w: usize, r: field::Reading)
     ensures { λ _. ⌜ now (s .exit) ≡ putSigned (now (s .entry)) p w r ⌝ }
 {
-    field::put_signed(s, p, w, r)
+    field_writer::put_signed(s, p, w, r)
 }
 
 pub fn takes_value(e: u64, z: i64) -> bool

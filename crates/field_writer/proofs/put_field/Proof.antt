@@ -1,14 +1,14 @@
--- `field::put_field` meets its contract.
+-- `field_writer::put_field` meets its contract.
 -- Assumes nothing.
 use mathlib.Core.Path.{sym, _∙_}
 use native.Mathlib.Omega.{arith}
 use borrow.Author.Tests.{lt-ltb, le-ltb}
 use Prim.Native.Nat.{_^_}
 use Rattle.field.specs.Field.{putField}
 use Rattle.field.proofs.Place.{contained}
 use borrow.Author.Needs.{needs}
-use Rattle.field.proofs.put_field.Statement.{statement}
-use Rattle.field.proofs.put_field.Tie as tie
+use Rattle.field_writer.proofs.put_field.Statement.{statement}
+use Rattle.field_writer.proofs.put_field.Tie as tie
 
 pow2-requires : tie.Need-pow2-requires
 pow2-requires c κs =
