@@ -331,14 +331,14 @@ pub fn taken_by(number: u64, n: usize, m: usize, values: &[i64], present: &[u8])
     match number {
         1023 => grid_layouts::taken_1023(values, present),
         1024 => grid_layouts::taken_1024(values, present),
-        1025 => layout::row_taken(&LAYOUT_1025, values, present),
-        1026 => layout::row_taken(&LAYOUT_1026, values, present),
-        1027 => layout::row_taken(&LAYOUT_1027, values, present),
+        1025 => layout_writer::row_taken(&LAYOUT_1025, values, present),
+        1026 => layout_writer::row_taken(&LAYOUT_1026, values, present),
+        1027 => layout_writer::row_taken(&LAYOUT_1027, values, present),
         _ => {
             let p = other_plan(number, n, m);
             let e = p.entries;
             let k = p.count;
-            layout::row_taken(&e[..k], values, present)
+            layout_writer::row_taken(&e[..k], values, present)
         }
     }
 }
@@ -358,14 +358,14 @@ pub fn encode_by(
     match number {
         1023 => grid_layouts::encode_1023(values, present, out),
         1024 => grid_layouts::encode_1024(values, present, out),
-        1025 => layout::encode(&LAYOUT_1025, values, present, out),
-        1026 => layout::encode(&LAYOUT_1026, values, present, out),
-        1027 => layout::encode(&LAYOUT_1027, values, present, out),
+        1025 => layout_writer::encode(&LAYOUT_1025, values, present, out),
+        1026 => layout_writer::encode(&LAYOUT_1026, values, present, out),
+        1027 => layout_writer::encode(&LAYOUT_1027, values, present, out),
         _ => {
             let p = other_plan(number, n, m);
             let e = p.entries;
             let k = p.count;
-            layout::encode(&e[..k], values, present, out)
+            layout_writer::encode(&e[..k], values, present, out)
         }
     }
 }

@@ -19,7 +19,7 @@ use Rattle.field.specs.declared.Reading.{Reading}
 use Rattle.field.specs.declared.Reading.the-variants.{Value, Absent}
 use Rattle.layout.specs.Layout.{width, signed, limit, takes, readingIn, placeTakes, rowTakes, rowOf, encodeRefusal}
 use Rattle.layout.proofs.Round.{unsigned-value}
-use Rattle.layout.proofs.Answer.{write-range}
+use Rattle.layout_writer.proofs.Answer.{write-range}
 use Rattle.layouts.specs.Layouts.{known}
 use Rattle.transformation_records.specs.Transformations.{helmertOf, molodenskiBadekasOf}
 use Rattle.grid_records.specs.Grids.{gridOf, frameOf}

@@ -1,18 +1,17 @@
 -- Fields that stand in the bytes or do not, and what is said of them.
 -- Assumes nothing.
-use mathlib.Core.Path.{_≡_, refl}
+use mathlib.Core.Path.{_≡_}
 use mathlib.Core.Bool.{Bool, true, false, cond, _&&_}
 use mathlib.Core.List.{List}
 use Prim.Native.Nat.{ℕ, _+_, _*_, _/_, _^_, _≤_, _<_}
 use native.Mathlib.Omega.{arith}
 use lib.Dec.{leb}
 use lib.ListN.{length}
-use lib.IntN.{ℤ, pos, natAbs}
+use lib.IntN.{pos}
 use lib.Pow.{pow-mono, pow-pos}
-use borrow.Author.Tests.{le-leb, lt-leb, leb-true, lt-ltb, le-ltb, ne-eqb}
+use borrow.Author.Tests.{le-leb, lt-leb, leb-true, lt-ltb, ne-eqb}
 use Rattle.arith.proofs.Tests.{both-first, both-second}
-use Rattle.field.specs.Field.{field, contains, fieldAt, signedOf, twos, noneOf, signedAt, fits, patternOf, setField, putField, putSigned}
-use Rattle.field.specs.declared.Reading.{Reading}
+use Rattle.field.specs.Field.{field, contains, fieldAt, signedOf, twos, signedAt}
 use Rattle.field.specs.declared.Reading.the-variants.{Value}
 use Rattle.field.proofs.Bit.{field-lt}
 
@@ -47,31 +46,3 @@ module _ (s : List ℕ) (p w : ℕ) where
       let two : 2 ^ 1 ≤ 2 ^ w = pow-mono {i = 1} {j = w} (omega arith) in
       let other : 0 ≡ 2 ^ w / 2 → ⊥ = λ e. omega arith in
       rw (wide h, ne-eqb 0 (2 ^ w / 2) other, lt-ltb 0 (2 ^ w) (omega arith))
-
--- ---- writing what a signed field is to say
-module _ (s : List ℕ) (p w : ℕ) where
-  pub put-wide : (r : Reading) → 63 < w → putSigned s p w r ≡ s
-  unfolding putSigned putField
-  put-wide r h = rw (wide s p w h) (by (fits w r))
-    where
-      by : (b : Bool) → cond b s s ≡ s
-      by true = refl
-      by false = refl
-
-  pub put-value : (z : ℤ) → natAbs z < noneOf w → putSigned s p w (Value z) ≡ putField s p w (patternOf w (Value z))
-  unfolding putSigned
-  put-value z h = rw (lt-ltb (natAbs z) (noneOf w) h)
-
-  pub put-nothing : (z : ℤ) → noneOf w ≤ natAbs z → putSigned s p w (Value z) ≡ s
-  unfolding putSigned
-  put-nothing z h = rw (le-ltb (natAbs z) (noneOf w) h)
-
-  -- what fits, in a field that the bytes contain
-  module _ (i : contains s p w ≡ true) where
-    pub put-inside : (v : ℕ) → v < 2 ^ w → putField s p w v ≡ setField s p w v
-    unfolding putField
-    put-inside v h = rw (i, lt-ltb v (2 ^ w) h)
-
-    pub put-fitting : (r : Reading) → fits w r ≡ true → patternOf w r < 2 ^ w → putSigned s p w r ≡ setField s p w (patternOf w r)
-    unfolding putSigned
-    put-fitting r f h = rw f (put-inside (patternOf w r) h)

@@ -255,13 +255,13 @@ pub fn decode_1024(s: &[u8], values: &mut [i64], present: &mut [u8]) -> u8
 pub fn taken_1023(values: &[i64], present: &[u8]) -> bool
     ensures { λ r. ⌜ r ≡ rowTakes layout1023 (now (values .entry)) (now (present .entry)) ⌝ }
 {
-    layout::row_taken(&LAYOUT_1023, values, present)
+    layout_writer::row_taken(&LAYOUT_1023, values, present)
 }
 
 pub fn taken_1024(values: &[i64], present: &[u8]) -> bool
     ensures { λ r. ⌜ r ≡ rowTakes layout1024 (now (values .entry)) (now (present .entry)) ⌝ }
 {
-    layout::row_taken(&LAYOUT_1024, values, present)
+    layout_writer::row_taken(&LAYOUT_1024, values, present)
 }
 
 // The message of a row in the first bytes of out, or 5 RANGE, 6 ROOM.
@@ -269,12 +269,12 @@ pub fn encode_1023(values: &[i64], present: &[u8], out: &mut [u8]) -> Written
     ensures answer { λ r. ⌜ r ≡ answered (encodeRefusal layout1023 (now (values .entry)) (now (present .entry)) (length (now (out .entry)))) (encodeAll layout1023 (rowOf (now (values .entry)) (now (present .entry)))) ⌝ }
     ensures output { λ r. ⌜ now (out .exit) ≡ stored (encodeRefusal layout1023 (now (values .entry)) (now (present .entry)) (length (now (out .entry)))) (encodeAll layout1023 (rowOf (now (values .entry)) (now (present .entry)))) (now (out .entry)) ⌝ }
 {
-    layout::encode(&LAYOUT_1023, values, present, out)
+    layout_writer::encode(&LAYOUT_1023, values, present, out)
 }
 
 pub fn encode_1024(values: &[i64], present: &[u8], out: &mut [u8]) -> Written
     ensures answer { λ r. ⌜ r ≡ answered (encodeRefusal layout1024 (now (values .entry)) (now (present .entry)) (length (now (out .entry)))) (encodeAll layout1024 (rowOf (now (values .entry)) (now (present .entry)))) ⌝ }
     ensures output { λ r. ⌜ now (out .exit) ≡ stored (encodeRefusal layout1024 (now (values .entry)) (now (present .entry)) (length (now (out .entry)))) (encodeAll layout1024 (rowOf (now (values .entry)) (now (present .entry)))) (now (out .entry)) ⌝ }
 {
-    layout::encode(&LAYOUT_1024, values, present, out)
+    layout_writer::encode(&LAYOUT_1024, values, present, out)
 }

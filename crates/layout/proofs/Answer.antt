@@ -99,25 +99,7 @@ module _ {A : Type 0} (n : ℕ) (m out : List A) where
 pub refused-read : (n d : ℕ) (vs v : List ℤ) (bs b : List ℕ) → d ≡ n → (n ≡ 0 → ⊥) → (n ≡ d) × ((v ≡ stored d vs v) × (b ≡ stored d bs b))
 refused-read n d vs v bs b e h = (sym e, (kept d vs v (λ z. h (sym e ∙ z)), kept d bs b (λ z. h (sym e ∙ z))))
 
--- ---- encode
-module _ (es : List ℕ) (zs : List ℤ) (bs : List ℕ) (n : ℕ) where
-  pub write-many : 96 < length es → encodeRefusal es zs bs n ≡ 5
-  unfolding encodeRefusal
-  write-many h = rw (lt-ltb 96 (length es) h)
-
-  module _ (few : length es ≤ 96) where
-    pub write-range : rowTakes es zs bs ≡ false → encodeRefusal es zs bs n ≡ 5
-    unfolding encodeRefusal
-    write-range t = rw (le-ltb 96 (length es) few, t)
-
-    module _ (t : rowTakes es zs bs ≡ true) where
-      pub write-room : n < size es → encodeRefusal es zs bs n ≡ 6
-      unfolding encodeRefusal
-      write-room h = rw (le-ltb 96 (length es) few, t, lt-ltb n (size es) h)
-
-      pub write-none : size es ≤ n → encodeRefusal es zs bs n ≡ 0
-      unfolding encodeRefusal
-      write-none h = rw (le-ltb 96 (length es) few, t, le-ltb n (size es) h)
+-- ---- writers
 
 -- what an answer of 0 says of a write
 pub record Writable (es : List ℕ) (zs : List ℤ) (bs : List ℕ) (n : ℕ) : Type 0 where

@@ -19,7 +19,7 @@ use Rattle.field.specs.Field.{bitAt, field, setField, patternOf}
 use Rattle.field.specs.declared.Reading.{Reading}
 use Rattle.field.specs.declared.Reading.the-variants.{Value, Absent}
 use Rattle.field.proofs.Bit.{field-lt, field-same, length-setField, setField-outside, field-setField, Bytes, bits-decide}
-use Rattle.field.proofs.Bytes.{Agree, agree-field, bytes-setField, zero-bits, setField-left}
+use Rattle.field.proofs.Bytes.{Agree, agree-field, bytes-setField, zero-bits}
 use Rattle.layout.specs.Layout.{width, signed, readingOf, takes, allTake, total, size, decodeAll, encodeInto, blank, encodeAll, zeroFrom, valueIn, presentIn, readingIn, rowOf, placeTakes, rowTakes, refusalOf, encodeRefusal}
 use Rattle.layout.proofs.Says.{from-T, pattern-reading, reading-pattern}
 use Rattle.layout.proofs.Loop.{row-lengths}
@@ -54,20 +54,6 @@ encodeInto-outside (e ∷ es) (r ∷ rs) p s i n o =
     encodeInto-outside es rs (p + width e) (setField s p (width e) (patternOf (width e) r)) i (omega arith)
     (⊎-map (λ (a : i < p). omega arith) (λ (a : p + (width e + total es) ≤ i). omega arith) o)
     ∙ setField-outside s p (width e) (patternOf (width e) r) i (omega arith) (⊎-map (λ a. a) (λ (a : p + (width e + total es) ≤ i). omega arith) o)
-
--- bytes behind the message stay
-encode-left : (es : List ℕ) (rs : List Reading) (p : ℕ) (a b : List ℕ) → p + total es ≤ 8 * length a → encodeInto es rs p (a ++ b) ≡ encodeInto es rs p a ++ b
-unfolding encodeInto total
-encode-left [] rs p a b h = refl
-encode-left (e ∷ es) [] p a b h = refl
-encode-left (e ∷ es) (r ∷ rs) p a b h =
-    rw (setField-left a b p (width e) (patternOf (width e) r) (omega arith))
-    (encode-left es rs (p + width e) _ b (omega (arith, length-setField a p (width e) (patternOf (width e) r))))
-
--- what a writer leaves that clears the first bytes and writes the fields
-pub message-left : (es : List ℕ) (rs : List Reading) (n : ℕ) (b : List ℕ) → n ≡ size es → encodeInto es rs 0 (blank n ++ b) ≡ encodeAll es rs ++ b
-unfolding encodeAll
-message-left es rs n b e = rw e (encode-left es rs 0 (blank (size es)) b (omega (arith, length-blank (size es))))
 
 zeros : (n i : ℕ) → getD (blank n) i 0 ≡ 0
 zeros zero i = refl

@@ -1,8 +1,8 @@
 -- What a field says and what it takes.
 -- Assumes nothing.
-use mathlib.Core.Path.{_≡_, refl, sym, ap, _∙_}
+use mathlib.Core.Path.{_≡_, refl, sym, ap}
 use mathlib.Core.Bool.{Bool, true, false, true≢false, cond, _&&_, _||_}
-use Prim.Native.Nat.{ℕ, zero, suc, _+_, _-_, _*_, _/_, _^_, _≤_, _<_}
+use Prim.Native.Nat.{ℕ, zero, suc, _-_, _*_, _/_, _^_, _<_}
 use native.Mathlib.Nat.{pow-suc, not-suc-le-zero}
 use native.Mathlib.Omega.{arith}
 use native.Mathlib.Decide.{decLt, ℕ-discrete}
@@ -13,7 +13,7 @@ use lib.Pow.{pow-pos}
 use Rattle.arith.specs.Whole.{sameZ}
 use Rattle.arith.proofs.Tests.{false-ne-true, both-first, both-second}
 use borrow.Author.Tests.{lt-ltb, le-ltb, eq-eqb, ne-eqb, ltb-true}
-use Rattle.field.specs.Field.{patternOf, fits, noneOf, twos, signedOf}
+use Rattle.field.specs.Field.{patternOf, noneOf, twos, signedOf}
 use Rattle.field.specs.declared.Reading.{Reading}
 use Rattle.field.specs.declared.Reading.the-variants.{Value, Absent}
 use Rattle.layout.specs.Layout.{width, signed, limit, readingOf, ofWidth, takes, readingIn, placeTakes}
@@ -103,23 +103,6 @@ value-patterned false w (negsuc n) t = absurd (false-ne-true t)
 pub reading-pattern : (e : ℕ) (r : Reading) → takes e r ≡ true → (patternOf (width e) r < 2 ^ width e) × (readingOf e (patternOf (width e) r) ≡ r)
 reading-pattern e (Value z) t = value-patterned (signed e) (width e) z (both-first (ofWidth (signed e) (width e) z) _ t)
 reading-pattern e Absent t = rw t (omega (arith, pow-pos (width e)), unfold signedOf in rw (eq-eqb (noneOf (width e)) (noneOf (width e)) refl))
-
--- what a signed field takes fits it
-pub taken-fits : (e : ℕ) (r : Reading) → signed e ≡ true → takes e r ≡ true → fits (width e) r ≡ true
-taken-fits e (Value z) s t = both-first (ltb (natAbs z) (noneOf (width e))) _ (rw s at t)
-taken-fits e Absent s t = refl
-
--- what an unsigned field takes is a number
-unsigned-pattern : (w : ℕ) (z : ℤ) → ofWidth false w z ≡ true → patternOf w (Value z) ≡ natAbs z
-unsigned-pattern w (pos n) t = refl
-unsigned-pattern w (negsuc n) t = absurd (false-ne-true t)
-
-pub unsigned-place : (e : ℕ) (z : ℤ) (b : ℕ) → signed e ≡ false → takes e (readingIn z b) ≡ true → patternOf (width e) (readingIn z b) ≡ natAbs z
-unsigned-place e z b s = by (eqb b 1)
-  where
-    by : (x : Bool) → takes e (cond x (Value z) Absent) ≡ true → patternOf (width e) (cond x (Value z) Absent) ≡ natAbs z
-    by true t = unsigned-pattern (width e) z (both-first (ofWidth false (width e) z) _ (rw s at t))
-    by false t = absurd (false-ne-true (sym s ∙ t))
 
 pub place-taken : (e : ℕ) (z : ℤ) (b : ℕ) → placeTakes e z b ≡ true → takes e (readingIn z b) ≡ true
 unfolding placeTakes

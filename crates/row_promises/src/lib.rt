@@ -6,14 +6,21 @@ ghost use mathlib.Core.Bool.{_&&_, false, true};
 ghost use mathlib.Core.List.{[], map};
 ghost use mathlib.Core.Path.{_≡_};
 ghost use Rattle.arith.specs.Whole.{natural};
-ghost use Rattle.field.specs.Field.{fieldAt, putField, putSigned, signedAt};
+ghost use Rattle.field.specs.Field.{contains, fieldAt, putField, putSigned, signedAt};
+ghost use Rattle.field.specs.declared.Reading.the-variants.{Value};
 ghost use Rattle.grid_records.specs.Grids.{frameOf, gridOf, gridRow};
-ghost use Rattle.layout.specs.Layout.{answered, bitsOf, decodeAll, decodeRefusal, encodeAll, encodeRefusal, placesRefusal, presentIn, readingIn, refusalOf, rowOf, rowTakes, stored, valueIn};
+ghost use Rattle.layout.specs.Layout.{answered, bitsOf, decodeAll, decodeRefusal, encodeAll, encodeRefusal, placesRefusal, presentIn, readingIn, refusalOf, rowOf, rowTakes, stored, takes, valueIn};
 ghost use Rattle.layouts.specs.Layouts.{layoutBy};
 ghost use Rattle.load.specs.Load.{presentLoaded, valuesLoaded};
 ghost use Rattle.projection_records.specs.Projections.{lambertOf, lambertRow, obliqueMercatorOf, obliqueMercatorRow, projectionOf, projectionRow};
 ghost use Rattle.row.specs.Numbers.{appended, buffers, counterAt, numberAt, numbers, pairAt, placeBehind, says};
 ghost use Rattle.transformation_records.specs.Transformations.{goodName, helmertOf, helmertRow, molodenskiBadekasOf, molodenskiBadekasRow};
+
+pub fn contains_field(s: &[u8], p: usize, w: usize) -> bool
+    ensures { λ r. ⌜ r ≡ contains (now (s .entry)) p w ⌝ }
+{
+    field::contains_field(s, p, w)
+}
 
 pub fn field_at(s: &[u8], p: usize, w: usize) -> u64
     ensures { λ r. ⌜ r ≡ fieldAt (now (s .entry)) p w ⌝ }
@@ -36,13 +43,19 @@ pub fn magnitude(z: i64) -> u64
 pub fn put_field(s: &mut [u8], p: usize, w: usize, v: u64)
     ensures { λ _. ⌜ now (s .exit) ≡ putField (now (s .entry)) p w v ⌝ }
 {
-    field::put_field(s, p, w, v)
+    field_writer::put_field(s, p, w, v)
 }
 
 pub fn put_signed(s: &mut [u8], p: usize, w: usize, r: field::Reading)
     ensures { λ _. ⌜ now (s .exit) ≡ putSigned (now (s .entry)) p w r ⌝ }
 {
-    field::put_signed(s, p, w, r)
+    field_writer::put_signed(s, p, w, r)
+}
+
+pub fn takes_value(e: u64, z: i64) -> bool
+    ensures { λ r. ⌜ r ≡ takes e (Value z) ⌝ }
+{
+    layout::takes_value(e, z)
 }
 
 pub fn bits_of(layout: &[u64]) -> usize
@@ -84,14 +97,14 @@ pub fn reading_in(z: i64, b: u8) -> field::Reading
 pub fn row_taken(layout: &[u64], values: &[i64], present: &[u8]) -> bool
     ensures { λ r. ⌜ r ≡ rowTakes (now (layout .entry)) (now (values .entry)) (now (present .entry)) ⌝ }
 {
-    layout::row_taken(layout, values, present)
+    layout_writer::row_taken(layout, values, present)
 }
 
 pub fn encode(layout: &[u64], values: &[i64], present: &[u8], out: &mut [u8]) -> layout::Written
     ensures answer { λ r. ⌜ r ≡ answered (encodeRefusal (now (layout .entry)) (now (values .entry)) (now (present .entry)) (length (now (out .entry)))) (encodeAll (now (layout .entry)) (rowOf (now (values .entry)) (now (present .entry)))) ⌝ }
     ensures output { λ r. ⌜ now (out .exit) ≡ stored (encodeRefusal (now (layout .entry)) (now (values .entry)) (now (present .entry)) (length (now (out .entry)))) (encodeAll (now (layout .entry)) (rowOf (now (values .entry)) (now (present .entry)))) (now (out .entry)) ⌝ }
 {
-    layout::encode(layout, values, present, out)
+    layout_writer::encode(layout, values, present, out)
 }
 
 pub fn read(s: &[u8], p: usize, layout: &[u64], values: &mut [i64], present: &mut [u8])
