@@ -7,7 +7,7 @@ ghost use Prim.Native.Nat.{_+_, _≤_};
 ghost use mathlib.Core.List.{_++_, map};
 ghost use lib.ListN.{length, take};
 ghost use Rattle.layout.specs.Layout.{refusalOf, decodeRefusal, decodeAll, valueIn, presentIn, stored, rowTakes, rowOf, encodeRefusal, encodeAll, answered};
-ghost use Rattle.layouts.specs.Layouts.{names, counter, layout1025, layout1026, layout1027, layoutBy};
+ghost use Rattle.layouts.specs.Layouts.{names, counter, layoutBy};
 ghost use Rattle.by_number.specs.Private.{Other};
 
 // DF002, DF143, which DF145 is as wide as, and a character of DF144 or DF146.
@@ -77,63 +77,6 @@ const TAIL_1022: [u64; 25] = [
     3, // DF215
 ];
 
-// A latitude, a longitude or an azimuth of a projection.
-const ANGLE_90: u64 = 8181818181 * RANGE + INT + 34;
-
-const ANGLE_180: u64 = 16363636363 * RANGE + INT + 35;
-
-const ANGLE_360: u64 = 32727272727 * RANGE + 35;
-
-const LAYOUT_1025: [u64; 8] = [
-    12, // DF002
-    8, // DF147
-    6, // DF170
-    ANGLE_90, // DF171
-    ANGLE_180, // DF172
-    30, // DF173
-    36, // DF174
-    INT + 35, // DF175
-];
-
-const LAYOUT_1026: [u64; 9] = [
-    12, // DF002
-    8, // DF147
-    6, // DF170
-    ANGLE_90, // DF176
-    ANGLE_180, // DF177
-    ANGLE_90, // DF178
-    ANGLE_90, // DF179
-    36, // DF180
-    INT + 35, // DF181
-];
-
-const LAYOUT_1027: [u64; 11] = [
-    12, // DF002
-    8, // DF147
-    6, // DF170
-    1, // DF182
-    ANGLE_90, // DF183
-    ANGLE_180, // DF184
-    ANGLE_360, // DF185
-    INT + 26, // DF186
-    30, // DF187
-    36, // DF188
-    INT + 35, // DF189
-];
-
-// The first bits of the fields with a declared range, and their entries.
-const STARTS_1025: [u64; 2] = [26, 60];
-
-const RANGED_1025: [u64; 2] = [ANGLE_90, ANGLE_180];
-
-const STARTS_1026: [u64; 4] = [26, 60, 95, 129];
-
-const RANGED_1026: [u64; 4] = [ANGLE_90, ANGLE_180, ANGLE_90, ANGLE_90];
-
-const STARTS_1027: [u64; 3] = [27, 61, 96];
-
-const RANGED_1027: [u64; 3] = [ANGLE_90, ANGLE_180, ANGLE_360];
-
 // A layout in the first entries.
 struct Plan {
     entries: [u64; 96],
@@ -193,24 +136,6 @@ fn other_plan(number: u64, n: usize, m: usize) -> Plan
     }
 }
 
-fn check_1025(s: &[u8]) -> u8
-    ensures { λ r. ⌜ r ≡ refusalOf layout1025 (now (s .entry)) ⌝ }
-{
-    layout::check_places(s, 196, &STARTS_1025, &RANGED_1025)
-}
-
-fn check_1026(s: &[u8]) -> u8
-    ensures { λ r. ⌜ r ≡ refusalOf layout1026 (now (s .entry)) ⌝ }
-{
-    layout::check_places(s, 234, &STARTS_1026, &RANGED_1026)
-}
-
-fn check_1027(s: &[u8]) -> u8
-    ensures { λ r. ⌜ r ≡ refusalOf layout1027 (now (s .entry)) ⌝ }
-{
-    layout::check_places(s, 258, &STARTS_1027, &RANGED_1027)
-}
-
 // Why s is no message of the layout of another number.
 fn check_other(s: &[u8], number: u64, n: usize, m: usize) -> u8
     requires { ⌜ Other number ⌝ }
@@ -229,58 +154,14 @@ pub fn check_by(s: &[u8], number: u64, n: usize, m: usize) -> u8
     match number {
         1023 => grid_layouts::check_1023(s),
         1024 => grid_layouts::check_1024(s),
-        1025 => check_1025(s),
-        1026 => check_1026(s),
-        1027 => check_1027(s),
+        1025 => projection_layouts::check_1025(s),
+        1026 => projection_layouts::check_1026(s),
+        1027 => projection_layouts::check_1027(s),
         _ => check_other(s, number, n, m),
     }
 }
 
-// What the fields of the layout say where r, why s is no message of it, is 0; or r, or 6 ROOM.
-fn decode_checked(r: u8, s: &[u8], layout: &[u64], values: &mut [i64], present: &mut [u8]) -> u8
-    requires { ⌜ r ≡ refusalOf (now layout) (now s) ⌝ }
-    ensures answer { λ r. ⌜ r ≡ decodeRefusal (now (layout .entry)) (now (s .entry)) (length (now (values .entry))) (length (now (present .entry))) ⌝ }
-    ensures values { λ r. ⌜ now (values .exit) ≡ stored (decodeRefusal (now (layout .entry)) (now (s .entry)) (length (now (values .entry))) (length (now (present .entry)))) (map valueIn (decodeAll (now (layout .entry)) 0 (now (s .entry)))) (now (values .entry)) ⌝ }
-    ensures present { λ r. ⌜ now (present .exit) ≡ stored (decodeRefusal (now (layout .entry)) (now (s .entry)) (length (now (values .entry))) (length (now (present .entry)))) (map presentIn (decodeAll (now (layout .entry)) 0 (now (s .entry)))) (now (present .entry)) ⌝ }
-{
-    if r != 0 {
-        return r;
-    }
-    if values.len() < layout.len() {
-        return 6;
-    }
-    if present.len() < layout.len() {
-        return 6;
-    }
-    load::read(s, 0, layout, values, present);
-    0
-}
-
-fn decode_1025(s: &[u8], values: &mut [i64], present: &mut [u8]) -> u8
-    ensures answer { λ r. ⌜ r ≡ decodeRefusal layout1025 (now (s .entry)) (length (now (values .entry))) (length (now (present .entry))) ⌝ }
-    ensures values { λ r. ⌜ now (values .exit) ≡ stored (decodeRefusal layout1025 (now (s .entry)) (length (now (values .entry))) (length (now (present .entry)))) (map valueIn (decodeAll layout1025 0 (now (s .entry)))) (now (values .entry)) ⌝ }
-    ensures present { λ r. ⌜ now (present .exit) ≡ stored (decodeRefusal layout1025 (now (s .entry)) (length (now (values .entry))) (length (now (present .entry)))) (map presentIn (decodeAll layout1025 0 (now (s .entry)))) (now (present .entry)) ⌝ }
-{
-    decode_checked(check_1025(s), s, &LAYOUT_1025, values, present)
-}
-
-fn decode_1026(s: &[u8], values: &mut [i64], present: &mut [u8]) -> u8
-    ensures answer { λ r. ⌜ r ≡ decodeRefusal layout1026 (now (s .entry)) (length (now (values .entry))) (length (now (present .entry))) ⌝ }
-    ensures values { λ r. ⌜ now (values .exit) ≡ stored (decodeRefusal layout1026 (now (s .entry)) (length (now (values .entry))) (length (now (present .entry)))) (map valueIn (decodeAll layout1026 0 (now (s .entry)))) (now (values .entry)) ⌝ }
-    ensures present { λ r. ⌜ now (present .exit) ≡ stored (decodeRefusal layout1026 (now (s .entry)) (length (now (values .entry))) (length (now (present .entry)))) (map presentIn (decodeAll layout1026 0 (now (s .entry)))) (now (present .entry)) ⌝ }
-{
-    decode_checked(check_1026(s), s, &LAYOUT_1026, values, present)
-}
-
-fn decode_1027(s: &[u8], values: &mut [i64], present: &mut [u8]) -> u8
-    ensures answer { λ r. ⌜ r ≡ decodeRefusal layout1027 (now (s .entry)) (length (now (values .entry))) (length (now (present .entry))) ⌝ }
-    ensures values { λ r. ⌜ now (values .exit) ≡ stored (decodeRefusal layout1027 (now (s .entry)) (length (now (values .entry))) (length (now (present .entry)))) (map valueIn (decodeAll layout1027 0 (now (s .entry)))) (now (values .entry)) ⌝ }
-    ensures present { λ r. ⌜ now (present .exit) ≡ stored (decodeRefusal layout1027 (now (s .entry)) (length (now (values .entry))) (length (now (present .entry)))) (map presentIn (decodeAll layout1027 0 (now (s .entry)))) (now (present .entry)) ⌝ }
-{
-    decode_checked(check_1027(s), s, &LAYOUT_1027, values, present)
-}
-
-// The same of another number.
+// What the fields of a message of another number say, or why not.
 fn decode_other(
     s: &[u8],
     number: u64,
@@ -298,7 +179,7 @@ fn decode_other(
     let e = p.entries;
     let k = p.count;
     let r = layout::check(s, &e[..k]);
-    decode_checked(r, s, &e[..k], values, present)
+    projection_layouts::decode_checked(r, s, &e[..k], values, present)
 }
 
 // What the fields of a message of that layout say, into the first places of both buffers; or why not: as check_by, then 6 ROOM.
@@ -317,9 +198,9 @@ pub fn decode_by(
     match number {
         1023 => grid_layouts::decode_1023(s, values, present),
         1024 => grid_layouts::decode_1024(s, values, present),
-        1025 => decode_1025(s, values, present),
-        1026 => decode_1026(s, values, present),
-        1027 => decode_1027(s, values, present),
+        1025 => projection_layouts::decode_1025(s, values, present),
+        1026 => projection_layouts::decode_1026(s, values, present),
+        1027 => projection_layouts::decode_1027(s, values, present),
         _ => decode_other(s, number, n, m, values, present),
     }
 }
@@ -331,9 +212,9 @@ pub fn taken_by(number: u64, n: usize, m: usize, values: &[i64], present: &[u8])
     match number {
         1023 => grid_layouts::taken_1023(values, present),
         1024 => grid_layouts::taken_1024(values, present),
-        1025 => layout_writer::row_taken(&LAYOUT_1025, values, present),
-        1026 => layout_writer::row_taken(&LAYOUT_1026, values, present),
-        1027 => layout_writer::row_taken(&LAYOUT_1027, values, present),
+        1025 => projection_layouts::taken_1025(values, present),
+        1026 => projection_layouts::taken_1026(values, present),
+        1027 => projection_layouts::taken_1027(values, present),
         _ => {
             let p = other_plan(number, n, m);
             let e = p.entries;
@@ -358,9 +239,9 @@ pub fn encode_by(
     match number {
         1023 => grid_layouts::encode_1023(values, present, out),
         1024 => grid_layouts::encode_1024(values, present, out),
-        1025 => layout_writer::encode(&LAYOUT_1025, values, present, out),
-        1026 => layout_writer::encode(&LAYOUT_1026, values, present, out),
-        1027 => layout_writer::encode(&LAYOUT_1027, values, present, out),
+        1025 => projection_layouts::encode_1025(values, present, out),
+        1026 => projection_layouts::encode_1026(values, present, out),
+        1027 => projection_layouts::encode_1027(values, present, out),
         _ => {
             let p = other_plan(number, n, m);
             let e = p.entries;

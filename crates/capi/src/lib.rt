@@ -44,7 +44,7 @@ pub extern "C" fn tarnoklej_write_fields(
     ensures answer { λ r. ⌜ r ≡ writeRow (now (values .entry)) (now (present .entry)) (now (out .entry)) .answer ⌝ }
     ensures output { λ r. ⌜ now (out .exit) ≡ writeRow (now (values .entry)) (now (present .entry)) (now (out .entry)) .output ⌝ }
 {
-    wire::write_row(values, present, out)
+    wire_writer::write_row(values, present, out)
 }
 
 // The three shifts in arc seconds or metres, with their counts and refusal numbers.

@@ -207,7 +207,7 @@ fn read_grid(s: &[u8], head: &[u64], p: usize, values: &mut [i64], present: &mut
     read_tail(s, p + 432, values, present);
 }
 
-// As decode_checked, of a grid message.
+// What the fields of a grid message say where r, why s is no such message, is 0; or r, or 6 ROOM.
 fn decode_grid(
     r: u8,
     s: &[u8],

@@ -173,5 +173,5 @@ pub fn write_heights(values: &[i64], present: &[u8], wanted: &[i64], out: &mut [
     };
     let v = values_with(values, wanted, mean);
     let p = bytes_with(present);
-    wire::write_kind(true, &v, &p, 1023, 1023, out)
+    wire_writer::write_kind(true, &v, &p, 1023, 1023, out)
 }

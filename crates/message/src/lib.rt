@@ -17,7 +17,7 @@ fn write_numbers(n: Numbers, lo: u64, hi: u64, out: &mut [u8]) -> Written
     let values = n.values;
     let present = n.present;
     let k = n.count;
-    wire::write_kind(good, &values[..k], &present[..k], lo, hi, out)
+    wire_writer::write_kind(good, &values[..k], &present[..k], lo, hi, out)
 }
 
 // A 1021 as a record; all zero with a refusal.
@@ -109,7 +109,7 @@ pub fn grid_held(r: grid_records::Grid) -> bool
     let values = n.values;
     let present = n.present;
     let k = n.count;
-    wire::row_held(&values[..k], &present[..k], 1023, 1024)
+    wire_writer::row_held(&values[..k], &present[..k], 1023, 1024)
 }
 
 // A 1025 as a record; all zero with a refusal.

@@ -42,7 +42,7 @@ pub fn write_row(values: &[i64], present: &[u8], out: &mut [u8]) -> layout::Writ
     ensures answer { λ r. ⌜ r ≡ writeRow (now (values .entry)) (now (present .entry)) (now (out .entry)) .answer ⌝ }
     ensures output { λ r. ⌜ now (out .exit) ≡ writeRow (now (values .entry)) (now (present .entry)) (now (out .entry)) .output ⌝ }
 {
-    wire::write_row(values, present, out)
+    wire_writer::write_row(values, present, out)
 }
 
 pub fn write_kind(
@@ -56,13 +56,13 @@ pub fn write_kind(
     ensures answer { λ r. ⌜ r ≡ writeKind lo hi good (now (values .entry)) (now (present .entry)) (now (out .entry)) .answer ⌝ }
     ensures output { λ r. ⌜ now (out .exit) ≡ writeKind lo hi good (now (values .entry)) (now (present .entry)) (now (out .entry)) .output ⌝ }
 {
-    wire::write_kind(good, values, present, lo, hi, out)
+    wire_writer::write_kind(good, values, present, lo, hi, out)
 }
 
 pub fn row_held(values: &[i64], present: &[u8], lo: u64, hi: u64) -> bool
     ensures { λ r. ⌜ r ≡ rowHeld lo hi (now (values .entry)) (now (present .entry)) ⌝ }
 {
-    wire::row_held(values, present, lo, hi)
+    wire_writer::row_held(values, present, lo, hi)
 }
 
 pub fn read_helmert(s: &[u8]) -> message::HelmertRead

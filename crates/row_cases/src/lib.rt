@@ -53,7 +53,7 @@ fn known(present: &Present) -> usize {
 // The bytes written from a row.
 fn put_written(values: &[i64], present: &[u8], out: &mut Out, at: usize) -> usize {
     let mut buffer = [0u8; 160];
-    let w = wire::write_row(values, present, &mut buffer);
+    let w = wire_writer::write_row(values, present, &mut buffer);
     output::put_hex(out, at, words::before(&buffer, w.length))
 }
 

@@ -12,6 +12,7 @@ ghost use Rattle.grid_records.specs.Grids.{frameOf, gridOf, gridRow};
 ghost use Rattle.layout.specs.Layout.{answered, bitsOf, decodeAll, decodeRefusal, encodeAll, encodeRefusal, placesRefusal, presentIn, readingIn, refusalOf, rowOf, rowTakes, stored, takes, valueIn};
 ghost use Rattle.layouts.specs.Layouts.{layoutBy};
 ghost use Rattle.load.specs.Load.{presentLoaded, valuesLoaded};
+ghost use Rattle.projection_layouts.specs.Checked.{checkedRefusal, presentChecked, valuesChecked};
 ghost use Rattle.projection_records.specs.Projections.{lambertOf, lambertRow, obliqueMercatorOf, obliqueMercatorRow, projectionOf, projectionRow};
 ghost use Rattle.row.specs.Numbers.{appended, buffers, counterAt, numberAt, numbers, pairAt, placeBehind, says};
 ghost use Rattle.transformation_records.specs.Transformations.{goodName, helmertOf, helmertRow, molodenskiBadekasOf, molodenskiBadekasRow};
@@ -175,6 +176,14 @@ pub fn numbers_of(values: &[i64], present: &[u8]) -> row::Numbers
     ensures { λ n. ⌜ n ≡ buffers (eqb (length (now (values .entry))) (length (now (present .entry))) && leb (length (now (values .entry))) 96) (now (values .entry)) (now (present .entry)) ⌝ }
 {
     row::numbers_of(values, present)
+}
+
+pub fn decode_checked(r: u8, s: &[u8], layout: &[u64], values: &mut [i64], present: &mut [u8]) -> u8
+    ensures answer { λ a. ⌜ a ≡ checkedRefusal r (length (now (layout .entry))) (length (now (values .entry))) (length (now (present .entry))) ⌝ }
+    ensures values { λ _. ⌜ now (values .exit) ≡ valuesChecked r (now (layout .entry)) (now (s .entry)) (now (values .entry)) (now (present .entry)) ⌝ }
+    ensures present { λ _. ⌜ now (present .exit) ≡ presentChecked r (now (layout .entry)) (now (s .entry)) (now (values .entry)) (now (present .entry)) ⌝ }
+{
+    projection_layouts::decode_checked(r, s, layout, values, present)
 }
 
 pub fn check_by(s: &[u8], number: u64, n: usize, m: usize) -> u8

@@ -1,4 +1,4 @@
--- The ways out of reading and writing one kind of record.
+-- The ways out of reading one kind of record.
 -- Assumes nothing.
 use Prim.Native.Nat.{ℕ, zero, suc, _-_, _≤_, _<_}
 use native.Mathlib.Nat.{lt-irrefl}
@@ -12,13 +12,12 @@ use lib.IntN.{ℤ, pos}
 use lib.ListN.{length, drop, replicate}
 use borrow.Author.Tests.{leb-true, lt-leb, le-leb, le-ltb, ne-eqb}
 use Rattle.arith.specs.First.{first}
-use Rattle.arith.specs.Whole.{natural}
 use Rattle.arith.proofs.First.{first-append, goes-on}
 use Rattle.field.specs.declared.Reading.{Reading}
 use Rattle.layout.specs.Layout.{rowOf, stored}
-use Rattle.row.specs.Numbers.{says, numberAt, valuesOf, presentOf}
+use Rattle.row.specs.Numbers.{says, valuesOf, presentOf}
 use Rattle.row.proofs.Rows.{says-filled}
-use Rattle.wire.specs.Message.{numberOf, layout, tests, refusal, row, roomTests, rowRefusal, valuesRead, presentRead, kindTests, kindRefusal, kindRow, kindRoomRefusal, writeRefusal, kindWriteRefusal}
+use Rattle.wire.specs.Message.{numberOf, layout, tests, refusal, row, roomTests, rowRefusal, valuesRead, presentRead, kindTests, kindRefusal, kindRow, kindRoomRefusal}
 use Rattle.wire.proofs.Head.{layout-most}
 
 -- ---- reading
@@ -103,27 +102,3 @@ pub kind-says : (lo hi : ℕ) (s : List ℕ) (k : ℕ) → let r : ℕ = kindRoo
     says (rowOf (valuesRead r s (replicate 96 (pos 0))) (presentRead r s (replicate 96 1))) k ≡ says (kindRow lo hi s) k
 unfolding stored kindRow
 kind-says lo hi s k = rw (kind-room lo hi s) (stored-says (eqb (kindRefusal lo hi s) 0) (row s) 96 96 k)
-
--- ---- writing
-
-module _ (lo hi : ℕ) (z : List ℤ) (b : List ℕ) (n : ℕ) where
-  abbrev number : ℕ
-  number = natural (numberAt (says (rowOf z b)) 0)
-
-  pub record-bad : (good : Bool) → good ≡ false → kindWriteRefusal lo hi good z b n ≡ 5
-  unfolding kindWriteRefusal
-  record-bad good e = rw e
-
-  module _ (good : Bool) (g : good ≡ true) where
-    pub record-low : number < lo → kindWriteRefusal lo hi good z b n ≡ 5
-    unfolding kindWriteRefusal
-    record-low h = rw (g, lt-leb lo number h)
-
-    module _ (low : lo ≤ number) where
-      pub record-high : hi < number → kindWriteRefusal lo hi good z b n ≡ 5
-      unfolding kindWriteRefusal
-      record-high h = rw (g, le-leb lo number low, lt-leb number hi h)
-
-      pub record-row : number ≤ hi → writeRefusal z b n ≡ kindWriteRefusal lo hi good z b n
-      unfolding kindWriteRefusal writeRefusal
-      record-row h = rw (g, le-leb lo number low, le-leb number hi h)

@@ -56,6 +56,6 @@ fn put_written(
     out: &mut Out,
     at: usize,
 ) -> usize {
-    let w = wire::write_row(values, present, buffer);
+    let w = wire_writer::write_row(values, present, buffer);
     output::put_written(out, at, w.refusal, w.length, buffer)
 }

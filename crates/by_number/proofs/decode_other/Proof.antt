@@ -3,6 +3,7 @@
 use mathlib.Core.Path.{sym}
 use lib.Seq.{length-take-le}
 use native.Mathlib.Omega.{arith}
+use Rattle.projection_layouts.proofs.Checked.{read-by}
 use borrow.Author.Needs.{needs}
 use Rattle.by_number.proofs.decode_other.Statement.{statement}
 use Rattle.by_number.proofs.decode_other.Tie as tie
@@ -14,7 +15,10 @@ within-2 : tie.Need-slice-aggregate-decode-checked
 within-2 c = let p = c .before .before .before .before .other-plan .ensures in sym (length-take-le _ _ (omega (arith, p .0, p .1 .0)))
 
 returns : tie.Need-returns
-returns c = rw (← c .before .before .before .before .before .before .before .before .before .before .other-plan .ensures .1 .1) (c .before .before .before .decode-checked .ensures)
+returns c =
+    let a = c .before .before .before .before .before .before .before .before .before .before .before .before .before .args in
+    rw (← c .before .before .before .before .before .before .before .before .before .before .other-plan .ensures .1 .1)
+    (read-by _ _ (a .s .now) (a .values .now) (a .present .now) (c .before .before .before .before .before .before .before .check .ensures) (c .before .before .before .decode-checked .ensures))
 
 pub decode-other-spec : {M : Type 1} → statement M
 decode-other-spec =

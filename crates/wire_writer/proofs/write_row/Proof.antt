@@ -1,15 +1,15 @@
--- `wire::write_row` meets its contract: each return is a case of the definition.
+-- `wire_writer::write_row` meets its contract: each return is a case of the definition.
 -- Assumes nothing.
 use native.Mathlib.Omega.{arith}
 use Rattle.layout.specs.Layout.{rowOf}
 use Rattle.layout.proofs.Answer.{refused-write}
 use Rattle.row.specs.Numbers.{says}
 use Rattle.row.proofs.Rows.{counter-most}
 use Rattle.wire.specs.Message.{message}
-use Rattle.wire.proofs.Rows.{row-layout-by, write-low, write-high, row-written-by}
+use Rattle.wire_writer.proofs.Rows.{row-layout-by, write-low, write-high, row-written-by}
 use borrow.Author.Needs.{needs}
-use Rattle.wire.proofs.write_row.Statement.{statement}
-use Rattle.wire.proofs.write_row.Tie as tie
+use Rattle.wire_writer.proofs.write_row.Statement.{statement}
+use Rattle.wire_writer.proofs.write_row.Tie as tie
 
 returns : tie.Need-returns
 returns c =

@@ -1,15 +1,15 @@
--- `wire::row_held` meets its contract: each return is a case of the definition.
+-- `wire_writer::row_held` meets its contract: each return is a case of the definition.
 -- Assumes nothing.
 use native.Mathlib.Omega.{arith}
 use borrow.Author.Tests.{lt-leb, le-leb}
 use Rattle.layout.specs.Layout.{rowOf}
 use Rattle.row.specs.Numbers.{says}
 use Rattle.row.proofs.Rows.{counter-most}
 use Rattle.wire.specs.Message.{rowHeld}
-use Rattle.wire.proofs.Rows.{row-layout-by, row-held-by}
+use Rattle.wire_writer.proofs.Rows.{row-layout-by, row-held-by}
 use borrow.Author.Needs.{needs}
-use Rattle.wire.proofs.row_held.Statement.{statement}
-use Rattle.wire.proofs.row_held.Tie as tie
+use Rattle.wire_writer.proofs.row_held.Statement.{statement}
+use Rattle.wire_writer.proofs.row_held.Tie as tie
 
 returns : tie.Need-returns
 unfolding rowHeld

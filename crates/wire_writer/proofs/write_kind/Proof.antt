@@ -1,14 +1,14 @@
--- `wire::write_kind` meets its contract: each return is a case of the definition.
+-- `wire_writer::write_kind` meets its contract: each return is a case of the definition.
 -- Assumes nothing.
 use borrow.Author.Tests.{not-true, not-false}
 use lib.ListN.{length}
 use Rattle.layout.specs.Layout.{rowOf}
 use Rattle.layout.proofs.Answer.{refused-write}
 use Rattle.wire.specs.Message.{message}
-use Rattle.wire.proofs.OneKind.{record-bad, record-low, record-high, record-row}
+use Rattle.wire_writer.proofs.OneKind.{record-bad, record-low, record-high, record-row}
 use borrow.Author.Needs.{needs}
-use Rattle.wire.proofs.write_kind.Statement.{statement}
-use Rattle.wire.proofs.write_kind.Tie as tie
+use Rattle.wire_writer.proofs.write_kind.Statement.{statement}
+use Rattle.wire_writer.proofs.write_kind.Tie as tie
 
 returns : tie.Need-returns
 returns c =
