@@ -79,7 +79,7 @@ fn put_summed(message: &[u8], buffer: &mut [u8], out: &mut Out, at: usize) -> us
     let w = frame::write_frame(message, buffer);
     let to = output::put_field(out, at, w.refusal as u64);
     let to = output::put_field(out, to, w.length as u64);
-    table_cases::put_sums(buffer, out, to)
+    sum_texts::put_bytes(buffer, out, to)
 }
 
 // Byte i is 7i + 3 modulo 256.

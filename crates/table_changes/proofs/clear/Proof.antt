@@ -1,11 +1,11 @@
--- `table_cases::clear` is safe and ends. The invariant: the length stays. The measure is the number of bytes that are left.
+-- `table_changes::clear` is safe and ends. The invariant: the length stays. The measure is the number of bytes that are left.
 -- Assumes nothing.
 use borrow.Author.Needs.{needs}
 use mathlib.Core.Path.{_≡_}
 use Prim.Native.Nat.{_-_}
 use lib.ListN.{length}
-use Rattle.table_cases.proofs.clear.Statement.{statement}
-use Rattle.table_cases.proofs.clear.Tie as tie
+use Rattle.table_changes.proofs.clear.Statement.{statement}
+use Rattle.table_changes.proofs.clear.Tie as tie
 
 abbrev Inv-loop : tie.InvT-loop
 Inv-loop table₀ k₀ table k = length table ≡ length table₀

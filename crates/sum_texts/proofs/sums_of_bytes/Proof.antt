@@ -1,19 +1,19 @@
--- `table_cases::sums_of` is safe and ends. The measure is the number of bytes that are left.
+-- `sum_texts::sums_of_bytes` is safe and ends. The measure is the number of bytes that are left.
 -- Assumes nothing.
 use borrow.Author.Needs.{needs}
 use Prim.Native.Nat.{_-_}
 use lib.ListN.{length}
-use Rattle.table_cases.proofs.sums_of.Statement.{statement}
-use Rattle.table_cases.proofs.sums_of.Tie as tie
+use Rattle.sum_texts.proofs.sums_of_bytes.Statement.{statement}
+use Rattle.sum_texts.proofs.sums_of_bytes.Tie as tie
 
 abbrev Inv-loop : tie.InvT-loop
-Inv-loop table a₀ b₀ k₀ a b k = Unit {0}
+Inv-loop bytes a₀ b₀ k₀ a b k = Unit {0}
 
 abbrev μ-loop : tie.MeasureT-loop
-μ-loop table a₀ b₀ k₀ a b k = length table - k
+μ-loop bytes a₀ b₀ k₀ a b k = length bytes - k
 
-pub sums-of-spec : {M : Type 1} → statement M
-sums-of-spec =
+pub sums-of-bytes-spec : {M : Type 1} → statement M
+sums-of-bytes-spec =
     tie.close
     (tie.spec
     Inv-loop
