@@ -1,12 +1,13 @@
--- `frame::put_frame` meets its contract.
+-- `frame_writer::put_frame` meets its contract.
 -- Assumes nothing.
 use mathlib.Core.Path.{sym, ap, _∙_}
 use lib.ListN.{length}
 use borrow.Author.Needs.{needs}
 use Rattle.crc.proofs.Linear.{crc-lt}
-use Rattle.frame.proofs.Put.{length-headed, taken, crc-place, frame-put}
-use Rattle.frame.proofs.put_frame.Statement.{statement}
-use Rattle.frame.proofs.put_frame.Tie as tie
+use Rattle.frame.proofs.Lengths.{length-headed}
+use Rattle.frame_writer.proofs.Put.{taken, crc-place, frame-put}
+use Rattle.frame_writer.proofs.put_frame.Statement.{statement}
+use Rattle.frame_writer.proofs.put_frame.Tie as tie
 
 slice-aggregate-crc-of : tie.Need-slice-aggregate-crc-of
 slice-aggregate-crc-of c =

@@ -1,4 +1,4 @@
--- `frame::write_frame` meets its contract: each return is a case of the definition.
+-- `frame_writer::write_frame` meets its contract: each return is a case of the definition.
 -- Assumes nothing.
 use Prim.Native.Nat.{_+_}
 use mathlib.Core.Path.{sym, _∙_}
@@ -6,10 +6,11 @@ use native.Mathlib.Omega.{arith}
 use lib.ListN.{length}
 use borrow.Author.Needs.{needs}
 use Rattle.layout.proofs.Answer.{refused-write, done-write}
 use Rattle.frame.specs.Frames.{frame}
-use Rattle.frame.proofs.Put.{length-frame, too-long, no-room, accepted}
-use Rattle.frame.proofs.write_frame.Statement.{statement}
-use Rattle.frame.proofs.write_frame.Tie as tie
+use Rattle.frame.proofs.Lengths.{length-frame}
+use Rattle.frame_writer.proofs.Put.{too-long, no-room, accepted}
+use Rattle.frame_writer.proofs.write_frame.Statement.{statement}
+use Rattle.frame_writer.proofs.write_frame.Tie as tie
 
 returns : tie.Need-returns
 returns c =

@@ -10,22 +10,16 @@ use lib.Seq.{take-at, drop-at, drop-append-add, drop-drop, drop-length}
 use borrow.Author.Tests.{lt-ltb, le-ltb}
 use borrow.Rule.Slice.PartMut.{putMid, post-is}
 use Rattle.crc.specs.Crc.{crc}
-use Rattle.frame.specs.Frames.{head, three, headed, frame, frameRefusal}
+use Rattle.frame.specs.Frames.{head, three, headed, frame}
 use Rattle.frame.proofs.At.{rest}
+use Rattle.frame.proofs.Lengths.{length-headed}
+use Rattle.frame_writer.specs.Refusals.{frameRefusal}
 
 pub three-set : (l : List ℕ) (a b c : ℕ) → 3 ≤ length l → set (set (set l 0 a) 1 b) 2 c ≡ a ∷ b ∷ c ∷ drop 3 l
 three-set [] a b c h = absurd (omega arith)
 three-set (x ∷ []) a b c h = absurd (omega arith)
 three-set (x ∷ y ∷ []) a b c h = absurd (omega arith)
 three-set (x ∷ y ∷ z ∷ l) a b c h = refl
-
-pub length-headed : (m : List ℕ) → length (headed m) ≡ length m + 3
-unfolding headed head
-length-headed m = omega arith
-
-pub length-frame : (m : List ℕ) → length (frame m) ≡ length m + 6
-unfolding frame three
-length-frame m = simp length-append (omega (arith, length-headed m))
 
 -- head, then message
 module _ (m out t z : List ℕ) (first : t ≡ head (length m) ++ drop 3 out) (then : z ≡ m) where
