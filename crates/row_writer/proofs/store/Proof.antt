@@ -1,4 +1,4 @@
--- `row::store` meets its contract: a loop that stores one number a turn.
+-- `row_writer::store` meets its contract: a loop that stores one number a turn.
 -- Assumes nothing.
 use Prim.Native.Nat.{_-_, _≤_}
 use mathlib.Core.Path.{_≡_, refl, ap, _∙_}
@@ -9,8 +9,8 @@ use lib.Seq.{paste, paste-zero}
 use Rattle.arith.specs.Row.{at as numberAt}
 use Rattle.arith.proofs.Back.{held}
 use Rattle.arith.proofs.Store.{paste-more}
-use Rattle.row.proofs.store.Statement.{statement}
-use Rattle.row.proofs.store.Tie as tie
+use Rattle.row_writer.proofs.store.Statement.{statement}
+use Rattle.row_writer.proofs.store.Tie as tie
 
 abbrev Inv-loop : tie.InvT-loop
 Inv-loop dst₀ at src k₀ dst k = (k ≤ length src) × ((length dst ≡ length dst₀) × (dst ≡ paste dst₀ at src k))

@@ -1,10 +1,10 @@
--- `row::append` meets its contract: two ways out without room, and one with it.
+-- `row_writer::append` meets its contract: two ways out without room, and one with it.
 -- Assumes nothing.
 use native.Mathlib.Omega.{arith}
-use Rattle.row.proofs.Appends.{appends-as, no-room}
+use Rattle.row_writer.proofs.Appends.{appends-as, no-room}
 use borrow.Author.Needs.{needs}
-use Rattle.row.proofs.append.Statement.{statement}
-use Rattle.row.proofs.append.Tie as tie
+use Rattle.row_writer.proofs.append.Statement.{statement}
+use Rattle.row_writer.proofs.append.Tie as tie
 
 returns : tie.Need-returns
 returns c = let a = c .before .args in no-room (a .dst .now) (a .src .now) (a .at) (omega arith)

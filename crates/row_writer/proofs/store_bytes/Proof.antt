@@ -1,4 +1,4 @@
--- `row::store_bytes` meets its contract: a loop that stores one byte a turn.
+-- `row_writer::store_bytes` meets its contract: a loop that stores one byte a turn.
 -- Assumes nothing.
 use Prim.Native.Nat.{_-_, _≤_}
 use mathlib.Core.Path.{_≡_, refl, ap, _∙_}
@@ -6,8 +6,8 @@ use native.Mathlib.Omega.{arith}
 use lib.ListN.{length, length-set}
 use lib.Seq.{paste, paste-zero}
 use Rattle.arith.proofs.Store.{paste-more}
-use Rattle.row.proofs.store_bytes.Statement.{statement}
-use Rattle.row.proofs.store_bytes.Tie as tie
+use Rattle.row_writer.proofs.store_bytes.Statement.{statement}
+use Rattle.row_writer.proofs.store_bytes.Tie as tie
 
 abbrev Inv-loop : tie.InvT-loop
 Inv-loop dst₀ at src k₀ dst k = (k ≤ length src) × ((length dst ≡ length dst₀) × (dst ≡ paste dst₀ at src k))

@@ -1,14 +1,14 @@
--- `row::numbers_of` meets its contract: none for different counts or too many places, else both buffers at the front of 96 places.
+-- `row_writer::numbers_of` meets its contract: none for different counts or too many places, else both buffers at the front of 96 places.
 -- Assumes nothing.
 use mathlib.Core.Path.{_∙_}
 use borrow.Author.Tests.{lt-leb, le-leb, eq-eqb, ne-eqb}
 use lib.ListN.{length}
 use Rattle.arith.specs.Row.{padded}
-use Rattle.row.specs.Numbers.{marked}
-use Rattle.row.proofs.Appends.{all-good, none}
+use Rattle.row_writer.specs.Buffers.{marked}
+use Rattle.row_writer.proofs.Appends.{all-good, none}
 use borrow.Author.Needs.{needs}
-use Rattle.row.proofs.numbers_of.Statement.{statement}
-use Rattle.row.proofs.numbers_of.Tie as tie
+use Rattle.row_writer.proofs.numbers_of.Statement.{statement}
+use Rattle.row_writer.proofs.numbers_of.Tie as tie
 
 returns : tie.Need-returns
 returns c =

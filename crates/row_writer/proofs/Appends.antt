@@ -12,9 +12,9 @@ use lib.Seq.{paste, length-paste, paste-zero, take-length}
 use Rattle.arith.specs.Row.{padded}
 use Rattle.arith.proofs.Store.{paste-paste}
 use Rattle.arith.proofs.Rows.{drop-replicate}
-use Rattle.row.specs.declared.Numbers.{Numbers}
-use Rattle.row.specs.Numbers.{marked, buffers, appended, placeBehind}
-use Rattle.row.specs.Private.{Appended}
+use Rattle.row_writer.specs.declared.Numbers.{Numbers}
+use Rattle.row_writer.specs.Buffers.{marked, buffers, appended, placeBehind}
+use Rattle.row_writer.specs.Private.{Appended}
 
 -- ---- the two answers of a row stored in another
 

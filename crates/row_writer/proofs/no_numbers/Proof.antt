@@ -1,10 +1,10 @@
--- `row::no_numbers` meets its contract.
+-- `row_writer::no_numbers` meets its contract.
 -- Assumes nothing.
 use mathlib.Core.Path.{refl}
 use Rattle.arith.specs.Row.{padded}
-use Rattle.row.specs.Numbers.{marked, buffers}
-use Rattle.row.proofs.no_numbers.Statement.{statement}
-use Rattle.row.proofs.no_numbers.Tie as tie
+use Rattle.row_writer.specs.Buffers.{marked, buffers}
+use Rattle.row_writer.proofs.no_numbers.Statement.{statement}
+use Rattle.row_writer.proofs.no_numbers.Tie as tie
 
 returns : tie.Need-returns
 unfolding buffers padded marked
