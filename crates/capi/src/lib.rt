@@ -5,7 +5,8 @@ ghost use Rattle.wire.specs.Message.{header, rowRefusal, valuesRead, presentRea
 ghost use Rattle.capi.specs.Exported.{exportedShifts};
 ghost use Rattle.shift_row_refusals.specs.Row.{shiftRowRefusal, shiftRowFilled};
 ghost use Rattle.layout.specs.Layout.{answered, stored};
-ghost use Rattle.frame.specs.Frames.{frame, frameRefusal, findFrame};
+ghost use Rattle.frame.specs.Frames.{frame, findFrame};
+ghost use Rattle.frame_writer.specs.Refusals.{frameRefusal};
 ghost use Rattle.indexed_table.specs.Indexed.{agreesRefusal, writeRefusal, writeIndex, storeNumber, storedTable, storedIndex, removeNumber, removedTable, removedIndex};
 ghost use Rattle.indexed_table.specs.Find.{foundBy};
 ghost use Rattle.datum.specs.Step.{Stepped};
@@ -166,7 +167,7 @@ pub extern "C" fn tarnoklej_write_frame(message: &[u8], out: &mut [u8]) -> layou
     ensures answer { λ r. ⌜ r ≡ answered (frameRefusal (now (message .entry)) (length (now (out .entry)))) (frame (now (message .entry))) ⌝ }
     ensures output { λ r. ⌜ now (out .exit) ≡ stored (frameRefusal (now (message .entry)) (length (now (out .entry)))) (frame (now (message .entry))) (now (out .entry)) ⌝ }
 {
-    frame::write_frame(message, out)
+    frame_writer::write_frame(message, out)
 }
 
 // The datum step of a message 1021 from a position in 0.1 mm.

@@ -1,5 +1,5 @@
 pub mod At
-pub mod Put
+pub mod Lengths
 pub mod Start
 pub mod Behind
 pub mod Words

@@ -12,7 +12,7 @@ use Rattle.crc.specs.Crc.{crc}
 use Rattle.frame.specs.Frames.{head, three, headed, frame, candidate, lengthOf, threeAt, rightCrc, unfinished, whole, found, findFrame}
 use Rattle.frame.specs.Stream.{stream, Short, ReadsBack}
 use Rattle.crc.proofs.Linear.{crc-lt}
-use Rattle.frame.proofs.Put.{length-headed, length-frame}
+use Rattle.frame.proofs.Lengths.{length-headed, length-frame}
 use Rattle.frame.proofs.At.{over, hits}
 
 module _ (m r : List ℕ) (short : length m ≤ 1023) where

@@ -5,12 +5,11 @@ use mathlib.Core.Bool.{Bool, cond, _&&_}
 use mathlib.Core.List.{List, [], _∷_, _++_}
 use lib.ListN.{length, getD, take, drop}
 use lib.Dec.{ltb, leb, eqb}
-use Rattle.arith.specs.First.{first}
 use Rattle.arith.specs.Places.{firstOf}
 use Rattle.crc.specs.Crc.{crc}
 use Rattle.frame.specs.declared.Frame.{Frame}
 
--- ---- a frame written
+-- ---- the frame of a message
 
 -- byte D3, six zero bits and ten bits of length
 unfoldable pub head : ℕ → List ℕ
@@ -26,10 +25,6 @@ headed m = head (length m) ++ m
 -- head and message, then the CRC of these
 unfoldable pub frame : List ℕ → List ℕ
 frame m = headed m ++ three (crc (headed m))
-
--- 3 LENGTH, 6 ROOM
-unfoldable pub frameRefusal : List ℕ → ℕ → ℕ
-frameRefusal m room = first ((3, ltb 1023 (length m)) ∷ (6, ltb room (length m + 6)) ∷ [])
 
 -- ---- what stands at the start of t, where a byte that has not arrived reads as 0
 

@@ -46,7 +46,7 @@ fn put_framed(bytes: &Bytes, n: usize, room: usize, out: &mut Out, at: usize) ->
 }
 
 fn put_written(message: &[u8], buffer: &mut [u8], out: &mut Out, at: usize) -> usize {
-    let w = frame::write_frame(message, buffer);
+    let w = frame_writer::write_frame(message, buffer);
     output::put_written(out, at, w.refusal, w.length, buffer)
 }
 
@@ -76,10 +76,10 @@ fn put_long(count: usize, room: usize, out: &mut Out, at: usize) -> usize {
 }
 
 fn put_summed(message: &[u8], buffer: &mut [u8], out: &mut Out, at: usize) -> usize {
-    let w = frame::write_frame(message, buffer);
+    let w = frame_writer::write_frame(message, buffer);
     let to = output::put_field(out, at, w.refusal as u64);
     let to = output::put_field(out, to, w.length as u64);
-    table_cases::put_sums(buffer, out, to)
+    sum_texts::put_bytes(buffer, out, to)
 }
 
 // Byte i is 7i + 3 modulo 256.

@@ -15,8 +15,9 @@ use Rattle.frame.specs.Words.{Bytes, Calls, Stands}
 use Rattle.frame.proofs.Start as start
 use Rattle.frame.proofs.Behind.{Clear, Waiting, Standing, Nothing, Answer, waiting, standing, nothing, answer}
 use Rattle.frame.proofs.Behind as behind
-use Rattle.frame.proofs.Put.{length-frame, too-long, no-room, accepted}
+use Rattle.frame.proofs.Lengths.{length-frame}
 use Rattle.frame.proofs.Words.{unfinished-calls, calls-unfinished, whole-stands, stands-whole, stands-finished, stands-size}
+use Rattle.frame_writer.proofs.Put.{too-long, no-room, accepted}
 use Rattle.frame_demands.specs.Frames.{WrittenFound, ReadBack, FoundStays, NeedGoesOn, NeedNotEarlier, Empty, FoundAt, NeededAt, NothingFrom, Exactly, WriterRefusals, PublishedFrames}
 
 pub written-found : WrittenFound

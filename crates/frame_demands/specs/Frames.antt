@@ -5,9 +5,10 @@ use mathlib.Core.List.{List, [], _∷_, _++_}
 use mathlib.Core.Path.{_≡_}
 use lib.ListN.{length, drop}
 use Rattle.crc.specs.Crc.{crc}
-use Rattle.frame.specs.Frames.{frame, frameRefusal, found, need, noFrame, findFrame}
+use Rattle.frame.specs.Frames.{frame, found, need, noFrame, findFrame}
 use Rattle.frame.specs.Stream.{stream, Short, ReadsBack}
 use Rattle.frame.specs.Words.{Calls, Stands}
+use Rattle.frame_writer.specs.Refusals.{frameRefusal}
 
 -- ---- "frames written one after another are read back in order, each from the last one's end"
 

@@ -2,8 +2,9 @@
 ghost use lib.ListN.{length};
 ghost use mathlib.Core.Path.{_≡_};
 ghost use Rattle.crc.specs.Crc.{crc};
-ghost use Rattle.frame.specs.Frames.{findFrame, frame, frameRefusal};
+ghost use Rattle.frame.specs.Frames.{findFrame, frame};
 ghost use Rattle.frame_search.specs.Search.{kept, slid, stepOf};
+ghost use Rattle.frame_writer.specs.Refusals.{frameRefusal};
 ghost use Rattle.layout.specs.Layout.{answered, stored};
 
 pub fn crc_of(s: &[u8]) -> u32
@@ -22,7 +23,7 @@ pub fn write_frame(message: &[u8], out: &mut [u8]) -> layout::Written
     ensures answer { λ r. ⌜ r ≡ answered (frameRefusal (now (message .entry)) (length (now (out .entry)))) (frame (now (message .entry))) ⌝ }
     ensures output { λ r. ⌜ now (out .exit) ≡ stored (frameRefusal (now (message .entry)) (length (now (out .entry)))) (frame (now (message .entry))) (now (out .entry)) ⌝ }
 {
-    frame::write_frame(message, out)
+    frame_writer::write_frame(message, out)
 }
 
 pub fn next_step(bytes: &[u8], from: usize, ended: bool) -> frame_search::Step

@@ -13,7 +13,8 @@ use Rattle.arith.specs.Row.{padded}
 use Rattle.field.specs.declared.Reading.{Reading}
 use Rattle.field.specs.declared.Reading.the-variants.{Value}
 use Rattle.layout.specs.Layout.{valueIn, presentIn}
-use Rattle.row.specs.Numbers.{valuesOf, presentOf, pairRow, marked, buffers, numbers}
+use Rattle.row.specs.Numbers.{valuesOf, presentOf, pairRow}
+use Rattle.row_writer.specs.Buffers.{marked, buffers, numbers}
 use Rattle.grid_records.specs.declared.Shifts.{Shifts}
 use Rattle.grid_records.specs.declared.Grid.{Grid}
 use Rattle.grid_records.specs.Grids.{shiftsRow, nodesRow, originRow, spacingRow, gridRow}

@@ -1,15 +1,16 @@
 // The records of messages 1023 and 1024, from a row in wire order and back.
 use field::Reading;
-use row::Numbers;
 use row::Pair;
+use row_writer::Numbers;
 ghost use mathlib.Core.Path.{_≡_};
 ghost use mathlib.Core.Bool.{true};
 ghost use mathlib.Core.List.{_++_};
 ghost use Prim.Native.Nat.{_+_, _≤_};
 ghost use lib.ListN.{length, replicate};
 ghost use Rattle.layout.specs.Layout.{rowOf};
-ghost use Rattle.row.specs.Numbers.{says, valuesOf, presentOf, buffers, numbers};
-ghost use Rattle.row.specs.Private.{Appended};
+ghost use Rattle.row.specs.Numbers.{says, valuesOf, presentOf};
+ghost use Rattle.row_writer.specs.Buffers.{buffers, numbers};
+ghost use Rattle.row_writer.specs.Private.{Appended};
 ghost use Rattle.grid_records.specs.Grids.{originAt, spacingAt, shiftsAt, shiftsRow, nodesAt, nodesRow, gridOf, gridRow, frameOf};
 ghost use Rattle.grid_records.specs.Private.{startRow, startMarks, endRow};
 
@@ -60,7 +61,7 @@ fn append(dst: &mut [i64], at: usize, src: &[i64]) -> usize
     requires { ⌜ at + length (now src) ≤ length (now dst) ⌝ }
     ensures { λ r. ⌜ Appended (now (dst .entry)) at (now (src .entry)) r (now (dst .exit)) ⌝ }
 {
-    row::append(dst, at, src)
+    row_writer::append(dst, at, src)
 }
 
 // The same of presence bytes.
@@ -68,7 +69,7 @@ fn append_bytes(dst: &mut [u8], at: usize, src: &[u8]) -> usize
     requires { ⌜ at + length (now src) ≤ length (now dst) ⌝ }
     ensures { λ r. ⌜ Appended (now (dst .entry)) at (now (src .entry)) r (now (dst .exit)) ⌝ }
 {
-    row::append_bytes(dst, at, src)
+    row_writer::append_bytes(dst, at, src)
 }
 
 fn origin_at(values: &[i64; 96], present: &[u8; 96], k: usize) -> Origin

@@ -12,8 +12,9 @@ use Rattle.arith.specs.Row.{padded}
 use Rattle.field.specs.declared.Reading.{Reading}
 use Rattle.layout.specs.Layout.{rowOf, answered, stored}
 use Rattle.layout.specs.declared.Written.{Written}
-use Rattle.row.specs.declared.Numbers.{Numbers}
-use Rattle.row.specs.Numbers.{says, valuesOf, presentOf, marked, buffers, numbers}
+use Rattle.row_writer.specs.declared.Numbers.{Numbers}
+use Rattle.row.specs.Numbers.{says, valuesOf, presentOf}
+use Rattle.row_writer.specs.Buffers.{marked, buffers, numbers}
 use Rattle.wire.specs.Message.{valuesRead, presentRead, kindRefusal, kindRow, kindRoomRefusal, kindWriteRefusal, Outcome, writeKind}
 use Rattle.wire.proofs.OneKind.{kind-room, kind-says}
 

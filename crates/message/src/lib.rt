@@ -1,6 +1,6 @@
 // Records of messages 1021 to 1027, read and written, one kind each.
 use layout::Written;
-use row::Numbers;
+use row_writer::Numbers;
 ghost use mathlib.Core.Path.{_≡_};
 ghost use Prim.Native.Nat.{_≤_};
 ghost use lib.ListN.{length, take};

@@ -1,10 +1,11 @@
 // The records of messages 1025, 1026 and 1027, from a row in wire order and back.
 use field::Reading;
-use row::Numbers;
+use row_writer::Numbers;
 ghost use mathlib.Core.Path.{_≡_};
 ghost use mathlib.Core.Bool.{true};
 ghost use Rattle.layout.specs.Layout.{rowOf};
-ghost use Rattle.row.specs.Numbers.{says, numbers};
+ghost use Rattle.row.specs.Numbers.{says};
+ghost use Rattle.row_writer.specs.Buffers.{numbers};
 ghost use Rattle.projection_records.specs.Projections.{projectionOf, projectionRow, lambertOf, lambertRow, obliqueMercatorOf, obliqueMercatorRow};
 
 // 1025.
@@ -126,7 +127,7 @@ pub fn projection_row(r: Projection) -> Numbers
         1,
         layout::present_in(northing),
     ];
-    row::numbers_of(&values, &present)
+    row_writer::numbers_of(&values, &present)
 }
 
 // The row of a 1026.
@@ -160,7 +161,7 @@ pub fn lambert_row(r: Lambert) -> Numbers
         1,
         layout::present_in(northing),
     ];
-    row::numbers_of(&values, &present)
+    row_writer::numbers_of(&values, &present)
 }
 
 // The row of a 1027.
@@ -197,5 +198,5 @@ pub fn oblique_mercator_row(r: ObliqueMercator) -> Numbers
         1,
         layout::present_in(northing),
     ];
-    row::numbers_of(&values, &present)
+    row_writer::numbers_of(&values, &present)
 }

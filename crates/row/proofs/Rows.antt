@@ -1,6 +1,6 @@
 -- What a row says: a value or none at each place of both its buffers, and the value 0 behind them; a name counter is at most 31.
 -- Assumes nothing.
-use Prim.Native.Nat.{ℕ, zero, suc, _-_, _≤_, _<_}
+use Prim.Native.Nat.{ℕ, zero, suc, _≤_, _<_}
 use native.Mathlib.Nat.{not-suc-le-zero}
 use native.Mathlib.Omega.{arith}
 use mathlib.Core.Path.{_≡_, refl, sym, ap}
@@ -10,14 +10,14 @@ use borrow.Author.Tests.{leb-true, ltb-true, ltb-false}
 use lib.Dec.{leb, ltb}
 use lib.IntN.{ℤ, pos}
 use lib.ListN.{length, getD, replicate}
-use Rattle.arith.specs.Row.{upTo, at, padded}
+use Rattle.arith.specs.Row.{upTo, at}
 use Rattle.arith.specs.Whole.{natural}
 use Rattle.arith.proofs.Rows.{is-upTo}
 use Rattle.field.specs.declared.Reading.{Reading}
 use Rattle.field.specs.declared.Reading.the-variants.{Value, Absent}
 use Rattle.layout.specs.Layout.{valueIn, presentIn, readingIn, rowOf}
 use Rattle.layout.proofs.Round.{row-in}
-use Rattle.row.specs.Numbers.{says, valuesOf, presentOf, numberAt, counterAt, marked}
+use Rattle.row.specs.Numbers.{says, valuesOf, presentOf, numberAt, counterAt}
 
 pub all-of : (v : List Reading) (n : ℕ) → length v ≡ n → upTo (says v) n ≡ v
 all-of v n e = sym (is-upTo (says v) n (Value (pos 0)) v e (λ i h. refl))
@@ -85,8 +85,3 @@ says-filled (r ∷ v) m n zero = by r
     by (Value z) = refl
     by Absent = refl
 says-filled (r ∷ v) m n (suc k) = says-filled v m n k
-
--- the answer of a record says its row
-pub says-padded : (v : List Reading) → says (rowOf (padded (valuesOf v)) (marked (presentOf v))) ≡ says v
-unfolding padded marked
-says-padded v = λ i k. says-filled v (96 - length (valuesOf v)) (96 - length (presentOf v)) k i

@@ -14,7 +14,8 @@ ghost use Rattle.layouts.specs.Layouts.{layoutBy};
 ghost use Rattle.load.specs.Load.{presentLoaded, valuesLoaded};
 ghost use Rattle.projection_layouts.specs.Checked.{checkedRefusal, presentChecked, valuesChecked};
 ghost use Rattle.projection_records.specs.Projections.{lambertOf, lambertRow, obliqueMercatorOf, obliqueMercatorRow, projectionOf, projectionRow};
-ghost use Rattle.row.specs.Numbers.{appended, buffers, counterAt, numberAt, numbers, pairAt, placeBehind, says};
+ghost use Rattle.row.specs.Numbers.{counterAt, numberAt, pairAt, says};
+ghost use Rattle.row_writer.specs.Buffers.{appended, buffers, numbers, placeBehind};
 ghost use Rattle.transformation_records.specs.Transformations.{goodName, helmertOf, helmertRow, molodenskiBadekasOf, molodenskiBadekasRow};
 
 pub fn contains_field(s: &[u8], p: usize, w: usize) -> bool
@@ -126,14 +127,14 @@ pub fn append(dst: &mut [i64], at: usize, src: &[i64]) -> usize
     ensures answer { λ r. ⌜ r ≡ placeBehind (now (dst .entry)) at (now (src .entry)) ⌝ }
     ensures output { λ r. ⌜ now (dst .exit) ≡ appended (now (dst .entry)) at (now (src .entry)) ⌝ }
 {
-    row::append(dst, at, src)
+    row_writer::append(dst, at, src)
 }
 
 pub fn append_bytes(dst: &mut [u8], at: usize, src: &[u8]) -> usize
     ensures answer { λ r. ⌜ r ≡ placeBehind (now (dst .entry)) at (now (src .entry)) ⌝ }
     ensures output { λ r. ⌜ now (dst .exit) ≡ appended (now (dst .entry)) at (now (src .entry)) ⌝ }
 {
-    row::append_bytes(dst, at, src)
+    row_writer::append_bytes(dst, at, src)
 }
 
 pub fn says_at(values: &[i64], present: &[u8], k: usize) -> field::Reading
@@ -166,16 +167,16 @@ pub fn pair_at(values: &[i64], present: &[u8], k: usize) -> row::Pair
     row::pair_at(values, present, k)
 }
 
-pub fn no_numbers() -> row::Numbers
+pub fn no_numbers() -> row_writer::Numbers
     ensures { λ n. ⌜ n ≡ numbers false [] ⌝ }
 {
-    row::no_numbers()
+    row_writer::no_numbers()
 }
 
-pub fn numbers_of(values: &[i64], present: &[u8]) -> row::Numbers
+pub fn numbers_of(values: &[i64], present: &[u8]) -> row_writer::Numbers
     ensures { λ n. ⌜ n ≡ buffers (eqb (length (now (values .entry))) (length (now (present .entry))) && leb (length (now (values .entry))) 96) (now (values .entry)) (now (present .entry)) ⌝ }
 {
-    row::numbers_of(values, present)
+    row_writer::numbers_of(values, present)
 }
 
 pub fn decode_checked(r: u8, s: &[u8], layout: &[u64], values: &mut [i64], present: &mut [u8]) -> u8
@@ -242,13 +243,13 @@ pub fn molodenski_badekas_of(
     transformation_records::molodenski_badekas_of(values, present)
 }
 
-pub fn helmert_row(r: transformation_records::Helmert) -> row::Numbers
+pub fn helmert_row(r: transformation_records::Helmert) -> row_writer::Numbers
     ensures { λ n. ⌜ n ≡ numbers (goodName (r .source) && goodName (r .target)) (helmertRow r) ⌝ }
 {
     transformation_rows::helmert_row(r)
 }
 
-pub fn molodenski_badekas_row(r: transformation_records::MolodenskiBadekas) -> row::Numbers
+pub fn molodenski_badekas_row(r: transformation_records::MolodenskiBadekas) -> row_writer::Numbers
     ensures { λ n. ⌜ n ≡ numbers (goodName (r .source) && goodName (r .target)) (molodenskiBadekasRow r) ⌝ }
 {
     transformation_rows::molodenski_badekas_row(r)
@@ -260,7 +261,7 @@ pub fn grid_of(values: &[i64; 96], present: &[u8; 96]) -> grid_records::Grid
     grid_records::grid_of(values, present)
 }
 
-pub fn grid_row(r: grid_records::Grid) -> row::Numbers
+pub fn grid_row(r: grid_records::Grid) -> row_writer::Numbers
     ensures { λ n. ⌜ n ≡ numbers true (gridRow r) ⌝ }
 {
     grid_records::grid_row(r)
@@ -293,19 +294,19 @@ pub fn oblique_mercator_of(
     projection_records::oblique_mercator_of(values, present)
 }
 
-pub fn projection_row(r: projection_records::Projection) -> row::Numbers
+pub fn projection_row(r: projection_records::Projection) -> row_writer::Numbers
     ensures { λ n. ⌜ n ≡ numbers true (projectionRow r) ⌝ }
 {
     projection_records::projection_row(r)
 }
 
-pub fn lambert_row(r: projection_records::Lambert) -> row::Numbers
+pub fn lambert_row(r: projection_records::Lambert) -> row_writer::Numbers
     ensures { λ n. ⌜ n ≡ numbers true (lambertRow r) ⌝ }
 {
     projection_records::lambert_row(r)
 }
 
-pub fn oblique_mercator_row(r: projection_records::ObliqueMercator) -> row::Numbers
+pub fn oblique_mercator_row(r: projection_records::ObliqueMercator) -> row_writer::Numbers
     ensures { λ n. ⌜ n ≡ numbers true (obliqueMercatorRow r) ⌝ }
 {
     projection_records::oblique_mercator_row(r)

@@ -65,10 +65,8 @@ fn put_sums(given: &[u8], row: &mut [i64], out: &mut Out, at: usize) -> usize {
     let Byte::Is(refusal) = fill(given, row) else {
         return output::put(out, at, b'?');
     };
-    let s = sums_of(row);
     let to = output::put_field(out, at, refusal as u64);
-    let to = output::put_field(out, to, s.a);
-    output::put_natural(out, to, s.b)
+    sum_texts::put_numbers(row, out, to)
 }
 
 // The number of the row that is asked for, with the row filled.
@@ -122,36 +120,4 @@ fn row_of(given: &[u8]) -> Asked {
 fn message_of(given: &[u8]) -> &[u8] {
     let third = words::rest(words::rest(given));
     words::rest(words::rest(words::rest(third)))
-}
-
-// The sum of the numbers and the sum of its values so far, modulo 65521.
-struct Sums {
-    a: u64,
-    b: u64,
-}
-
-fn sums_of(row: &[i64]) -> Sums {
-    let mut a: u64 = 0;
-    let mut b: u64 = 0;
-    let mut k: usize = 0;
-    while k < row.len() {
-        a = plus(a, remainder(row[k]));
-        b = plus(b, a);
-        k += 1;
-    }
-    Sums { a, b }
-}
-
-// The remainder of a number by 65521, from 0 on.
-fn remainder(v: i64) -> u64 {
-    let r = field::magnitude(v) % 65521;
-    if v < 0 {
-        return (65521 - r) % 65521;
-    }
-    r
-}
-
-// The sum modulo 65521.
-fn plus(a: u64, b: u64) -> u64 {
-    (a % 65521 + b % 65521) % 65521
 }

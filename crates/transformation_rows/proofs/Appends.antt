@@ -13,11 +13,12 @@ use Rattle.arith.proofs.Rows.{length-upTo}
 use Rattle.arith.proofs.Tests.{both-first, both-second}
 use Rattle.field.specs.declared.Reading.{Reading}
 use Rattle.layout.specs.Layout.{valueIn, presentIn}
-use Rattle.row.specs.declared.Numbers.{Numbers}
+use Rattle.row_writer.specs.declared.Numbers.{Numbers}
 use Rattle.row.specs.declared.Pair.{Pair}
-use Rattle.row.specs.Private.{Appended}
-use Rattle.row.specs.Numbers.{numbers, buffers, pairRow, valuesOf, presentOf, marked}
-use Rattle.row.proofs.Appends.{behind, all-good, paste-filled}
+use Rattle.row_writer.specs.Private.{Appended}
+use Rattle.row.specs.Numbers.{pairRow, valuesOf, presentOf}
+use Rattle.row_writer.specs.Buffers.{numbers, buffers, marked}
+use Rattle.row_writer.proofs.Appends.{behind, all-good, paste-filled}
 use Rattle.transformation_records.specs.declared.Name.{Name}
 use Rattle.transformation_records.specs.declared.Ellipsoids.{Ellipsoids}
 use Rattle.transformation_records.specs.Parts.{names, last}

@@ -1,6 +1,6 @@
 // The rows of messages 1021 and 1022, in wire order, from their records.
-use row::Numbers;
 use row::Pair;
+use row_writer::Numbers;
 use transformation_records::Area;
 use transformation_records::Ellipsoids;
 use transformation_records::Helmert;
@@ -16,8 +16,9 @@ ghost use Prim.Native.Nat.{_+_, _≤_, _<_};
 ghost use lib.ListN.{length};
 ghost use lib.IntN.{pos};
 ghost use Rattle.arith.specs.Row.{upTo};
-ghost use Rattle.row.specs.Numbers.{valuesOf, presentOf, buffers, numbers};
-ghost use Rattle.row.specs.Private.{Appended};
+ghost use Rattle.row.specs.Numbers.{valuesOf, presentOf};
+ghost use Rattle.row_writer.specs.Buffers.{buffers, numbers};
+ghost use Rattle.row_writer.specs.Private.{Appended};
 ghost use Rattle.transformation_records.specs.Parts.{names, shared, last};
 ghost use Rattle.transformation_records.specs.Transformations.{nameRow, charGood, goodName, pointRow, helmertRow, molodenskiBadekasRow};
 ghost use Rattle.transformation_rows.specs.Private.{charValue};
@@ -72,7 +73,7 @@ fn append(dst: &mut [i64], at: usize, src: &[i64]) -> usize
     requires { ⌜ at + length (now src) ≤ length (now dst) ⌝ }
     ensures { λ r. ⌜ Appended (now (dst .entry)) at (now (src .entry)) r (now (dst .exit)) ⌝ }
 {
-    row::append(dst, at, src)
+    row_writer::append(dst, at, src)
 }
 
 // The same of presence bytes.
@@ -80,7 +81,7 @@ fn append_bytes(dst: &mut [u8], at: usize, src: &[u8]) -> usize
     requires { ⌜ at + length (now src) ≤ length (now dst) ⌝ }
     ensures { λ r. ⌜ Appended (now (dst .entry)) at (now (src .entry)) r (now (dst .exit)) ⌝ }
 {
-    row::append_bytes(dst, at, src)
+    row_writer::append_bytes(dst, at, src)
 }
 
 // The values of the first `count` characters into dst from place `at` on: the place behind them.
@@ -254,7 +255,7 @@ fn named_row(
     ensures { λ n. ⌜ n ≡ buffers (goodName source && goodName target) (valuesOf (names number source target) ++ now (shared .entry) ++ now (tail .entry)) (presentOf (names number source target) ++ now (said .entry) ++ now (told .entry)) ⌝ }
 {
     if !good_names(source, target) {
-        return row::no_numbers();
+        return row_writer::no_numbers();
     }
     let mut values = [0i64; 96];
     let mut present = [1u8; 96];

@@ -6,10 +6,10 @@ use native.Mathlib.Omega.{arith}
 use lib.ListN.{length, take}
 use lib.Seq.{take-all}
 use Rattle.layout.specs.Layout.{valueIn, presentIn}
-use Rattle.row.specs.Private.{Appended}
+use Rattle.row_writer.specs.Private.{Appended}
 use Rattle.row.specs.Numbers.{valuesOf, presentOf}
 use Rattle.grid_records.specs.Grids.{nodesRow}
-use Rattle.row.proofs.Appends.{behind, nothing, same-row}
+use Rattle.row_writer.proofs.Appends.{behind, nothing, same-row}
 use Rattle.grid_records.proofs.Appends.{length-nodes, node-more}
 use Rattle.grid_records.proofs.append_nodes.Statement.{statement}
 use Rattle.grid_records.proofs.append_nodes.Tie as tie

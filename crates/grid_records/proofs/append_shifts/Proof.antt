@@ -1,7 +1,7 @@
 -- `grid_records::append_shifts` meets its contract: the same place in both buffers.
 -- Assumes nothing.
 use Rattle.grid_records.specs.Grids.{shiftsRow}
-use Rattle.row.proofs.Appends.{same-row}
+use Rattle.row_writer.proofs.Appends.{same-row}
 use borrow.Author.Needs.{needs}
 use Rattle.grid_records.proofs.append_shifts.Statement.{statement}
 use Rattle.grid_records.proofs.append_shifts.Tie as tie

@@ -5,7 +5,8 @@ use mathlib.Core.Bool.{true}
 use mathlib.Core.List.{_++_}
 use lib.ListN.{length, replicate}
 use Rattle.arith.proofs.Back.{held}
-use Rattle.row.specs.Numbers.{valuesOf, presentOf, buffers}
+use Rattle.row.specs.Numbers.{valuesOf, presentOf}
+use Rattle.row_writer.specs.Buffers.{buffers}
 use Rattle.grid_records.specs.Grids.{nodesRow}
 use Rattle.grid_records.specs.Private.{startRow, endRow}
 use Rattle.grid_records.proofs.Appends.{grid-parts}

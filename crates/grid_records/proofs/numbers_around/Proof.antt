@@ -7,9 +7,10 @@ use native.Mathlib.Omega.{arith}
 use lib.ListN.{length, length-append, length-map}
 use Rattle.arith.specs.Row.{padded}
 use Rattle.layout.specs.Layout.{valueIn, presentIn}
-use Rattle.row.specs.Numbers.{valuesOf, presentOf, marked}
-use Rattle.row.specs.Private.{Appended}
-use Rattle.row.proofs.Appends.{behind, all-good}
+use Rattle.row.specs.Numbers.{valuesOf, presentOf}
+use Rattle.row_writer.specs.Buffers.{marked}
+use Rattle.row_writer.specs.Private.{Appended}
+use Rattle.row_writer.proofs.Appends.{behind, all-good}
 use Rattle.grid_records.specs.Grids.{nodesRow}
 use Rattle.grid_records.proofs.Appends.{more-marked}
 use borrow.Author.Needs.{needs}

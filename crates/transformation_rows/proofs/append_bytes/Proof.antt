@@ -1,6 +1,6 @@
 -- `transformation_rows::append_bytes` meets its contract: there is room.
 -- Assumes nothing.
-use Rattle.row.proofs.Appends.{appends}
+use Rattle.row_writer.proofs.Appends.{appends}
 use borrow.Author.Needs.{needs}
 use Rattle.transformation_rows.proofs.append_bytes.Statement.{statement}
 use Rattle.transformation_rows.proofs.append_bytes.Tie as tie

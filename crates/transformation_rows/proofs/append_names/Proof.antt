@@ -6,7 +6,7 @@ use mathlib.Core.List.{[], _∷_, _++_}
 use Rattle.field.specs.declared.Reading.the-variants.{Value}
 use Rattle.layout.specs.Layout.{valueIn}
 use Rattle.transformation_records.specs.Transformations.{nameRow}
-use Rattle.row.proofs.Appends.{same-row}
+use Rattle.row_writer.proofs.Appends.{same-row}
 use Rattle.transformation_rows.proofs.Appends.{maps-behind, length-name}
 use borrow.Author.Needs.{needs}
 use Rattle.transformation_rows.proofs.append_names.Statement.{statement}

@@ -3,7 +3,7 @@
 use mathlib.Core.Path.{ap, _∙_}
 use mathlib.Core.Bool.{_&&_}
 use Rattle.arith.proofs.Back.{held}
-use Rattle.row.specs.Numbers.{numbers}
+use Rattle.row_writer.specs.Buffers.{numbers}
 use Rattle.transformation_records.specs.Parts.{shared, last}
 use Rattle.transformation_records.specs.Transformations.{goodName}
 use Rattle.transformation_records.proofs.Parts.{helmert-joined}

@@ -6,7 +6,8 @@ use mathlib.Core.Bool.{_&&_}
 use mathlib.Core.List.{_++_}
 use lib.ListN.{length}
 use Rattle.arith.proofs.Back.{held}
-use Rattle.row.specs.Numbers.{numbers, pairRow}
+use Rattle.row.specs.Numbers.{pairRow}
+use Rattle.row_writer.specs.Buffers.{numbers}
 use Rattle.transformation_records.specs.Parts.{shared, last}
 use Rattle.transformation_records.specs.Transformations.{goodName, systemRow, areaRow, parametersRow, pointRow, ellipsoidsRow}
 use Rattle.transformation_records.proofs.Parts.{molodenski-badekas-joined}

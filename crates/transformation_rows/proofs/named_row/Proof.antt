@@ -5,8 +5,9 @@ use borrow.Author.Tests.{not-true, not-false}
 use Rattle.arith.specs.Row.{padded}
 use Rattle.arith.proofs.Order.{is}
 use Rattle.arith.proofs.Back.{held}
-use Rattle.row.specs.Numbers.{valuesOf, presentOf, marked}
-use Rattle.row.proofs.Appends.{behind, same-row, same-size, none}
+use Rattle.row.specs.Numbers.{valuesOf, presentOf}
+use Rattle.row_writer.specs.Buffers.{marked}
+use Rattle.row_writer.proofs.Appends.{behind, same-row, same-size, none}
 use Rattle.transformation_records.specs.Parts.{names}
 use Rattle.transformation_rows.proofs.Appends.{good-lengths, names-most, names-there, answer}
 use borrow.Author.Needs.{needs}

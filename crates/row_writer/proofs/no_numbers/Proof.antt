@@ -1,0 +1,14 @@
+-- `row_writer::no_numbers` meets its contract.
+-- Assumes nothing.
+use mathlib.Core.Path.{refl}
+use Rattle.arith.specs.Row.{padded}
+use Rattle.row_writer.specs.Buffers.{marked, buffers}
+use Rattle.row_writer.proofs.no_numbers.Statement.{statement}
+use Rattle.row_writer.proofs.no_numbers.Tie as tie
+
+returns : tie.Need-returns
+unfolding buffers padded marked
+returns c = refl
+
+pub no-numbers-spec : {M : Type 1} → statement M
+no-numbers-spec = tie.close (tie.spec returns)

@@ -1,0 +1,29 @@
+-- `sum_texts::sums_of_bytes` is safe and ends. The measure is the number of bytes that are left.
+-- Assumes nothing.
+use borrow.Author.Needs.{needs}
+use Prim.Native.Nat.{_-_}
+use lib.ListN.{length}
+use Rattle.sum_texts.proofs.sums_of_bytes.Statement.{statement}
+use Rattle.sum_texts.proofs.sums_of_bytes.Tie as tie
+
+abbrev Inv-loop : tie.InvT-loop
+Inv-loop bytes a₀ b₀ k₀ a b k = Unit {0}
+
+abbrev μ-loop : tie.MeasureT-loop
+μ-loop bytes a₀ b₀ k₀ a b k = length bytes - k
+
+pub sums-of-bytes-spec : {M : Type 1} → statement M
+sums-of-bytes-spec =
+    tie.close
+    (tie.spec
+    Inv-loop
+    μ-loop
+    (λ c. search needs)
+    (λ c. search needs)
+    (λ c κs. search needs)
+    (λ c κs. search needs)
+    (λ c κs. search needs)
+    (λ c. search needs)
+    (λ c. search needs)
+    (λ c. search needs)
+    (λ c. search needs))
