@@ -15,7 +15,8 @@ use Rattle.arith.proofs.Places.{first}
 use Rattle.wire.specs.Message.{numberOf, sinOf, refusal, header}
 use Rattle.wire.specs.declared.Header.{Header}
 use Rattle.slots.specs.Slots.{slots, most, slotSize, tableSize, isOwner, groupOf, key, keyOf, joined, slot, used, tag}
-use Rattle.slots.specs.Marks.{mark, marks, hasMark, markPlace, markOrFree}
+use Rattle.slots.specs.Marks.{mark, marks}
+use Rattle.marks.specs.Places.{hasMark, markPlace, markOrFree}
 use Rattle.slots.proofs.Owner.{owner-range}
 use Rattle.slots.proofs.Slot.{size-byte}
 use Rattle.table.specs.Table.{place, holding, wellFormed, storePlace, storeRefusal, storeTable, findRefusal, removeTable}

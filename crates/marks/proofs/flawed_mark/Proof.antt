@@ -1,10 +1,10 @@
--- `slots::flawed_mark` meets its contract: each return is a case of the definition.
+-- `marks::flawed_mark` meets its contract: each return is a case of the definition.
 -- Assumes nothing.
 use borrow.Author.Tests.{eq-eqb, ne-eqb}
-use Rattle.slots.specs.Marks.{flawedMark}
+use Rattle.marks.specs.Places.{flawedMark}
 use borrow.Author.Needs.{needs}
-use Rattle.slots.proofs.flawed_mark.Statement.{statement}
-use Rattle.slots.proofs.flawed_mark.Tie as tie
+use Rattle.marks.proofs.flawed_mark.Statement.{statement}
+use Rattle.marks.proofs.flawed_mark.Tie as tie
 
 returns : tie.Need-returns
 unfolding flawedMark

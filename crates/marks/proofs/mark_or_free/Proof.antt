@@ -1,11 +1,11 @@
--- `slots::mark_or_free` meets its contract: each return is a case of the definition.
+-- `marks::mark_or_free` meets its contract: each return is a case of the definition.
 -- Assumes nothing.
 use borrow.Author.Tests.{lt-ltb, le-ltb}
 use Rattle.slots.specs.Slots.{slots, most}
-use Rattle.slots.specs.Marks.{markOrFree}
+use Rattle.marks.specs.Places.{markOrFree}
 use borrow.Author.Needs.{needs}
-use Rattle.slots.proofs.mark_or_free.Statement.{statement}
-use Rattle.slots.proofs.mark_or_free.Tie as tie
+use Rattle.marks.proofs.mark_or_free.Statement.{statement}
+use Rattle.marks.proofs.mark_or_free.Tie as tie
 
 returns : tie.Need-returns
 unfolding markOrFree

@@ -1,4 +1,4 @@
--- `slots::sound_marks` meets its contract: none of the places passed is flawed.
+-- `marks::sound_marks` meets its contract: none of the places passed is flawed.
 -- Assumes nothing.
 use Prim.Native.Nat.{_-_, _≤_}
 use native.Mathlib.Omega.{arith}
@@ -6,11 +6,11 @@ use mathlib.Core.Path.{_≡_, refl, sym, ap, _∙_}
 use lib.Dec.{eqb}
 use borrow.Author.Tests.{ne-eqb}
 use Rattle.arith.specs.Places.{firstOf}
 use Rattle.slots.specs.Slots.{slots}
-use Rattle.slots.specs.Marks.{flawedMark, soundMarks}
+use Rattle.marks.specs.Places.{flawedMark, soundMarks}
 use Rattle.arith.proofs.Places.{turn-hit, turn-on, turn-end}
-use Rattle.slots.proofs.sound_marks.Statement.{statement}
-use Rattle.slots.proofs.sound_marks.Tie as tie
+use Rattle.marks.proofs.sound_marks.Statement.{statement}
+use Rattle.marks.proofs.sound_marks.Tie as tie
 
 abbrev Inv-loop : tie.InvT-loop
 Inv-loop row i₀ i = (i ≤ slots) × (firstOf (flawedMark row) 0 slots ≡ firstOf (flawedMark row) i (slots - i))

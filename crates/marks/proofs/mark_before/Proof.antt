@@ -1,14 +1,14 @@
--- `slots::mark_before` meets its contract: none of the places passed has the mark.
+-- `marks::mark_before` meets its contract: none of the places passed has the mark.
 -- Assumes nothing.
 use Prim.Native.Nat.{_-_, _≤_}
 use native.Mathlib.Omega.{arith}
 use mathlib.Core.Path.{_≡_, sym, _∙_}
 use borrow.Author.Tests.{eq-eqb, ne-eqb}
 use Rattle.arith.specs.Places.{firstOf}
-use Rattle.slots.specs.Marks.{hasMark, markPlace}
+use Rattle.marks.specs.Places.{hasMark, markPlace}
 use Rattle.arith.proofs.Places.{turn-hit, turn-on, turn-end}
-use Rattle.slots.proofs.mark_before.Statement.{statement}
-use Rattle.slots.proofs.mark_before.Tie as tie
+use Rattle.marks.proofs.mark_before.Statement.{statement}
+use Rattle.marks.proofs.mark_before.Tie as tie
 
 abbrev Inv-loop : tie.InvT-loop
 Inv-loop row g n at₀ at = (at ≤ n) × (markPlace row g n ≡ firstOf (hasMark row g) at (n - at))
