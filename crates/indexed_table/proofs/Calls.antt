@@ -15,14 +15,15 @@ use Rattle.arith.proofs.Places.{first}
 use Rattle.wire.specs.Message.{numberOf, sinOf, refusal, header}
 use Rattle.wire.specs.declared.Header.{Header}
 use Rattle.slots.specs.Slots.{slots, most, slotSize, tableSize, isOwner, groupOf, key, keyOf, joined, slot, used, tag}
-use Rattle.slots.specs.Marks.{mark, marks, hasMark, markPlace, markOrFree}
+use Rattle.slots.specs.Marks.{mark, marks}
+use Rattle.marks.specs.Places.{hasMark, markPlace, markOrFree}
 use Rattle.slots.proofs.Owner.{owner-range}
 use Rattle.slots.proofs.Slot.{size-byte}
 use Rattle.table.specs.Table.{place, holding, wellFormed, storePlace, storeRefusal, storeTable, findRefusal, removeTable}
 use Rattle.table.proofs.Marks.{row-place}
 use Rattle.table.proofs.Calls.{store-order, store-kept, remove-kept, storePlace-old, storePlace-new, storePlace-most}
 use Rattle.index_search.specs.Index.{indexSize}
-use Rattle.index_search.specs.Agree.{agree}
+use Rattle.index_agreement.specs.Agree.{agree}
 use Rattle.index.specs.Change.{inserted, deleted, rebuilt}
 use Rattle.indexed_table.specs.Indexed.{entryKey, messageKey, slotKeys, agreesRefusal, writeRefusal, writeIndex, behind, storeNumber, storedTable, storedIndex, removeNumber, removedTable, removedIndex}
 use Rattle.indexed_table.specs.Find.{probed, usedBy, findNumber, given, partAt, partLength, foundBy}

@@ -7,7 +7,8 @@ use lib.ListN.{getD}
 use lib.Dec.{ltb, eqb}
 use Rattle.wire.specs.Message.{header}
 use Rattle.slots.specs.Slots.{slots, slotSize, groupOf, key, joined, slot}
-use Rattle.slots.specs.Marks.{mark, markOrFree}
+use Rattle.slots.specs.Marks.{mark}
+use Rattle.marks.specs.Places.{markOrFree}
 use Rattle.index.specs.Change.{inserted}
 use Rattle.indexed_table.specs.Indexed.{entryKey}
 use Rattle.indexed_table.specs.declared.Found.{Found}

@@ -63,7 +63,7 @@ fn agreement(table: &[u8], row: &[usize; SLOTS], index: &[u8]) -> u8
         return TABLE;
     }
     let keys = mark_keys(row);
-    if !index_search::agrees(&keys, index) {
+    if !index_agreement::agrees(&keys, index) {
         return INDEX;
     }
     0
@@ -101,7 +101,7 @@ fn add_entry(row: &[usize; SLOTS], index: &mut [u8], owner: u8, message: &[u8])
     let h = wire::read_header(message);
     let sin = h.sin;
     let group = slots::group_of(h.number);
-    let i = slots::mark_or_free(row, slots::tag_of(owner, sin, group), 0);
+    let i = marks::mark_or_free(row, slots::tag_of(owner, sin, group), 0);
     index::insert(index, entry_key(owner, sin, group), i as u8);
 }
 

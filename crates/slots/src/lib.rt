@@ -1,9 +1,9 @@
 // The slots of the table that two owners share: 32 of 132 bytes, an owner byte, a length byte, 127 message bytes and three zeros. What stands in them is read into a row of marks.
 ghost use mathlib.Core.Path.{_≡_};
-ghost use Prim.Native.Nat.{suc, _≤_, _<_};
+ghost use Prim.Native.Nat.{suc, _<_};
 ghost use lib.ListN.{length, getD};
 ghost use Rattle.slots.specs.Slots.{slots, slotSize, tableSize, isOwner, groupOf, key, joined, allZero};
-ghost use Rattle.slots.specs.Marks.{noTag, mark, markAt, marks, markPlace, flawedMark, soundMarks, markOrFree};
+ghost use Rattle.slots.specs.Marks.{noTag, mark, markAt, marks};
 
 pub const SLOTS: usize = 32;
 
@@ -12,9 +12,6 @@ const MESSAGE_SIZE: usize = 127;
 pub const SLOT_SIZE: usize = 2 + MESSAGE_SIZE + 3;
 
 pub const TABLE_SIZE: usize = SLOTS * SLOT_SIZE;
-
-// How many slots an owner may hold.
-pub const MOST: usize = 20;
 
 // The mark of a slot that is not well formed.
 pub const NO_TAG: usize = 2305;
@@ -130,69 +127,4 @@ pub fn table_marks(table: &[u8]) -> [usize; SLOTS]
         i += 1;
     }
     row
-}
-
-// The first of the places 0 to n - 1 with the mark g, n where there is none.
-fn mark_before(row: &[usize; SLOTS], g: usize, n: usize) -> usize
-    requires { ⌜ n ≤ slots ⌝ }
-    ensures { λ r. ⌜ r ≡ markPlace (now (row .entry)) g n ⌝ }
-{
-    let mut at = 0;
-    while at < n {
-        if row[at] == g {
-            return at;
-        }
-        at += 1;
-    }
-    n
-}
-
-// The first place with the mark g, 32 where there is none.
-pub fn mark_place(row: &[usize; SLOTS], g: usize) -> usize
-    ensures { λ r. ⌜ r ≡ markPlace (now (row .entry)) g slots ⌝ }
-{
-    mark_before(row, g, SLOTS)
-}
-
-// Whether place i has no tag, or a key that stands before it.
-fn flawed_mark(row: &[usize; SLOTS], i: usize) -> bool
-    requires { ⌜ i < slots ⌝ }
-    ensures { λ r. ⌜ r ≡ flawedMark (now (row .entry)) i ⌝ }
-{
-    let g = row[i];
-    if g == NO_TAG {
-        return true;
-    }
-    if g == 0 {
-        return false;
-    }
-    mark_before(row, g, i) != i
-}
-
-// Whether every slot is well formed and no key stands twice, by the marks.
-pub fn sound_marks(row: &[usize; SLOTS]) -> bool
-    ensures { λ r. ⌜ r ≡ soundMarks (now (row .entry)) ⌝ }
-{
-    let mut i = 0;
-    while i < SLOTS {
-        if flawed_mark(row, i) {
-            return false;
-        }
-        i += 1;
-    }
-    true
-}
-
-// The place of the mark g, else that of the first free slot where fewer than 20 are held, else 32.
-pub fn mark_or_free(row: &[usize; SLOTS], g: usize, holds: usize) -> usize
-    ensures { λ r. ⌜ r ≡ markOrFree (now (row .entry)) g holds ⌝ }
-{
-    let i = mark_place(row, g);
-    if i < SLOTS {
-        return i;
-    }
-    if holds < MOST {
-        return mark_place(row, 0);
-    }
-    SLOTS
 }

@@ -8,7 +8,7 @@ ghost use Rattle.slots.specs.Marks.{marks};
 ghost use Rattle.table.specs.Table.{owns, holding, wellFormed, put, storeRefusal, storeTable, findRefusal, foundOf, removeTable};
 ghost use Rattle.table.specs.Checked.{checkedMarks};
 ghost use Rattle.table.specs.Shown.{Shows};
-use slots::MOST;
+use marks::MOST;
 use slots::NO_TAG;
 use slots::SLOT_SIZE;
 use slots::SLOTS;
@@ -53,7 +53,7 @@ fn sound(table: &[u8], row: &[usize; SLOTS]) -> bool
     requires { ⌜ now row ≡ marks (now table) ⌝ }
     ensures { λ r. ⌜ r ≡ wellFormed (now (table .entry)) ⌝ }
 {
-    if !slots::sound_marks(row) {
+    if !marks::sound_marks(row) {
         return false;
     }
     if MOST < held_by(table, 1) {
@@ -138,7 +138,7 @@ pub fn store(table: &mut [u8], owner: u8, message: &[u8]) -> u8
     if refusal != 0 {
         return refusal;
     }
-    let i = slots::mark_or_free(
+    let i = marks::mark_or_free(
         &row,
         slots::tag_of(owner, h.sin, slots::group_of(h.number)),
         held_by(table, owner),
@@ -182,7 +182,7 @@ pub fn find(table: &[u8], owner: u8, sin: u8, group: u8) -> Found
     if 2 < group {
         return not_found(NONE);
     }
-    let i = slots::mark_place(&row, slots::tag_of(owner, sin, group));
+    let i = marks::mark_place(&row, slots::tag_of(owner, sin, group));
     if i < SLOTS {
         let a = i * SLOT_SIZE + 1;
         return Found {

@@ -1,9 +1,10 @@
-// Every public function of the slots and of the table, called once with its promise restated: a promise that is weakened there is missed here.
+// Every public function of the slots, of the row of their marks and of the table, called once with its promise restated: a promise that is weakened there is missed here.
 ghost use mathlib.Core.Path.{_≡_};
 ghost use lib.ListN.{getD};
 ghost use Prim.Native.Nat.{suc};
 ghost use Rattle.slots.specs.Slots.{slots, isOwner, groupOf, key, joined};
-ghost use Rattle.slots.specs.Marks.{noTag, marks, markPlace, soundMarks, markOrFree};
+ghost use Rattle.slots.specs.Marks.{noTag, marks};
+ghost use Rattle.marks.specs.Places.{markPlace, soundMarks, markOrFree};
 ghost use Rattle.table.specs.Table.{wellFormed, storeRefusal, storeTable, findRefusal, foundOf, removeTable};
 ghost use Rattle.table.specs.Shown.{Shows};
 ghost use Rattle.table.specs.Checked.{checkedMarks};
@@ -41,19 +42,19 @@ pub fn mark_of(t: &[u8], i: usize) -> usize
 pub fn mark_place(row: &[usize; 32], g: usize) -> usize
     ensures { λ r. ⌜ r ≡ markPlace (now (row .entry)) g slots ⌝ }
 {
-    slots::mark_place(row, g)
+    marks::mark_place(row, g)
 }
 
 pub fn sound_marks(row: &[usize; 32]) -> bool
     ensures { λ r. ⌜ r ≡ soundMarks (now (row .entry)) ⌝ }
 {
-    slots::sound_marks(row)
+    marks::sound_marks(row)
 }
 
 pub fn mark_or_free(row: &[usize; 32], g: usize, holds: usize) -> usize
     ensures { λ r. ⌜ r ≡ markOrFree (now (row .entry)) g holds ⌝ }
 {
-    slots::mark_or_free(row, g, holds)
+    marks::mark_or_free(row, g, holds)
 }
 
 pub fn well_formed(t: &[u8]) -> bool

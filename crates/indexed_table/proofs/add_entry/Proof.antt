@@ -3,7 +3,7 @@
 use Prim.Native.Nat.{ℕ}
 use native.Mathlib.Omega.{arith}
 use mathlib.Core.Path.{ap, _∙_}
-use Rattle.slots.specs.Marks.{markOrFree}
+use Rattle.marks.specs.Places.{markOrFree}
 use Rattle.index.specs.Change.{inserted}
 use Rattle.indexed_table.proofs.Calls.{free-top, header-entry}
 use borrow.Author.Needs.{needs}

@@ -9,7 +9,7 @@ use Rattle.wire.specs.Message.{refusal}
 use Rattle.wire.proofs.Limits.{accepted-size}
 use Rattle.slots.specs.Slots.{slots, isOwner, key, keyOf, joined}
 use Rattle.table.specs.Table.{wellFormed, put, storePlace}
-use Rattle.slots.specs.Marks.{markOrFree}
+use Rattle.marks.specs.Places.{markOrFree}
 use Rattle.table.proofs.Whole.{formed}
 use Rattle.slots.proofs.Marks.{header-refusal, header-tag}
 use Rattle.table.proofs.Marks.{row-store}
