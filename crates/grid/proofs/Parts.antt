@@ -32,7 +32,7 @@ use Rattle.grid.specs.Shift.{part, nodeFactor, meanFactor, surface, nort
 use Rattle.grid.specs.Private.{Held, asked, nodesIn, valuesIn, lacking, Bounded, countAt, cellShift, partShift}
 use Rattle.grid.specs.declared.Answer.the-variants.{Refused}
 use Rattle.position.specs.declared.Located.{Located}
-use Rattle.grid_fields.specs.declared.Nodes.{Nodes}
+use Rattle.grid_nodes.specs.declared.Nodes.{Nodes}
 use Rattle.grid.specs.declared.Shift.{Shift}
 use Rattle.position.proofs.Places.{Early, inside, spacings, located-refusal, located-in, within, in-grid}
 

@@ -17,11 +17,12 @@ use Rattle.grid_records.specs.declared.Shifts.{Shifts}
 use Rattle.grid_records.specs.Grids.{originAt, spacingAt, shiftsAt, nodesAt, gridOf, frameAt, frameOf}
 use Rattle.grid_records.proofs.Inverse.{frame-of-grid}
 use Rattle.wire.specs.Message.{row, kindRefusal}
-use Rattle.grid_fields.specs.Fields.{gridSays, meanSays, nodeSays, cellSays}
+use Rattle.grid_fields.specs.Fields.{gridSays, meanSays}
+use Rattle.grid_nodes.specs.NodeFields.{nodeSays, cellSays}
 use Rattle.grid_fields.proofs.Says.{grid-says}
 use Rattle.grid.specs.Shift.{part, nodeOf}
 use Rattle.grid.specs.Private.{nodesIn}
-use Rattle.grid_fields.specs.declared.Nodes.{Nodes}
+use Rattle.grid_nodes.specs.declared.Nodes.{Nodes}
 
 -- places that say the same give the same frame
 frame-same : (v w : ℕ → Reading) → ((k : ℕ) → k < 64 → v k ≡ w k) → frameAt v ≡ frameAt w

@@ -11,7 +11,7 @@ use Rattle.layout.specs.Layout.{valueIn}
 use Rattle.grid_records.specs.declared.Grid.{Grid}
 use Rattle.grid_records.specs.declared.Shifts.{Shifts}
 use Rattle.grid_records.specs.Grids.{frameOf}
-use Rattle.grid_fields.specs.declared.Nodes.{Nodes}
+use Rattle.grid_nodes.specs.declared.Nodes.{Nodes}
 use Rattle.position.specs.Private.{Fields}
 use Rattle.grid_refusals.specs.Refusals.{available}
 use Rattle.bilinear.specs.Bilinear.{lacks}

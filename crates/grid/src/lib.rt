@@ -2,7 +2,7 @@
 use cell::Corners;
 use cell::Weights;
 use field::Reading;
-use grid_fields::Nodes;
+use grid_nodes::Nodes;
 use grid_records::Grid;
 use grid_records::Shifts;
 ghost use mathlib.Core.Path.{_≡_};
@@ -232,7 +232,7 @@ pub fn shifts_at(message: &[u8], north: i64, east: i64) -> ThreeShifts
     let p = position::locate_sides(f, north, east);
     let t = p.place;
     let k = cell::weights_in(t.height, t.width, t.north, t.east);
-    let n = grid_fields::cells_at(message, t.row, t.column);
+    let n = grid_nodes::cells_at(message, t.row, t.column);
     let m = grid_fields::means_at(message);
     let a = m.north;
     let b = m.east;

@@ -1,18 +1,14 @@
 -- The fields of a grid message, 1023 or 1024, read at their bits, with no row made: what the shift asks for.
 -- Assumes nothing.
-use Prim.Native.Nat.{ℕ, _+_, _-_, _*_, min}
-use mathlib.Core.Bool.{cond, _||_}
+use Prim.Native.Nat.{ℕ, _+_, min}
+use mathlib.Core.Bool.{cond}
 use mathlib.Core.List.{List}
-use lib.Dec.{eqb, ltb}
-use lib.IntN.{pos}
+use lib.Dec.{eqb}
 use lib.ListN.{getD, take}
 use Rattle.field.specs.Field.{fieldAt}
 use Rattle.field.specs.declared.Reading.{Reading}
-use Rattle.field.specs.declared.Reading.the-variants.{Value}
 use Rattle.layout.specs.Layout.{width, total, readingOf}
 use Rattle.layouts.specs.Layouts.{layout1023, layout1024}
-use Rattle.grid_fields.specs.declared.Nodes.{Nodes}
-use Rattle.grid_fields.specs.declared.Cells.{Cells}
 
 -- the layout by the number DF002: that of 1024 for any other number than 1023
 unfoldable pub gridLayout : List ℕ → List ℕ
@@ -27,28 +23,3 @@ gridSays s k =
 -- the mean of component c, 0 to 2: any other number counts as 2
 unfoldable pub meanSays : List ℕ → ℕ → Reading
 meanSays s c = gridSays s (8 + min c 2)
-
--- node i of component c, numbered from 0: the value 0 where there is no such node
-unfoldable pub nodeSays : List ℕ → ℕ → ℕ → Reading
-nodeSays s c i = cond (ltb i 16) (gridSays s (11 + 3 * i + min c 2)) (Value (pos 0))
-
--- the nodes of the cell k from the south and l from the west: node 4 i + j is that i from the north and j from the west
-abbrev pub nodesSaid : List ℕ → (c k l : ℕ) → Nodes
-nodesSaid s c k l =
-    record {
-      sw = nodeSays s c (4 * (3 - k) + l);
-      se = nodeSays s c (4 * (3 - k) + (l + 1));
-      nw = nodeSays s c (4 * (2 - k) + l);
-      ne = nodeSays s c (4 * (2 - k) + (l + 1));
-    }
-
-abbrev pub noNodes : Nodes
-noNodes = record { sw = Value (pos 0); se = Value (pos 0); nw = Value (pos 0); ne = Value (pos 0) }
-
--- the value 0 where there is no such cell
-unfoldable pub cellSays : List ℕ → (c k l : ℕ) → Nodes
-cellSays s c k l = cond (ltb 2 k || ltb 2 l) noNodes (nodesSaid s c k l)
-
--- the same of all three components
-abbrev pub cellsSay : List ℕ → (k l : ℕ) → Cells
-cellsSay s k l = record { north = cellSays s 0 k l; east = cellSays s 1 k l; height = cellSays s 2 k l }

@@ -16,8 +16,9 @@ use Rattle.grid_records.specs.Grids.{gridOf, frameOf, frameAt}
 use Rattle.wire.specs.Message.{row, kindRefusal}
 use Rattle.cell.specs.Cell.{weightsIn}
 use Rattle.cell.specs.declared.Weights.{Weights}
-use Rattle.grid_fields.specs.Fields.{gridSays, meanSays, cellSays}
-use Rattle.grid_fields.specs.declared.Nodes.{Nodes}
+use Rattle.grid_fields.specs.Fields.{gridSays, meanSays}
+use Rattle.grid_nodes.specs.NodeFields.{cellSays}
+use Rattle.grid_nodes.specs.declared.Nodes.{Nodes}
 use Rattle.position.specs.Position.{located, heldPlace}
 use Rattle.position.specs.declared.Located.{Located}
 use Rattle.position.proofs.Held.{held-place}

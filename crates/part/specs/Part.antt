@@ -9,7 +9,8 @@ use Rattle.grid_records.specs.Grids.{frameAt}
 use Rattle.wire.specs.Message.{kindRefusal}
 use Rattle.position.specs.Position.{heldPlace}
 use Rattle.cell.specs.Cell.{weightsIn}
-use Rattle.grid_fields.specs.Fields.{gridSays, meanSays, cellSays}
+use Rattle.grid_fields.specs.Fields.{gridSays, meanSays}
+use Rattle.grid_nodes.specs.NodeFields.{cellSays}
 use Rattle.grid.specs.Private.{cellShift}
 use Rattle.grid.specs.declared.Shift.{Shift}
 use Rattle.part.specs.declared.Counted.{Counted}

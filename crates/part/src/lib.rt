@@ -2,7 +2,7 @@
 use cell::Corners;
 use cell::Weights;
 use field::Reading;
-use grid_fields::Nodes;
+use grid_nodes::Nodes;
 use grid_records::Frame;
 ghost use mathlib.Core.Path.{_≡_};
 ghost use Prim.Native.Nat.{_≤_};
@@ -10,7 +10,7 @@ ghost use lib.IntN.{natAbs};
 ghost use Rattle.layout.specs.Layout.{valueIn};
 ghost use Rattle.grid_refusals.specs.Refusals.{available};
 ghost use Rattle.bilinear.specs.Bilinear.{lacks};
-ghost use Rattle.grid_fields.specs.Fields.{cellSays};
+ghost use Rattle.grid_nodes.specs.NodeFields.{cellSays};
 ghost use Rattle.grid.specs.Shift.{messageShift};
 ghost use Rattle.grid.specs.Private.{valuesIn, lacking, cellShift};
 ghost use Rattle.part.specs.Part.{counted, refusedWith, keptOf, countedBy};
@@ -103,7 +103,7 @@ fn cell_count(number: i64, component: u8, mean: Reading, n: Nodes, k: Weights) -
 fn nodes_of(message: &[u8], component: u8, row: u64, column: u64) -> Nodes
     ensures { λ r. ⌜ r ≡ cellSays (now (message .entry)) component row column ⌝ }
 {
-    let n = grid_fields::cells_at(message, row, column);
+    let n = grid_nodes::cells_at(message, row, column);
     if component == 0 {
         return n.north;
     }

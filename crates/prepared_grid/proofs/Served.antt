@@ -24,8 +24,9 @@ use Rattle.cell.specs.Cell.{alongOf, countBy}
 use Rattle.cell.specs.declared.Corners.{Corners}
 use Rattle.cell.specs.declared.Weights.{Weights}
 use Rattle.cell.proofs.Held.{along-steps, along-cell}
-use Rattle.grid_fields.specs.Fields.{meanSays, nodeSays, nodesSaid, cellSays}
-use Rattle.grid_fields.specs.declared.Nodes.{Nodes}
+use Rattle.grid_fields.specs.Fields.{meanSays}
+use Rattle.grid_nodes.specs.NodeFields.{nodeSays, nodesSaid, cellSays}
+use Rattle.grid_nodes.specs.declared.Nodes.{Nodes}
 use Rattle.position.specs.Position.{turn, halfTurn, byTurns, stepsOf, heightOf, widthOf, northFrom, eastFrom, frameHeld, placeTests, placeOf, heldPlace}
 use Rattle.position.specs.Private.{Fields}
 use Rattle.position.specs.declared.Located.{Located}

@@ -7,7 +7,7 @@ use lib.IntN.{ℤ}
 use Rattle.arith.specs.Row.{upTo, allBelow}
 use Rattle.layout.specs.Layout.{valueIn}
 use Rattle.grid_refusals.specs.Refusals.{available}
-use Rattle.grid_fields.specs.Fields.{nodeSays}
+use Rattle.grid_nodes.specs.NodeFields.{nodeSays}
 
 abbrev pub nodeValue : List ℕ → ℕ → ℕ → ℤ
 nodeValue s c i = valueIn (nodeSays s c i)

@@ -24,7 +24,7 @@ pub struct Prepared {
 fn node_value(message: &[u8], component: u8, node: usize) -> i64
     ensures { λ r. ⌜ r ≡ nodeValue (now (message .entry)) component node ⌝ }
 {
-    layout::value_in(grid_fields::node_at(message, component, node as u64))
+    layout::value_in(grid_nodes::node_at(message, component, node as u64))
 }
 
 // The values of the sixteen nodes.
@@ -54,7 +54,7 @@ pub fn nodes_there(message: &[u8], component: u8) -> bool
 {
     let mut k = 0;
     while k < 16 {
-        if !is_there(grid_fields::node_at(message, component, k)) {
+        if !is_there(grid_nodes::node_at(message, component, k)) {
             return false;
         }
         k += 1;

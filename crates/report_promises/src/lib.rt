@@ -13,13 +13,13 @@ ghost use Rattle.grid_refusals.specs.Refusals.{available};
 ghost use Rattle.prepared_grid.specs.Nodes.{nodeValues, nodesThere};
 ghost use Rattle.prepared_grid.specs.Edges.{preparedOf};
 
-pub fn cell_lacks(mean: field::Reading, n: grid_fields::Nodes, k: cell::Weights) -> bool
+pub fn cell_lacks(mean: field::Reading, n: grid_nodes::Nodes, k: cell::Weights) -> bool
     ensures { λ r. ⌜ r ≡ lacking mean n k ⌝ }
 {
     part::cell_lacks(mean, n, k)
 }
 
-pub fn values_of(n: grid_fields::Nodes) -> cell::Corners
+pub fn values_of(n: grid_nodes::Nodes) -> cell::Corners
     ensures { λ r. ⌜ r ≡ valuesIn n ⌝ }
 {
     part::values_of(n)

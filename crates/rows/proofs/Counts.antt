@@ -12,7 +12,8 @@ use Rattle.arith.proofs.Rows.{upTo-same}
 use Rattle.layout.specs.Layout.{valueIn}
 use Rattle.grid_records.specs.declared.Frame.{Frame}
 use Rattle.cell.specs.declared.Corners.{Corners}
-use Rattle.grid_fields.specs.Fields.{meanSays, cellSays}
+use Rattle.grid_fields.specs.Fields.{meanSays}
+use Rattle.grid_nodes.specs.NodeFields.{cellSays}
 use Rattle.position.specs.Position.{heldPlace}
 use Rattle.position.specs.declared.Located.{Located}
 use Rattle.grid.specs.Shift.{meanFactor, nodeFactor, messageShift}

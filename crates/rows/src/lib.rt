@@ -12,7 +12,8 @@ ghost use Rattle.arith.specs.Row.{upTo};
 ghost use Rattle.cell.specs.Cell.{sumOf};
 ghost use Rattle.cell.specs.Private.{Within, Most};
 ghost use Rattle.layout.specs.Layout.{valueIn};
-ghost use Rattle.grid_fields.specs.Fields.{meanSays, cellSays};
+ghost use Rattle.grid_fields.specs.Fields.{meanSays};
+ghost use Rattle.grid_nodes.specs.NodeFields.{cellSays};
 ghost use Rattle.grid.specs.Shift.{meanFactor, nodeFactor};
 ghost use Rattle.grid.specs.Private.{valuesIn};
 ghost use Rattle.shift_row_refusals.specs.Row.{shiftRowRefusal, shiftRowFilled};
@@ -101,7 +102,7 @@ fn fill_run(row: &mut [i64], message: &[u8], number: i64, component: u8, p: Loca
     ensures { λ _. ⌜ now (row .exit) ≡ upTo (cellCounts (pos meanFactor *ℤ valueIn (meanSays (now (message .entry)) component)) (nodeFactor number component) (p .height) (p .width) (p .north) (p .east) step (valuesIn (cellSays (now (message .entry)) component (p .row) (p .column)))) (length (now (row .entry))) ⌝ }
 {
     let mean = grid_fields::mean_at(message, component);
-    let n = grid_fields::nodes_at(message, component, p.row, p.column);
+    let n = grid_nodes::nodes_at(message, component, p.row, p.column);
     let factor = grid::factor_of(number, component);
     fill_cell(
         row,

@@ -6,7 +6,8 @@ ghost use lib.ListN.{length};
 ghost use Rattle.arith.specs.First.{first};
 ghost use Rattle.field.specs.Field.{fieldAt, signedAt};
 ghost use Rattle.grid_records.specs.Grids.{frameAt, shiftsAt};
-ghost use Rattle.grid_fields.specs.Fields.{gridSays, meanSays, nodeSays, cellSays, cellsSay};
+ghost use Rattle.grid_fields.specs.Fields.{gridSays, meanSays};
+ghost use Rattle.grid_nodes.specs.NodeFields.{nodeSays, cellSays, cellsSay};
 ghost use Rattle.cell.specs.Cell.{alongOf, sumIn, weightsIn, countBy};
 ghost use Rattle.position.specs.Position.{heldPlace, heldSides};
 ghost use Rattle.grid_refusals.specs.Refusals.{beyond, fieldTests};
@@ -52,10 +53,10 @@ pub fn locate_sides(f: grid_records::Frame, north: i64, east: i64) -> position::
     position::locate_sides(f, north, east)
 }
 
-pub fn nodes_at(s: &[u8], component: u8, row: u64, column: u64) -> grid_fields::Nodes
+pub fn nodes_at(s: &[u8], component: u8, row: u64, column: u64) -> grid_nodes::Nodes
     ensures { λ r. ⌜ r ≡ cellSays (now (s .entry)) component row column ⌝ }
 {
-    grid_fields::nodes_at(s, component, row, column)
+    grid_nodes::nodes_at(s, component, row, column)
 }
 
 pub fn position_refusal(component: u8, number: i64, north: i64, east: i64) -> u8
@@ -88,10 +89,10 @@ pub fn means_at(s: &[u8]) -> grid_records::Shifts
     grid_fields::means_at(s)
 }
 
-pub fn cells_at(s: &[u8], row: u64, column: u64) -> grid_fields::Cells
+pub fn cells_at(s: &[u8], row: u64, column: u64) -> grid_nodes::Cells
     ensures { λ r. ⌜ r ≡ cellsSay (now (s .entry)) row column ⌝ }
 {
-    grid_fields::cells_at(s, row, column)
+    grid_nodes::cells_at(s, row, column)
 }
 
 pub fn field_at(s: &[u8], p: usize, w: usize) -> u64
@@ -109,7 +110,7 @@ pub fn signed_at(s: &[u8], p: usize, w: usize) -> field::Reading
 pub fn node_at(s: &[u8], component: u8, node: u64) -> field::Reading
     ensures { λ r. ⌜ r ≡ nodeSays (now (s .entry)) component node ⌝ }
 {
-    grid_fields::node_at(s, component, node)
+    grid_nodes::node_at(s, component, node)
 }
 
 pub fn shifts_at(s: &[u8], north: i64, east: i64) -> grid::ThreeShifts

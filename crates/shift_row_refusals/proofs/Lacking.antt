@@ -14,7 +14,7 @@ use Rattle.arith.proofs.Tests.{all-stops}
 use Rattle.field.specs.declared.Reading.{Reading}
 use Rattle.bilinear.specs.Bilinear.{lacks}
 use Rattle.grid_refusals.specs.Refusals.{available}
-use Rattle.grid_fields.specs.declared.Nodes.{Nodes}
+use Rattle.grid_nodes.specs.declared.Nodes.{Nodes}
 use Rattle.shift_row_refusals.specs.Private.{lackingAt}
 
 -- a node that is not lacked where it has weight, is not lacked at all

@@ -17,8 +17,9 @@ use Rattle.grid_records.specs.declared.Grid.{Grid}
 use Rattle.grid_records.specs.Grids.{gridOf, frameOf, frameAt}
 use Rattle.wire.specs.Message.{row, kindRefusal}
 use Rattle.grid_refusals.specs.Refusals.{beyond}
-use Rattle.grid_fields.specs.Fields.{gridSays, meanSays, cellSays}
-use Rattle.grid_fields.specs.declared.Nodes.{Nodes}
+use Rattle.grid_fields.specs.Fields.{gridSays, meanSays}
+use Rattle.grid_nodes.specs.NodeFields.{cellSays}
+use Rattle.grid_nodes.specs.declared.Nodes.{Nodes}
 use Rattle.position.specs.Position.{placeTests, located, heldPlace}
 use Rattle.position.specs.declared.Located.{Located}
 use Rattle.position.proofs.Held.{held-place}

@@ -13,7 +13,7 @@ use Rattle.grid_records.specs.Grids.{frameAt}
 use Rattle.wire.specs.Message.{kindRefusal}
 use Rattle.cell.specs.Cell.{weightsOf}
 use Rattle.grid_fields.specs.Fields.{gridSays}
-use Rattle.grid_fields.specs.declared.Nodes.{Nodes}
+use Rattle.grid_nodes.specs.declared.Nodes.{Nodes}
 use Rattle.grid_refusals.specs.Refusals.{beyond}
 use Rattle.grid.specs.Shift.{messageShift}
 use Rattle.grid.specs.Private.{lacking}

@@ -1,6 +1,6 @@
 // The refusal of a row of shifts at equal steps east.
 use field::Reading;
-use grid_fields::Nodes;
+use grid_nodes::Nodes;
 use grid_records::Frame;
 ghost use mathlib.Core.Path.{_≡_};
 ghost use mathlib.Core.Bool.{not, cond};
@@ -84,7 +84,7 @@ fn look(
     }
     let places = places_in(left, p.width, p.east, step);
     let mean = grid_fields::mean_at(message, component);
-    let n = grid_fields::nodes_at(message, component, p.row, p.column);
+    let n = grid_nodes::nodes_at(message, component, p.row, p.column);
     Run {
         refusal: run_refusal(mean, n, p.height, p.width, p.north, p.east, step, places),
         places,

@@ -22,8 +22,9 @@ use Rattle.cell.specs.declared.Corners.{Corners}
 use Rattle.cell.specs.declared.Weights.{Weights}
 use Rattle.cell.proofs.Held.{four, most-of}
 use Rattle.cell.proofs.Sum.{near-by-most}
-use Rattle.grid_fields.specs.Fields.{meanSays, cellSays}
-use Rattle.grid_fields.specs.declared.Nodes.{Nodes}
+use Rattle.grid_fields.specs.Fields.{meanSays}
+use Rattle.grid_nodes.specs.NodeFields.{cellSays}
+use Rattle.grid_nodes.specs.declared.Nodes.{Nodes}
 use Rattle.position.specs.Position.{heldPlace}
 use Rattle.grid.specs.Shift.{meanFactor, nodeFactor, gridTests, shiftRefusal, outcome, shiftWith, messageShift}
 use Rattle.grid.specs.Private.{lacking, valuesIn, countAt, cellShift}

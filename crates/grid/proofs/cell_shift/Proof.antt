@@ -14,7 +14,7 @@ use Rattle.bilinear.specs.Bilinear.{lacks}
 use Rattle.cell.specs.declared.Corners.{Corners}
 use Rattle.grid_refusals.specs.Refusals.{available}
 use Rattle.grid.specs.Private.{Bounded, asked, valuesIn}
-use Rattle.grid_fields.specs.declared.Nodes.{Nodes}
+use Rattle.grid_nodes.specs.declared.Nodes.{Nodes}
 use Rattle.cell.specs.declared.Weights.{Weights}
 use Rattle.grid.proofs.Parts.{missing, given, mean-out, sw-out, se-out, nw-out, ne-out, all-in}
 use Rattle.grid.proofs.cell_shift.Statement.{statement}

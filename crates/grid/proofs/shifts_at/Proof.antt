@@ -16,10 +16,11 @@ use Rattle.grid_records.specs.declared.Frame.{Frame}
 use Rattle.grid_records.specs.declared.Grid.{Grid}
 use Rattle.grid_records.specs.declared.Shifts.{Shifts}
 use Rattle.grid_records.specs.Grids.{gridOf, frameOf, shiftsAt}
-use Rattle.grid_fields.specs.Fields.{meanSays, cellSays, cellsSay}
+use Rattle.grid_fields.specs.Fields.{meanSays}
+use Rattle.grid_nodes.specs.NodeFields.{cellSays, cellsSay}
 use Rattle.grid_fields.proofs.Says.{grid-long}
-use Rattle.grid_fields.specs.declared.Nodes.{Nodes}
-use Rattle.grid_fields.specs.declared.Cells.{Cells}
+use Rattle.grid_nodes.specs.declared.Nodes.{Nodes}
+use Rattle.grid_nodes.specs.declared.Cells.{Cells}
 use Rattle.wire.specs.Message.{row, kindRefusal}
 use Rattle.cell.specs.declared.Weights.{Weights}
 use Rattle.position.specs.Position.{heldSides}

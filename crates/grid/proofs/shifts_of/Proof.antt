@@ -15,7 +15,7 @@ use Rattle.field.specs.declared.Reading.{Reading}
 use Rattle.grid_records.specs.declared.Frame.{Frame}
 use Rattle.grid_records.specs.declared.Grid.{Grid}
 use Rattle.grid_records.specs.Grids.{frameOf}
-use Rattle.grid_fields.specs.declared.Nodes.{Nodes}
+use Rattle.grid_nodes.specs.declared.Nodes.{Nodes}
 use Rattle.message.specs.Kinds.{gridHeld}
 use Rattle.cell.specs.declared.Weights.{Weights}
 use Rattle.position.specs.Position.{heldSides}

@@ -5,9 +5,9 @@ use mathlib.Core.List.{List}
 use Prim.Native.Nat.{ℕ, zero, suc, _≤_, min}
 use native.Mathlib.Omega.{arith}
 use borrow.Author.Needs.{needs}
-use Rattle.grid_fields.specs.Fields.{nodeSays, cellSays}
-use Rattle.grid_fields.specs.declared.Cells.{Cells}
-use Rattle.grid_fields.specs.declared.Nodes.{Nodes}
+use Rattle.grid_nodes.specs.NodeFields.{nodeSays, cellSays}
+use Rattle.grid_nodes.specs.declared.Cells.{Cells}
+use Rattle.grid_nodes.specs.declared.Nodes.{Nodes}
 use Rattle.part.proofs.nodes_of.Statement.{statement}
 use Rattle.part.proofs.nodes_of.Tie as tie
 

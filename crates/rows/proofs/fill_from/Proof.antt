@@ -12,7 +12,8 @@ use Rattle.arith.specs.Row.{upTo}
 use Rattle.arith.proofs.Back.{held}
 use Rattle.arith.proofs.Machine.{Num, cast, fits, is-back}
 use Rattle.layout.specs.Layout.{valueIn}
-use Rattle.grid_fields.specs.Fields.{meanSays, cellSays}
+use Rattle.grid_fields.specs.Fields.{meanSays}
+use Rattle.grid_nodes.specs.NodeFields.{cellSays}
 use Rattle.position.specs.Position.{heldPlace}
 use Rattle.position.specs.declared.Located.{Located}
 use Rattle.grid.specs.Shift.{meanFactor, nodeFactor}

@@ -13,8 +13,9 @@ use Rattle.arith.proofs.Machine.{Num, lit, result, mul, fits, is-back}
 use Rattle.field.specs.declared.Reading.{Reading}
 use Rattle.layout.specs.Layout.{valueIn}
 use Rattle.cell.specs.declared.Corners.{Corners}
-use Rattle.grid_fields.specs.Fields.{meanSays, cellSays}
-use Rattle.grid_fields.specs.declared.Nodes.{Nodes}
+use Rattle.grid_fields.specs.Fields.{meanSays}
+use Rattle.grid_nodes.specs.NodeFields.{cellSays}
+use Rattle.grid_nodes.specs.declared.Nodes.{Nodes}
 use Rattle.position.specs.declared.Located.{Located}
 use Rattle.grid.specs.Shift.{nodeFactor}
 use Rattle.grid.specs.Private.{valuesIn}

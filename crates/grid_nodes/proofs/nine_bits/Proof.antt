@@ -1,4 +1,4 @@
--- `grid_fields::nine_bits` meets its contract.
+-- `grid_nodes::nine_bits` meets its contract.
 -- Assumes nothing.
 use mathlib.Core.Path.{_≡_, sym, ap, _∙_, subst}
 use Prim.Native.Nat.{ℕ, _/_, _%_, _^_, _<_}
@@ -12,8 +12,8 @@ use Rattle.field.specs.Field.{signedOf, twos}
 use Rattle.field.specs.declared.Reading.the-variants.{Value}
 use Rattle.field.proofs.Sign.{twos-moved, twos-fits}
 use borrow.Author.Needs.{needs}
-use Rattle.grid_fields.proofs.nine_bits.Statement.{statement}
-use Rattle.grid_fields.proofs.nine_bits.Tie as tie
+use Rattle.grid_nodes.proofs.nine_bits.Statement.{statement}
+use Rattle.grid_nodes.proofs.nine_bits.Tie as tie
 
 returns : tie.Need-returns
 unfolding signedOf

@@ -1,8 +1,8 @@
--- `grid_fields::components_of` meets its contract.
+-- `grid_nodes::components_of` meets its contract.
 -- Assumes nothing.
 use borrow.Author.Needs.{needs}
-use Rattle.grid_fields.proofs.components_of.Statement.{statement}
-use Rattle.grid_fields.proofs.components_of.Tie as tie
+use Rattle.grid_nodes.proofs.components_of.Statement.{statement}
+use Rattle.grid_nodes.proofs.components_of.Tie as tie
 
 returns : tie.Need-returns
 returns c =

@@ -1,9 +1,9 @@
--- `grid_fields::node_bit` meets its contract.
+-- `grid_nodes::node_bit` meets its contract.
 -- Assumes nothing.
 use native.Mathlib.Omega.{arith}
 use borrow.Author.Needs.{needs}
-use Rattle.grid_fields.proofs.node_bit.Statement.{statement}
-use Rattle.grid_fields.proofs.node_bit.Tie as tie
+use Rattle.grid_nodes.proofs.node_bit.Statement.{statement}
+use Rattle.grid_nodes.proofs.node_bit.Tie as tie
 
 returns : tie.Need-returns
 returns c = omega (arith, c .if1 .taken)

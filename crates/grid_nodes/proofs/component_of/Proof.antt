@@ -1,8 +1,8 @@
--- `grid_fields::component_of` meets its contract.
+-- `grid_nodes::component_of` meets its contract.
 -- Assumes nothing.
 use borrow.Author.Needs.{needs}
-use Rattle.grid_fields.proofs.component_of.Statement.{statement}
-use Rattle.grid_fields.proofs.component_of.Tie as tie
+use Rattle.grid_nodes.proofs.component_of.Statement.{statement}
+use Rattle.grid_nodes.proofs.component_of.Tie as tie
 
 returns : tie.Need-returns
 returns c =

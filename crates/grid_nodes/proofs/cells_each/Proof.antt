@@ -1,8 +1,8 @@
--- `grid_fields::cells_each` meets its contract.
+-- `grid_nodes::cells_each` meets its contract.
 -- Assumes nothing.
 use borrow.Author.Needs.{needs}
-use Rattle.grid_fields.proofs.cells_each.Statement.{statement}
-use Rattle.grid_fields.proofs.cells_each.Tie as tie
+use Rattle.grid_nodes.proofs.cells_each.Statement.{statement}
+use Rattle.grid_nodes.proofs.cells_each.Tie as tie
 
 returns : tie.Need-returns
 returns c =

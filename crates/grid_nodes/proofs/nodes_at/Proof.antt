@@ -1,11 +1,11 @@
--- `grid_fields::nodes_at` meets its contract.
+-- `grid_nodes::nodes_at` meets its contract.
 -- Assumes nothing.
 use mathlib.Core.Path.{_∙_}
 use borrow.Author.Needs.{needs}
 use borrow.Author.Tests.{lt-ltb, le-ltb}
-use Rattle.grid_fields.specs.Fields.{cellSays}
-use Rattle.grid_fields.proofs.nodes_at.Statement.{statement}
-use Rattle.grid_fields.proofs.nodes_at.Tie as tie
+use Rattle.grid_nodes.specs.NodeFields.{cellSays}
+use Rattle.grid_nodes.proofs.nodes_at.Statement.{statement}
+use Rattle.grid_nodes.proofs.nodes_at.Tie as tie
 
 returns : tie.Need-returns
 unfolding cellSays

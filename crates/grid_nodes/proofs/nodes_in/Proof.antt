@@ -1,4 +1,4 @@
--- `grid_fields::nodes_in` meets its contract.
+-- `grid_nodes::nodes_in` meets its contract.
 -- Assumes nothing.
 use mathlib.Core.Path.{_≡_, ap, _∙_}
 use mathlib.Core.List.{List}
@@ -6,9 +6,9 @@ use Prim.Native.Nat.{ℕ, _+_}
 use native.Mathlib.Nat.{add-assoc}
 use borrow.Author.Needs.{needs}
 use Rattle.field.specs.declared.Reading.{Reading}
-use Rattle.grid_fields.specs.Fields.{nodeSays}
-use Rattle.grid_fields.proofs.nodes_in.Statement.{statement}
-use Rattle.grid_fields.proofs.nodes_in.Tie as tie
+use Rattle.grid_nodes.specs.NodeFields.{nodeSays}
+use Rattle.grid_nodes.proofs.nodes_in.Statement.{statement}
+use Rattle.grid_nodes.proofs.nodes_in.Tie as tie
 
 next : (s : List ℕ) (c a l : ℕ) {r : Reading} → r ≡ nodeSays s c (a + l + 1) → r ≡ nodeSays s c (a + (l + 1))
 next s c a l h = h ∙ ap (nodeSays s c) (add-assoc a l 1)

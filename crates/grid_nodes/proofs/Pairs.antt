@@ -11,9 +11,11 @@ use borrow.Author.Tests.{lt-ltb, le-ltb}
 use Rattle.field.specs.Field.{field, fieldAt, signedAt, signedOf}
 use Rattle.field.proofs.Bit.{field-part}
 use Rattle.field.proofs.Place.{field-inside}
-use Rattle.grid_fields.specs.Fields.{gridSays, nodeSays, cellSays}
-use Rattle.grid_fields.specs.Private.{firstBit, componentOf}
-use Rattle.grid_fields.proofs.Table.{grid-1023, grid-1024, node-1023, node-1024}
+use Rattle.grid_fields.specs.Fields.{gridSays}
+use Rattle.grid_fields.proofs.Table.{grid-1023, grid-1024}
+use Rattle.grid_nodes.specs.NodeFields.{nodeSays, cellSays}
+use Rattle.grid_nodes.specs.Private.{firstBit, componentOf}
+use Rattle.grid_nodes.proofs.Table.{node-1023, node-1024}
 
 -- the 9 bits of 54 that have r below them
 part : (s : List ℕ) (p o r : ℕ) → o + 9 + r ≡ 54 → p ≤ 65000 → p + 54 ≤ 8 * length s → fieldAt s p 54 / 2 ^ r % 2 ^ 9 ≡ fieldAt s (p + o) 9
@@ -38,7 +40,7 @@ unfolding firstBit
 node-by s i c h true e = rw e (sym (grid-1023 s e (11 + 3 * i + min c 2)) ∙ node-1023 s i c h)
 node-by s i c h false e = rw e (sym (grid-1024 s e (11 + 3 * i + min c 2)) ∙ node-1024 s i c h)
 
-node-at-bit : (s : List ℕ) (i c : ℕ) → i < 16 → nodeSays s c i ≡ signedAt s (firstBit s + 9 * (3 * i + min c 2)) 9
+pub node-at-bit : (s : List ℕ) (i c : ℕ) → i < 16 → nodeSays s c i ≡ signedAt s (firstBit s + 9 * (3 * i + min c 2)) 9
 unfolding nodeSays
 node-at-bit s i c h = rw (lt-ltb i 16 h) (node-by s i c h (eqb (fieldAt s 0 12) 1023) refl)
 

@@ -1,14 +1,14 @@
--- `grid_fields::cells_in` meets its contract: each two nodes side by side are one number.
+-- `grid_nodes::cells_in` meets its contract: each two nodes side by side are one number.
 -- Assumes nothing.
 use mathlib.Core.Path.{_≡_, refl, ap, _∙_}
 use Prim.Native.Nat.{ℕ, _+_, _-_, _*_}
 use native.Mathlib.Omega.{arith}
 use borrow.Author.Needs.{needs}
 use Rattle.field.specs.Field.{fieldAt}
-use Rattle.grid_fields.specs.Private.{firstBit, componentsOf}
-use Rattle.grid_fields.proofs.Pairs.{first-most, cell-said}
-use Rattle.grid_fields.proofs.cells_in.Statement.{statement}
-use Rattle.grid_fields.proofs.cells_in.Tie as tie
+use Rattle.grid_nodes.specs.Private.{firstBit, componentsOf}
+use Rattle.grid_nodes.proofs.Pairs.{first-most, cell-said}
+use Rattle.grid_nodes.proofs.cells_in.Statement.{statement}
+use Rattle.grid_nodes.proofs.cells_in.Tie as tie
 
 add-south-2 : tie.Need-add-south-2
 add-south-2 c =

@@ -1,0 +1,2 @@
+pub mod NodeFields
+pub mod Private
