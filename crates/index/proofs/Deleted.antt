@@ -8,10 +8,10 @@ use mathlib.Core.List.{List}
 use lib.ListN.{List·getD-eq-default}
 use Rattle.index_search.specs.Index.{entries, entrySize, byteAt, ownerAt, slotAt, above, keyAt}
 use Rattle.index.specs.Change.{takenOut, deleted}
-use Rattle.index_agreement.specs.Means.{Keys, Entry, Agrees}
+use Rattle.index_search.specs.Means.{Keys, Entry, Agrees}
 use Rattle.index.proofs.Change.{delete-none, delete-has}
 use Rattle.index.proofs.Bytes.{length-takenOut}
-use Rattle.index_agreement.proofs.Found.{one-place}
+use Rattle.index_search.proofs.Found.{one-place}
 use Rattle.index.proofs.Moved.{Same, same-owner, same-slot, same-key, out-early, out-late}
 use Rattle.index.proofs.Inserted.{has-entry, has-no-entry, used-small}
 

@@ -15,7 +15,7 @@ use Rattle.neighbour.specs.Neighbour.{ofOwner, atMost, keptAfter, none}
 use Rattle.index_search.specs.Index.{keyAt, slotAt}
 use Rattle.index_search.specs.Index as index
 use Rattle.index_search.specs.Search.{searched}
-use Rattle.index_agreement.specs.Means.{markIn, Agrees}
+use Rattle.index_search.specs.Means.{markIn, Agrees}
 use Rattle.indexed_table.specs.Indexed.{entryKey, slotKey, slotKeys, agreesRefusal, writeRefusal, writeIndex}
 use Rattle.indexed_table.specs.Find.{findNumber, foundBy, part}
 use Rattle.index_history.specs.Named.{named, entriesAt}

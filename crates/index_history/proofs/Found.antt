@@ -18,9 +18,9 @@ use Rattle.table.proofs.Calls as walk
 use Rattle.history.proofs.Look.{place-of}
 use Rattle.index_search.specs.Index.{above}
 use Rattle.index_search.specs.Search.{searched}
-use Rattle.index_agreement.specs.Agree.{agree}
+use Rattle.index_search.specs.Agree.{agree}
 use Rattle.index_search.specs.declared.Probe.{Probe}
-use Rattle.index_agreement.proofs.Agree.{index-sized}
+use Rattle.index_search.proofs.Agree.{index-sized}
 use Rattle.index.proofs.Laws.{slot-found, none-found}
 use Rattle.indexed_table.specs.Indexed.{entryKey, slotKeys}
 use Rattle.indexed_table.specs.Find.{probed, findNumber, partAt, partLength, foundBy}

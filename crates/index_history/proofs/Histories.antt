@@ -23,10 +23,10 @@ use Rattle.history.specs.Dict as plain-dict
 use Rattle.history.proofs.Replies.{fresh-formed}
 use Rattle.index_search.specs.Index.{indexSize}
 use Rattle.index_search.specs.Search.{searched}
-use Rattle.index_agreement.specs.Agree.{agree}
-use Rattle.index_agreement.specs.Means.{markIn}
+use Rattle.index_search.specs.Agree.{agree}
+use Rattle.index_search.specs.Means.{markIn}
 use Rattle.index_search.specs.declared.Probe.{Probe}
-use Rattle.index_agreement.proofs.Agree.{tests}
+use Rattle.index_search.proofs.Agree.{tests}
 use Rattle.index_search.proofs.Turns.{search-looks}
 use Rattle.index.specs.Change.{zeros, rebuilt}
 use Rattle.index.proofs.Rebuilt.{empty-agrees}

@@ -20,7 +20,7 @@ use Rattle.table.specs.Table.{put}
 use Rattle.table.proofs.Whole.{Formed}
 use Rattle.history.proofs.Look.{distinct-at}
 use Rattle.history.proofs.Put.{slot-same, slot-other, held-slotOf}
-use Rattle.index_agreement.specs.Means.{IsKey, markIn, Keys}
+use Rattle.index_search.specs.Means.{IsKey, markIn, Keys}
 use Rattle.indexed_table.specs.Indexed.{entryKey, messageKey, slotKey, slotKeyAt, slotKeys}
 use Rattle.indexed_table.proofs.Slots.{key-free, key-used}
 

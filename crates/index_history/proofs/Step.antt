@@ -23,8 +23,8 @@ use Rattle.history.specs.Dict as plain-dict
 use Rattle.history.proofs.Look.{place-of}
 use Rattle.history.proofs.Step.{group-low, key-at}
 use Rattle.history.proofs.Last.{keep}
-use Rattle.index_agreement.specs.Agree.{agree}
-use Rattle.index_agreement.specs.Means.{IsKey}
+use Rattle.index_search.specs.Agree.{agree}
+use Rattle.index_search.specs.Means.{IsKey}
 use Rattle.index.specs.Change.{inserted, deleted}
 use Rattle.index.proofs.Laws.{stored-new, stored-again, removed}
 use Rattle.indexed_table.specs.Indexed.{entryKey, messageKey, slotKey, slotKeys, agreesRefusal, storedTable, storedIndex, removedTable, removedIndex}

@@ -1,7 +1,7 @@
 // Every public function of the index and of the table with its index, called once with its promise restated: a promise that is weakened there is missed here.
 ghost use mathlib.Core.Path.{_≡_};
 ghost use Rattle.index_search.specs.Search.{searched};
-ghost use Rattle.index_agreement.specs.Agree.{agree};
+ghost use Rattle.index_search.specs.Agree.{agree};
 ghost use Rattle.index_search.specs.Place.{placed};
 ghost use Rattle.index.specs.Change.{inserted, deleted, rebuilt};
 ghost use Rattle.indexed_table.specs.Indexed.{agreesRefusal, writeRefusal, writeIndex, storeNumber, storedTable, storedIndex, removeNumber, removedTable, removedIndex};
@@ -17,7 +17,7 @@ pub fn search(x: &[u8], key: u64) -> index_search::Probe
 pub fn keys_agree(keys: &[u64], x: &[u8]) -> bool
     ensures { λ r. ⌜ r ≡ agree (now (keys .entry)) (now (x .entry)) ⌝ }
 {
-    index_agreement::agrees(keys, x)
+    index_search::agrees(keys, x)
 }
 
 pub fn place_of(x: &[u8], key: u64) -> index_search::KeyPlace

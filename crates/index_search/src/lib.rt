@@ -1,10 +1,12 @@
-// An index beside the table in 128 bytes: 32 entries of owner, SIN, group and slot, sorted. What is read of it: the binary search, and the place of a key.
+// An index beside the table in 128 bytes: 32 entries of owner, SIN, group and slot, sorted. What is read of it: the binary search, and whether it agrees with a table.
 ghost use mathlib.Core.Path.{_≡_};
 ghost use Prim.Native.Nat.{_<_};
 ghost use lib.ListN.{length};
 ghost use lib.Dec.{eqb, ltb};
+ghost use Rattle.arith.specs.Row.{allBelow};
 ghost use Rattle.index_search.specs.Index.{entries, entrySize, indexSize, byteAt, numberAt, keyAt};
 ghost use Rattle.index_search.specs.Search.{missedAfter, metAfter, binarySearch, searched};
+ghost use Rattle.index_search.specs.Agree.{blankAt, inOrder, isTrue, isEntry, entryPlace, isListed, agreeAt, agree};
 ghost use Rattle.index_search.specs.Place.{keyPlace, hasKey, placed};
 
 pub const ENTRIES: usize = 32;
@@ -113,6 +115,130 @@ pub fn search(index: &[u8], key: u64) -> Probe
         return missed(0);
     }
     binary_search(index, key)
+}
+
+// Whether all bytes of entry j are zero.
+fn is_blank(index: &[u8], j: usize) -> bool
+    requires { ⌜ (length (now index) ≡ indexSize) × (j < entries) ⌝ }
+    ensures { λ r. ⌜ r ≡ blankAt (now (index .entry)) j ⌝ }
+{
+    let mut b = 0;
+    while b < ENTRY_SIZE {
+        if byte_at(index, j, b) != 0 {
+            return false;
+        }
+        b += 1;
+    }
+    true
+}
+
+// Whether entry j is unused, the first, or above the one before it.
+fn in_order(index: &[u8], j: usize) -> bool
+    requires { ⌜ (length (now index) ≡ indexSize) × (j < entries) ⌝ }
+    ensures { λ r. ⌜ r ≡ inOrder (now (index .entry)) j ⌝ }
+{
+    if byte_at(index, j, 0) == 0 {
+        return true;
+    }
+    if j == 0 {
+        return true;
+    }
+    is_below(index, j - 1, number_at(index, j))
+}
+
+// Whether entry j is zero where it is unused, and else its slot has its key.
+fn is_true(marks: &[u64], index: &[u8], j: usize) -> bool
+    requires { ⌜ (length (now marks) ≡ entries) × ((length (now index) ≡ indexSize) × (j < entries)) ⌝ }
+    ensures { λ r. ⌜ r ≡ isTrue (now (marks .entry)) (now (index .entry)) j ⌝ }
+{
+    if byte_at(index, j, 0) == 0 {
+        return is_blank(index, j);
+    }
+    let slot = byte_at(index, j, 3) as usize;
+    if ENTRIES <= slot {
+        return false;
+    }
+    is_key(index, j, marks[slot])
+}
+
+// Whether entry j has the key and the slot.
+fn is_entry(index: &[u8], key: u64, slot: usize, j: usize) -> bool
+    requires { ⌜ (length (now index) ≡ indexSize) × (j < entries) ⌝ }
+    ensures { λ r. ⌜ r ≡ isEntry (now (index .entry)) key slot j ⌝ }
+{
+    if !is_key(index, j, key) {
+        return false;
+    }
+    byte_at(index, j, 3) as usize == slot
+}
+
+// The first entry with the key and the slot, 32 where there is none.
+fn entry_place(index: &[u8], key: u64, slot: usize) -> usize
+    requires { ⌜ length (now index) ≡ indexSize ⌝ }
+    ensures { λ r. ⌜ r ≡ entryPlace (now (index .entry)) key slot ⌝ }
+{
+    let mut j = 0;
+    while j < ENTRIES {
+        if is_entry(index, key, slot, j) {
+            return j;
+        }
+        j += 1;
+    }
+    ENTRIES
+}
+
+// Whether slot i is free or has an entry.
+fn is_listed(marks: &[u64], index: &[u8], i: usize) -> bool
+    requires { ⌜ (length (now marks) ≡ entries) × ((length (now index) ≡ indexSize) × (i < entries)) ⌝ }
+    ensures { λ r. ⌜ r ≡ isListed (now (marks .entry)) (now (index .entry)) i ⌝ }
+{
+    let key = marks[i];
+    if key == 0 {
+        return true;
+    }
+    entry_place(index, key, i) < ENTRIES
+}
+
+// Whether entry i and slot i are as they agree.
+fn agree_at(marks: &[u64], index: &[u8], i: usize) -> bool
+    requires { ⌜ (length (now marks) ≡ entries) × ((length (now index) ≡ indexSize) × (i < entries)) ⌝ }
+    ensures { λ r. ⌜ r ≡ agreeAt (now (marks .entry)) (now (index .entry)) i ⌝ }
+{
+    if !in_order(index, i) {
+        return false;
+    }
+    if !is_true(marks, index, i) {
+        return false;
+    }
+    is_listed(marks, index, i)
+}
+
+// Whether all entries and slots are as they agree.
+fn all_agree(marks: &[u64], index: &[u8]) -> bool
+    requires { ⌜ (length (now marks) ≡ entries) × (length (now index) ≡ indexSize) ⌝ }
+    ensures { λ r. ⌜ r ≡ allBelow (agreeAt (now (marks .entry)) (now (index .entry))) entries ⌝ }
+{
+    let mut i = 0;
+    while i < ENTRIES {
+        if !agree_at(marks, index, i) {
+            return false;
+        }
+        i += 1;
+    }
+    true
+}
+
+// Whether the index agrees with a table that has the marks.
+pub fn agrees(marks: &[u64], index: &[u8]) -> bool
+    ensures { λ r. ⌜ r ≡ agree (now (marks .entry)) (now (index .entry)) ⌝ }
+{
+    if marks.len() != ENTRIES {
+        return false;
+    }
+    if index.len() != INDEX_SIZE {
+        return false;
+    }
+    all_agree(marks, index)
 }
 
 // The first entry that is not below the key, 32 where all are.

@@ -23,7 +23,7 @@ use Rattle.table.specs.Table.{place, holding, wellFormed, storePlace, storeRefu
 use Rattle.table.proofs.Marks.{row-place}
 use Rattle.table.proofs.Calls.{store-order, store-kept, remove-kept, storePlace-old, storePlace-new, storePlace-most}
 use Rattle.index_search.specs.Index.{indexSize}
-use Rattle.index_agreement.specs.Agree.{agree}
+use Rattle.index_search.specs.Agree.{agree}
 use Rattle.index.specs.Change.{inserted, deleted, rebuilt}
 use Rattle.indexed_table.specs.Indexed.{entryKey, messageKey, slotKeys, agreesRefusal, writeRefusal, writeIndex, behind, storeNumber, storedTable, storedIndex, removeNumber, removedTable, removedIndex}
 use Rattle.indexed_table.specs.Find.{probed, usedBy, findNumber, given, partAt, partLength, foundBy}

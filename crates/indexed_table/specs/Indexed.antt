@@ -11,7 +11,7 @@ use Rattle.wire.specs.Message.{numberOf, sinOf}
 use Rattle.slots.specs.Slots.{slots, groupOf, slot, held}
 use Rattle.table.specs.Table.{wellFormed, storePlace, storeRefusal, storeTable, findRefusal, removeTable}
 use Rattle.index_search.specs.Index.{indexSize}
-use Rattle.index_agreement.specs.Agree.{agree}
+use Rattle.index_search.specs.Agree.{agree}
 use Rattle.index.specs.Change.{inserted, deleted, rebuilt}
 
 -- ---- keys: "owner, SIN, group" as one number, so that the order of the numbers is that of the three

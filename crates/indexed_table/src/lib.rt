@@ -63,7 +63,7 @@ fn agreement(table: &[u8], row: &[usize; SLOTS], index: &[u8]) -> u8
         return TABLE;
     }
     let keys = mark_keys(row);
-    if !index_agreement::agrees(&keys, index) {
+    if !index_search::agrees(&keys, index) {
         return INDEX;
     }
     0

@@ -6,7 +6,7 @@ use mathlib.Core.Path.{_≡_, refl, sym, ap, _∙_}
 use mathlib.Core.List.{List}
 use Rattle.slots.specs.Slots.{slots, slot}
 use Rattle.table.proofs.Whole.{formed}
-use Rattle.index_agreement.proofs.Agree as tested
+use Rattle.index_search.proofs.Agree as tested
 use Rattle.index.proofs.Laws.{one-listed}
 use Rattle.indexed_table.specs.Indexed.{slotKey, slotKeys}
 use Rattle.indexed_table.proofs.Calls.{agrees-passed, agrees-done}

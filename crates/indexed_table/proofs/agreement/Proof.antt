@@ -4,7 +4,7 @@ use mathlib.Core.Path.{_≡_, sym, ap, _∙_}
 use mathlib.Core.List.{List}
 use Prim.Native.Nat.{ℕ}
 use borrow.Author.Tests.{not-true, not-false}
-use Rattle.index_agreement.specs.Agree.{agree}
+use Rattle.index_search.specs.Agree.{agree}
 use Rattle.indexed_table.proofs.Slots.{row-keys, ill-table, well-table}
 use Rattle.indexed_table.proofs.Calls.{agrees-table, agrees-index, agrees-done}
 use borrow.Author.Needs.{needs}

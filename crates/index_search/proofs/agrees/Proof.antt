@@ -1,10 +1,10 @@
--- `index_agreement::agrees` meets its contract: both sizes, then every place.
+-- `index_search::agrees` meets its contract: both sizes, then every place.
 -- Assumes nothing.
 use mathlib.Core.Path.{sym, _∙_}
 use borrow.Author.Needs.{needs}
-use Rattle.index_agreement.proofs.Tests.{agree-marks, agree-size, agree-all}
-use Rattle.index_agreement.proofs.agrees.Statement.{statement}
-use Rattle.index_agreement.proofs.agrees.Tie as tie
+use Rattle.index_search.proofs.Tests.{agree-marks, agree-size, agree-all}
+use Rattle.index_search.proofs.agrees.Statement.{statement}
+use Rattle.index_search.proofs.agrees.Tie as tie
 
 returns : tie.Need-returns
 returns c = sym (agree-marks _ _ (c .if1 .taken))

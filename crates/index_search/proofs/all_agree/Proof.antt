@@ -1,4 +1,4 @@
--- `index_agreement::all_agree` meets its contract: the places passed agree.
+-- `index_search::all_agree` meets its contract: the places passed agree.
 -- Assumes nothing.
 use Prim.Native.Nat.{_-_, _≤_}
 use native.Mathlib.Omega.{arith}
@@ -7,10 +7,10 @@ use mathlib.Core.Bool.{true}
 use borrow.Author.Tests.{not-true, not-false}
 use Rattle.arith.specs.Row.{allBelow}
 use Rattle.arith.proofs.Tests.{all-more, all-stops}
 use Rattle.index_search.specs.Index.{entries}
-use Rattle.index_agreement.specs.Agree.{agreeAt}
-use Rattle.index_agreement.proofs.all_agree.Statement.{statement}
-use Rattle.index_agreement.proofs.all_agree.Tie as tie
+use Rattle.index_search.specs.Agree.{agreeAt}
+use Rattle.index_search.proofs.all_agree.Statement.{statement}
+use Rattle.index_search.proofs.all_agree.Tie as tie
 
 abbrev Inv-loop : tie.InvT-loop
 Inv-loop marks index i₀ i = (i ≤ entries) × (allBelow (agreeAt marks index) i ≡ true)

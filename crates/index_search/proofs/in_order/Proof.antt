@@ -1,10 +1,10 @@
--- `index_agreement::in_order` meets its contract: each return is a case of the order.
+-- `index_search::in_order` meets its contract: each return is a case of the order.
 -- Assumes nothing.
 use mathlib.Core.Path.{sym, _∙_}
 use borrow.Author.Needs.{needs}
-use Rattle.index_agreement.proofs.Tests.{order-unused, order-first, order-rest}
-use Rattle.index_agreement.proofs.in_order.Statement.{statement}
-use Rattle.index_agreement.proofs.in_order.Tie as tie
+use Rattle.index_search.proofs.Tests.{order-unused, order-first, order-rest}
+use Rattle.index_search.proofs.in_order.Statement.{statement}
+use Rattle.index_search.proofs.in_order.Tie as tie
 
 returns : tie.Need-returns
 returns c = let a = c .before .before .before .args in sym (order-unused (a .index .now) (a .j) (sym (c .before .byte-at .ensures) ∙ c .if1 .taken))

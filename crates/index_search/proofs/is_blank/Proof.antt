@@ -1,4 +1,4 @@
--- `index_agreement::is_blank` meets its contract: the bytes passed are zero.
+-- `index_search::is_blank` meets its contract: the bytes passed are zero.
 -- Assumes nothing.
 use Prim.Native.Nat.{_-_, _≤_}
 use native.Mathlib.Omega.{arith}
@@ -7,10 +7,10 @@ use mathlib.Core.Bool.{true}
 use borrow.Author.Tests.{eq-eqb, ne-eqb}
 use Rattle.arith.specs.Row.{allBelow}
 use Rattle.arith.proofs.Tests.{all-more, all-stops}
 use Rattle.index_search.specs.Index.{entrySize}
-use Rattle.index_agreement.specs.Agree.{zeroAt, blankAt}
-use Rattle.index_agreement.proofs.is_blank.Statement.{statement}
-use Rattle.index_agreement.proofs.is_blank.Tie as tie
+use Rattle.index_search.specs.Agree.{zeroAt, blankAt}
+use Rattle.index_search.proofs.is_blank.Statement.{statement}
+use Rattle.index_search.proofs.is_blank.Tie as tie
 
 abbrev Inv-loop : tie.InvT-loop
 Inv-loop index j b₀ b = (b ≤ entrySize) × (allBelow (zeroAt index j) b ≡ true)

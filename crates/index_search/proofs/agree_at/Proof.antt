@@ -1,11 +1,11 @@
--- `index_agreement::agree_at` meets its contract: three tests, each asked where those before it hold.
+-- `index_search::agree_at` meets its contract: three tests, each asked where those before it hold.
 -- Assumes nothing.
 use mathlib.Core.Path.{sym, _∙_}
 use borrow.Author.Tests.{not-true, not-false}
 use borrow.Author.Needs.{needs}
-use Rattle.index_agreement.proofs.Tests.{agree-order, agree-true, agree-rest}
-use Rattle.index_agreement.proofs.agree_at.Statement.{statement}
-use Rattle.index_agreement.proofs.agree_at.Tie as tie
+use Rattle.index_search.proofs.Tests.{agree-order, agree-true, agree-rest}
+use Rattle.index_search.proofs.agree_at.Statement.{statement}
+use Rattle.index_search.proofs.agree_at.Tie as tie
 
 returns : tie.Need-returns
 returns c =

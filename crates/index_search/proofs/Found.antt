@@ -7,11 +7,11 @@ use mathlib.Core.Path.{_≡_, refl, sym, ap, subst, _∙_}
 use mathlib.Core.Bool.{true}
 use mathlib.Core.List.{List}
 use Rattle.arith.proofs.Tests.{false-ne-true}
 use Rattle.index_search.specs.Index.{entries, slotAt, above, keyAt}
 use Rattle.index_search.specs.Search.{middle, binarySearch, searched}
-use Rattle.index_agreement.specs.Means.{Keys, Entry, Agrees}
+use Rattle.index_search.specs.Means.{Keys, Entry, Agrees}
 use Rattle.index_search.proofs.Entry.{used-if}
 use Rattle.index_search.proofs.Turns.{turn, searched-sized}
 
 -- what is found is an entry of the key, in any index
 pub probe-entry : (turns : ℕ) (x : List ℕ) (key lo end n : ℕ) → end ≤ entries → binarySearch turns x key lo end n .found ≡ true → Entry x key (binarySearch turns x key lo end n .slot)

@@ -1,12 +1,12 @@
--- `index_agreement::is_entry` meets its contract: key and slot.
+-- `index_search::is_entry` meets its contract: key and slot.
 -- Assumes nothing.
 use mathlib.Core.Path.{sym, ap, _∙_}
 use lib.Dec.{eqb}
 use borrow.Author.Tests.{not-true, not-false}
 use borrow.Author.Needs.{needs}
-use Rattle.index_agreement.proofs.Tests.{entry-other, entry-slot}
-use Rattle.index_agreement.proofs.is_entry.Statement.{statement}
-use Rattle.index_agreement.proofs.is_entry.Tie as tie
+use Rattle.index_search.proofs.Tests.{entry-other, entry-slot}
+use Rattle.index_search.proofs.is_entry.Statement.{statement}
+use Rattle.index_search.proofs.is_entry.Tie as tie
 
 returns : tie.Need-returns
 returns c =

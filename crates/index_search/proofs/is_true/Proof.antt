@@ -1,14 +1,14 @@
--- `index_agreement::is_true` meets its contract: each return is a case of the test.
+-- `index_search::is_true` meets its contract: each return is a case of the test.
 -- Assumes nothing.
 use native.Mathlib.Omega.{arith}
 use mathlib.Core.Path.{sym, ap, _∙_}
 use lib.Dec.{eqb}
 use lib.ListN.{getD}
 use borrow.Author.Needs.{needs}
 use Rattle.index_search.specs.Index.{keyAt}
-use Rattle.index_agreement.proofs.Tests.{true-unused, true-used, true-out}
-use Rattle.index_agreement.proofs.is_true.Statement.{statement}
-use Rattle.index_agreement.proofs.is_true.Tie as tie
+use Rattle.index_search.proofs.Tests.{true-unused, true-used, true-out}
+use Rattle.index_search.proofs.is_true.Statement.{statement}
+use Rattle.index_search.proofs.is_true.Tie as tie
 
 returns : tie.Need-returns
 returns c =

@@ -1,12 +1,12 @@
--- `index_agreement::is_listed` meets its contract: a free slot, or an entry found.
+-- `index_search::is_listed` meets its contract: a free slot, or an entry found.
 -- Assumes nothing.
 use mathlib.Core.Path.{sym, ap, _∙_}
 use lib.Dec.{ltb}
 use borrow.Author.Needs.{needs}
 use Rattle.index_search.specs.Index.{entries}
-use Rattle.index_agreement.proofs.Tests.{listed-free, listed-used}
-use Rattle.index_agreement.proofs.is_listed.Statement.{statement}
-use Rattle.index_agreement.proofs.is_listed.Tie as tie
+use Rattle.index_search.proofs.Tests.{listed-free, listed-used}
+use Rattle.index_search.proofs.is_listed.Statement.{statement}
+use Rattle.index_search.proofs.is_listed.Tie as tie
 
 returns : tie.Need-returns
 returns c = let a = c .before .before .before .before .args in sym (listed-free (a .marks .now) (a .index .now) (a .i) (c .if1 .taken))

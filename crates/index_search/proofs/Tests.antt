@@ -9,9 +9,9 @@ use lib.Dec.{eqb, ltb}
 use lib.ListN.{length, getD, List·getD-eq-default}
 use borrow.Author.Tests.{eq-eqb, ne-eqb}
 use Rattle.arith.specs.Row.{allBelow}
 use Rattle.index_search.specs.Index.{entries, indexSize, ownerAt, slotAt, numberAt, keyAt}
-use Rattle.index_agreement.specs.Agree.{blankAt, inOrder, isTrue, isEntry, entryPlace, isListed, agreeAt, agree}
+use Rattle.index_search.specs.Agree.{blankAt, inOrder, isTrue, isEntry, entryPlace, isListed, agreeAt, agree}
 use Rattle.index_search.proofs.Entry.{key-used}
 
 module _ (x : List ℕ) (j : ℕ) where
   pub order-unused : ownerAt x j ≡ 0 → inOrder x j ≡ true

@@ -1,14 +1,14 @@
--- `index_agreement::entry_place` meets its contract: none of the entries passed has key and slot.
+-- `index_search::entry_place` meets its contract: none of the entries passed has key and slot.
 -- Assumes nothing.
 use Prim.Native.Nat.{_-_, _≤_}
 use native.Mathlib.Omega.{arith}
 use mathlib.Core.Path.{_≡_, refl, sym, _∙_}
 use Rattle.index_search.specs.Index.{entries}
 use Rattle.arith.specs.Places.{firstOf}
-use Rattle.index_agreement.specs.Agree.{isEntry, entryPlace}
+use Rattle.index_search.specs.Agree.{isEntry, entryPlace}
 use Rattle.arith.proofs.Places.{turn-hit, turn-on, turn-end}
-use Rattle.index_agreement.proofs.entry_place.Statement.{statement}
-use Rattle.index_agreement.proofs.entry_place.Tie as tie
+use Rattle.index_search.proofs.entry_place.Statement.{statement}
+use Rattle.index_search.proofs.entry_place.Tie as tie
 
 abbrev Inv-loop : tie.InvT-loop
 Inv-loop index key slot j₀ j = (j ≤ entries) × (entryPlace index key slot ≡ firstOf (isEntry index key slot) j (entries - j))

@@ -12,12 +12,12 @@ use borrow.Author.Tests.{eq-eqb, lt-ltb, eqb-true, ltb-true}
 use Rattle.arith.specs.Row.{allBelow}
 use Rattle.arith.proofs.Rows.{all-true}
 use Rattle.arith.proofs.Tests.{both-first, both-second, all-at, false-ne-true}
 use Rattle.index_search.specs.Index.{entries, entrySize, indexSize, byteAt, ownerAt, slotAt, above, numberAt, keyAt}
-use Rattle.index_agreement.specs.Agree.{zeroAt, blankAt, inOrder, isTrue, isEntry, entryPlace, isListed, agreeAt, agree}
-use Rattle.index_agreement.specs.Means.{markIn, Keys, Entry, Agrees}
+use Rattle.index_search.specs.Agree.{zeroAt, blankAt, inOrder, isTrue, isEntry, entryPlace, isListed, agreeAt, agree}
+use Rattle.index_search.specs.Means.{markIn, Keys, Entry, Agrees}
 use Rattle.arith.proofs.Places.{first}
 use Rattle.index_search.proofs.Entry.{key-used, used-low, used-if}
-use Rattle.index_agreement.proofs.Tests.{order-unused, order-first, order-rest, true-unused, true-used, listed-free, listed-used, agree-rest, agree-all}
+use Rattle.index_search.proofs.Tests.{order-unused, order-first, order-rest, true-unused, true-used, listed-free, listed-used, agree-rest, agree-all}
 
 -- ---- one entry found
 
