@@ -12,7 +12,7 @@ ghost use Rattle.capi.specs.Exported.{exportedShifts};
 ghost use Rattle.datum.specs.Step.{Stepped};
 ghost use Rattle.heights.specs.Heights.{writeHeights};
 ghost use Rattle.sample_checks.specs.Check.{checked};
-ghost use Rattle.sample_refusals.specs.Refusals.{positions};
+ghost use Rattle.sample_refusals.specs.Refusals.{askedOf};
 ghost use Rattle.sample_writer.specs.Write as samples;
 ghost use Rattle.reports.specs.Reports.{listsReport};
 ghost use Rattle.flat_reports.specs.Flat.{flat};
@@ -132,8 +132,8 @@ pub fn tarnoklej_write_samples(
     east: &[i64],
     out: &mut [u8],
 ) -> layout::Written
-    ensures answer { λ r. ⌜ r ≡ answered (samples.writeRefusal (now (message .entry)) (now (components .entry)) (now (north .entry)) (now (east .entry)) (length (now (out .entry)))) (samples.samplesFile (now (message .entry)) (positions (now (components .entry)) (now (north .entry)) (now (east .entry)))) ⌝ }
-    ensures output { λ r. ⌜ now (out .exit) ≡ stored (samples.writeRefusal (now (message .entry)) (now (components .entry)) (now (north .entry)) (now (east .entry)) (length (now (out .entry)))) (samples.samplesFile (now (message .entry)) (positions (now (components .entry)) (now (north .entry)) (now (east .entry)))) (now (out .entry)) ⌝ }
+    ensures answer { λ r. ⌜ r ≡ answered (samples.writeRefusal (now (message .entry)) (now (components .entry)) (now (north .entry)) (now (east .entry)) (length (now (out .entry)))) (samples.samplesFile (now (message .entry)) (askedOf (now (components .entry)) (now (north .entry)) (now (east .entry)))) ⌝ }
+    ensures output { λ r. ⌜ now (out .exit) ≡ stored (samples.writeRefusal (now (message .entry)) (now (components .entry)) (now (north .entry)) (now (east .entry)) (length (now (out .entry)))) (samples.samplesFile (now (message .entry)) (askedOf (now (components .entry)) (now (north .entry)) (now (east .entry)))) (now (out .entry)) ⌝ }
 {
     capi::tarnoklej_write_samples(message, components, north, east, out)
 }

@@ -1,4 +1,4 @@
--- What the private functions ask for and answer.
+-- What private functions ask for and answer, and the shift in a cell, by which `part` answers too.
 -- Assumes nothing.
 use mathlib.Core.List.{List}
 use mathlib.Core.Bool.{Bool, not, cond, _||_}

@@ -38,8 +38,8 @@ use Rattle.grid.specs.Private.{valuesIn, lacking, countAt, cellShift}
 use Rattle.part.specs.Part.{counted, countedBy}
 use Rattle.part.specs.declared.Kept.{Kept}
 use Rattle.prepared_grid.specs.declared.Prepared.{Prepared}
-use Rattle.prepared_grid.specs.Nodes.{nodeValue, nodeThere, nodeValues, nodesThere}
-use Rattle.prepared_grid.specs.Edges.{nowhere, aroundOf, refusalAt, edgesAt, preparedOf}
+use Rattle.prepared_grid.specs.Nodes.{nodeValue, nodeAvailable, nodeValues, nodesAvailable}
+use Rattle.prepared_grid.specs.Edges.{noEdges, aroundOf, refusalAt, edgesAt, preparedOf}
 use Rattle.prepared_grid.specs.Private.{Near, Between, cornersOf, countIn, Serves}
 
 -- ---- along one direction: a position x, where x₀ has the difference u₀ and the steps t₀ from the edge
@@ -262,10 +262,10 @@ module _ (f : Frame) (c : ℕ) (n₀ e₀ : ℤ) (z : heldPlace f c n₀ e₀ .r
 
 -- ---- the count
 
-module _ (s : List ℕ) (c : ℕ) (all : nodesThere s c ≡ true) where
+module _ (s : List ℕ) (c : ℕ) (all : nodesAvailable s c ≡ true) where
   node-there : (i : ℕ) → i < 16 → available (nodeSays s c i) ≡ true
-  unfolding nodesThere
-  node-there i l = all-at (nodeThere s c) 16 all i l
+  unfolding nodesAvailable
+  node-there i l = all-at (nodeAvailable s c) 16 all i l
 
   node-is : (i : ℕ) → i < 16 → getD (nodeValues s c) i (pos 0) ≡ valueIn (nodeSays s c i)
   unfolding nodeValues
@@ -313,7 +313,7 @@ module _ (s : List ℕ) (c : ℕ) (all : nodesThere s c ≡ true) where
 
 -- ---- the prepared numbers
 
-module _ (s : List ℕ) (kept : Kept) (c : ℕ) (accepted : kept .refusal ≡ 0) (mean : available (meanSays s c) ≡ true) (nodes : nodesThere s c ≡ true) (n₀ e₀ : ℤ)
+module _ (s : List ℕ) (kept : Kept) (c : ℕ) (accepted : kept .refusal ≡ 0) (mean : available (meanSays s c) ≡ true) (nodes : nodesAvailable s c ≡ true) (n₀ e₀ : ℤ)
     (z : heldPlace (kept .frame) c n₀ e₀ .refusal ≡ 0) where
   abbrev f : Frame
   f = kept .frame
@@ -360,8 +360,8 @@ module _ (s : List ℕ) (kept : Kept) (c : ℕ) (accepted : kept .refusal ≡ 0)
 
 -- ---- edges between which there is no position
 
-nowhere-serves : (s : List ℕ) (kept : Kept) (c : ℕ) (v : List ℤ) → Serves s kept c nowhere v
-nowhere-serves s kept c v n e b = absurd (omega (arith, known (nat 1) (at n) (b .south), known (at n) (nat 0) (b .north)))
+none-serves : (s : List ℕ) (kept : Kept) (c : ℕ) (v : List ℤ) → Serves s kept c noEdges v
+none-serves s kept c v n e b = absurd (omega (arith, known (nat 1) (at n) (b .south), known (at n) (nat 0) (b .north)))
 
 -- ---- the prepared numbers serve
 
@@ -369,9 +369,9 @@ module _ (s : List ℕ) (kept : Kept) (c : ℕ) where
   abbrev Serve : Prepared → Type 0
   Serve p = Serves s kept c p (nodeValues s c)
 
-  tested : (b : Bool) (p : Prepared) → (b ≡ true → Serve p) → Serve (cond b p nowhere)
+  tested : (b : Bool) (p : Prepared) → (b ≡ true → Serve p) → Serve (cond b p noEdges)
   tested true p h = h refl
-  tested false p h = nowhere-serves s kept c (nodeValues s c)
+  tested false p h = none-serves s kept c (nodeValues s c)
 
   abbrev frame : Frame
   frame = kept .frame
@@ -379,7 +379,7 @@ module _ (s : List ℕ) (kept : Kept) (c : ℕ) where
   within : (n e : ℤ) → eqb (refusalAt (frame .number) c n e) 0 ≡ true → beyond (frame .number) n e ≡ false
   within n e h = passed 8 (beyond (frame .number) n e) 0 (passed 7 (ltb 2 c) _ (eqb-true _ 0 h) .1) .0
 
-  edges-serve : kept .refusal ≡ 0 → available (meanSays s c) ≡ true → nodesThere s c ≡ true → (n e : ℤ) → Serve (edgesAt s frame c n e)
+  edges-serve : kept .refusal ≡ 0 → available (meanSays s c) ≡ true → nodesAvailable s c ≡ true → (n e : ℤ) → Serve (edgesAt s frame c n e)
   unfolding edgesAt
   edges-serve accepted mean nodes n e =
       let p = aroundOf (heldPlace frame c n e) n e (pos meanFactor *ℤ valueIn (meanSays s c)) (nodeFactor (frame .number) c) in
@@ -397,6 +397,6 @@ module _ (s : List ℕ) (kept : Kept) (c : ℕ) where
   serves =
       let x = eqb (kept .refusal) 0 in
       let y = available (meanSays s c) in
-      let z = nodesThere s c in
+      let z = nodesAvailable s c in
       tested (x && y && z) _
       (λ t. let u = both-first (x && y) z t in edges-serve (eqb-true _ 0 (both-first x y u)) (both-second x y u) (both-second (x && y) z t) _ _)

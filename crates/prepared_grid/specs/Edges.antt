@@ -15,15 +15,15 @@ use Rattle.grid_fields.specs.Fields.{meanSays}
 use Rattle.grid.specs.Shift.{meanFactor, nodeFactor}
 use Rattle.part.specs.declared.Kept.{Kept}
 use Rattle.prepared_grid.specs.declared.Prepared.{Prepared}
-use Rattle.prepared_grid.specs.Nodes.{nodesThere}
+use Rattle.prepared_grid.specs.Nodes.{nodesAvailable}
 
 -- the origin in steps along one direction, or 0 where no message has such a one
 unfoldable pub middleOf : ℤ → ℤ → ℤ
 middleOf number raw = cond (ltb 67108864 (natAbs raw)) (pos 0) (pos (stepsOf number) *ℤ raw)
 
 -- edges between which there is no position
-abbrev pub nowhere : Prepared
-nowhere = record { south = pos 1; north = pos 0; west = pos 0; east = pos 0; height = 0; width = 0; mean = pos 0; factor = 0 }
+abbrev pub noEdges : Prepared
+noEdges = record { south = pos 1; north = pos 0; west = pos 0; east = pos 0; height = 0; width = 0; mean = pos 0; factor = 0 }
 
 -- the edges of the grid in which the position n, e has the place q
 abbrev pub aroundOf : Located → (n e mean : ℤ) → ℕ → Prepared
@@ -45,17 +45,17 @@ aroundOf q n e mean f =
 abbrev pub refusalAt : ℤ → ℕ → ℤ → ℤ → ℕ
 refusalAt number c n e = first ((8, ltb 2 c) ∷ (9, beyond number n e) ∷ [])
 
--- by a position n, e of the frame f: the edges around its place, where document 01's limits hold two opposite corners
+-- the edges around the place of a position n, e: none where it has no place, or where a corner, south-western or north-eastern, is beyond document 01's limits
 unfoldable pub edgesAt : List ℕ → Frame → ℕ → ℤ → ℤ → Prepared
 edgesAt s f c n e =
     let q = heldPlace f c n e in
     let p = aroundOf q n e (pos meanFactor *ℤ valueIn (meanSays s c)) (nodeFactor (f .number) c) in
-    cond (eqb (q .refusal) 0 && eqb (refusalAt (f .number) c (p .south) (p .west)) 0 && eqb (refusalAt (f .number) c (p .north) (p .east)) 0) p nowhere
+    cond (eqb (q .refusal) 0 && eqb (refusalAt (f .number) c (p .south) (p .west)) 0 && eqb (refusalAt (f .number) c (p .north) (p .east)) 0) p noEdges
 
--- by the origin, where the message is accepted and the mean and all nodes have values
+-- those around the origin: none where the message is refused, or the mean or a node has no value
 unfoldable pub preparedOf : List ℕ → Kept → ℕ → Prepared
 preparedOf s kept c =
     let f = kept .frame in
-    cond (eqb (kept .refusal) 0 && available (meanSays s c) && nodesThere s c)
+    cond (eqb (kept .refusal) 0 && available (meanSays s c) && nodesAvailable s c)
     (edgesAt s f c (middleOf (f .number) (valueIn (f .origin .north))) (middleOf (f .number) (valueIn (f .origin .east))))
-    nowhere
+    noEdges

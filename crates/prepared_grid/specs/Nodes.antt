@@ -1,4 +1,4 @@
--- The nodes of a component in a grid message: their values, and whether all have one.
+-- The nodes of a component in a grid message, for request A10: their values, and whether all have one (request A5).
 -- Assumes nothing.
 use mathlib.Core.Bool.{Bool}
 use mathlib.Core.List.{List}
@@ -12,12 +12,12 @@ use Rattle.grid_nodes.specs.NodeFields.{nodeSays}
 abbrev pub nodeValue : List ℕ → ℕ → ℕ → ℤ
 nodeValue s c i = valueIn (nodeSays s c i)
 
-abbrev pub nodeThere : List ℕ → ℕ → ℕ → Bool
-nodeThere s c i = available (nodeSays s c i)
+abbrev pub nodeAvailable : List ℕ → ℕ → ℕ → Bool
+nodeAvailable s c i = available (nodeSays s c i)
 
 unfoldable pub nodeValues : List ℕ → ℕ → List ℤ
 nodeValues s c = upTo (nodeValue s c) 16
 
 -- all sixteen have values
-unfoldable pub nodesThere : List ℕ → ℕ → Bool
-nodesThere s c = allBelow (nodeThere s c) 16
+unfoldable pub nodesAvailable : List ℕ → ℕ → Bool
+nodesAvailable s c = allBelow (nodeAvailable s c) 16

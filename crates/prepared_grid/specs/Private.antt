@@ -46,7 +46,7 @@ countIn p nodes y x =
     countBy (p .mean) (p .factor) (cornersOf nodes (cell h y) (cell w x)) (weightsIn h w (y - cell h y * h) (x - cell w x * w))
 
 -- what the numbers say of a position on or between the edges
-pub record Told (s : List ℕ) (kept : Kept) (c : ℕ) (p : Prepared) (nodes : List ℤ) (n e : ℤ) : Type 0 where
+pub record CountBetween (s : List ℕ) (kept : Kept) (c : ℕ) (p : Prepared) (nodes : List ℤ) (n e : ℤ) : Type 0 where
   pub high : (0 < p .height) × (p .height ≤ 40950000)
   pub wide : (0 < p .width) × (p .width ≤ 40950000)
   pub rows : natAbs (n -ℤ p .south) ≤ 3 * p .height
@@ -54,4 +54,4 @@ pub record Told (s : List ℕ) (kept : Kept) (c : ℕ) (p : Prepared) (nodes : L
   pub count : countedBy s kept c n e ≡ record { refusal = 0; count = countIn p nodes (natAbs (n -ℤ p .south)) (natAbs (e -ℤ p .west)) }
 
 abbrev pub Serves : List ℕ → Kept → ℕ → Prepared → List ℤ → Type 0
-Serves s kept c p nodes = (n e : ℤ) → Between p n e → Told s kept c p nodes n e
+Serves s kept c p nodes = (n e : ℤ) → Between p n e → CountBetween s kept c p nodes n e

@@ -4,8 +4,8 @@ use part::Kept;
 use position::Located;
 ghost use mathlib.Core.Path.{_≡_};
 ghost use Rattle.grid_refusals.specs.Refusals.{available};
-ghost use Rattle.prepared_grid.specs.Nodes.{nodeValue, nodesThere, nodeValues};
-ghost use Rattle.prepared_grid.specs.Edges.{middleOf, nowhere, aroundOf, edgesAt, preparedOf};
+ghost use Rattle.prepared_grid.specs.Nodes.{nodeValue, nodesAvailable, nodeValues};
+ghost use Rattle.prepared_grid.specs.Edges.{middleOf, noEdges, aroundOf, edgesAt, preparedOf};
 ghost use Rattle.prepared_grid.specs.Private.{Near};
 
 // The edges of a grid in steps, the height and the width of a cell, the mean in counts, and the counts in a raw number of a node.
@@ -39,7 +39,7 @@ pub fn nodes_of(message: &[u8], component: u8) -> [i64; 16]
 }
 
 // Whether a field has a value.
-pub fn is_there(r: Reading) -> bool
+fn is_available(r: Reading) -> bool
     ensures { λ x. ⌜ x ≡ available r ⌝ }
 {
     let Reading::Value(_) = r else {
@@ -49,12 +49,12 @@ pub fn is_there(r: Reading) -> bool
 }
 
 // Whether all sixteen nodes have values.
-pub fn nodes_there(message: &[u8], component: u8) -> bool
-    ensures { λ r. ⌜ r ≡ nodesThere (now (message .entry)) component ⌝ }
+fn nodes_available(message: &[u8], component: u8) -> bool
+    ensures { λ r. ⌜ r ≡ nodesAvailable (now (message .entry)) component ⌝ }
 {
     let mut k = 0;
     while k < 16 {
-        if !is_there(grid_nodes::node_at(message, component, k)) {
+        if !is_available(grid_nodes::node_at(message, component, k)) {
             return false;
         }
         k += 1;
@@ -76,8 +76,8 @@ fn middle(number: i64, raw: i64) -> i64
 }
 
 // Edges between which there is no position.
-fn nowhere() -> Prepared
-    ensures { λ r. ⌜ r ≡ nowhere ⌝ }
+fn no_edges() -> Prepared
+    ensures { λ r. ⌜ r ≡ noEdges ⌝ }
 {
     Prepared {
         south: 1,
@@ -117,33 +117,33 @@ fn prepare_at(message: &[u8], kept: Kept, component: u8, north: i64, east: i64) 
     let f = kept.frame;
     let q = position::locate(f, component, north, east);
     if q.refusal != 0 {
-        return nowhere();
+        return no_edges();
     }
     let number = f.number;
     let mean = grid_fields::mean_at(message, component);
     let factor = grid::factor_of(number, component);
     let p = around(q, north, east, 100 * layout::value_in(mean), factor);
     if grid_refusals::position_refusal(component, number, p.south, p.west) != 0 {
-        return nowhere();
+        return no_edges();
     }
     if grid_refusals::position_refusal(component, number, p.north, p.east) != 0 {
-        return nowhere();
+        return no_edges();
     }
     p
 }
 
-// The prepared numbers: with edges between which there is no position where a count asks for the message.
+// The prepared numbers; with edges between which there is no position where every count has to go by the message.
 pub fn prepare(message: &[u8], kept: Kept, component: u8) -> Prepared
     ensures { λ r. ⌜ r ≡ preparedOf (now (message .entry)) kept component ⌝ }
 {
     if kept.refusal != 0 {
-        return nowhere();
+        return no_edges();
     }
-    if !is_there(grid_fields::mean_at(message, component)) {
-        return nowhere();
+    if !is_available(grid_fields::mean_at(message, component)) {
+        return no_edges();
     }
-    if !nodes_there(message, component) {
-        return nowhere();
+    if !nodes_available(message, component) {
+        return no_edges();
     }
     let f = kept.frame;
     let number = f.number;

@@ -9,8 +9,7 @@ ghost use Rattle.reports.specs.Reports.{listsReport};
 ghost use Rattle.tally.specs.Next.{nextOf};
 ghost use Rattle.tally_update.specs.Numbers.{reportWith};
 ghost use Rattle.tally_update.specs.Update.{grownBy};
-ghost use Rattle.grid_refusals.specs.Refusals.{available};
-ghost use Rattle.prepared_grid.specs.Nodes.{nodeValues, nodesThere};
+ghost use Rattle.prepared_grid.specs.Nodes.{nodeValues};
 ghost use Rattle.prepared_grid.specs.Edges.{preparedOf};
 
 pub fn cell_lacks(mean: field::Reading, n: grid_nodes::Nodes, k: cell::Weights) -> bool
@@ -104,18 +103,6 @@ pub fn nodes_of(message: &[u8], component: u8) -> [i64; 16]
     ensures { λ r. ⌜ r ≡ nodeValues (now (message .entry)) component ⌝ }
 {
     prepared_grid::nodes_of(message, component)
-}
-
-pub fn is_there(r: field::Reading) -> bool
-    ensures { λ x. ⌜ x ≡ available r ⌝ }
-{
-    prepared_grid::is_there(r)
-}
-
-pub fn nodes_there(message: &[u8], component: u8) -> bool
-    ensures { λ r. ⌜ r ≡ nodesThere (now (message .entry)) component ⌝ }
-{
-    prepared_grid::nodes_there(message, component)
 }
 
 pub fn prepare(message: &[u8], kept: part::Kept, component: u8) -> prepared_grid::Prepared

@@ -1,7 +1,7 @@
 -- The points of two lists of one length, and their report.
 -- Assumes nothing.
 use mathlib.Core.Path.{_≡_, refl, sym, ap, _∙_}
-use mathlib.Core.Bool.{Bool, true, false, not, cond, _||_}
+use mathlib.Core.Bool.{Bool, true, false, not, cond}
 use mathlib.Core.Logic.{_⊎_, inl, inr}
 use mathlib.Core.List.{List, [], _∷_}
 use Prim.Native.Nat.{ℕ, zero, suc, _<_}
@@ -35,7 +35,7 @@ module _ (s : List ℕ) (c : ℕ) (ns es : List ℤ) where
   unfolding startOf listsReport
   lists-stop = go (ltb 2 c) (ltb 10000 (length ns))
     where
-      go : (p q : Bool) → _≡_ {A = ℕ} (cond p 8 (cond q 3 0)) 0 ⊎ (reportWith (cond p 8 (cond q 3 0)) [] ≡ reportWith (cond p 8 (cond (q || not (eqb (length ns) (length es))) 3 0)) (outcomes s c (pointsOf ns es)))
+      go : (p q : Bool) → _≡_ {A = ℕ} (cond p 8 (cond q 3 0)) 0 ⊎ (reportWith (cond p 8 (cond q 3 0)) [] ≡ reportWith (cond p 8 (cond q 3 (cond (not (eqb (length ns) (length es))) 3 0))) (outcomes s c (pointsOf ns es)))
       go true q = inr refl
       go false true = inr refl
       go false false = inl refl
@@ -58,11 +58,10 @@ module _ (s : List ℕ) (c : ℕ) (ns es : List ℤ) where
   unfolding reportOf listsReport
   lists-are e =
       ap (λ (n : ℕ). reportWith (reportRefusal c n) (outcomes s c (pointsOf ns es))) (points-length ns es e)
-      ∙ ap (λ (t : Bool). reportWith (cond (ltb 2 c) 8 (cond t 3 0)) (outcomes s c (pointsOf ns es))) (either (ltb 10000 (length ns)) (eqb (length ns) (length es)) (eq-eqb (length ns) (length es) e))
+      ∙ ap (λ (k : ℕ). reportWith (cond (ltb 2 c) 8 (cond (ltb 10000 (length ns)) 3 k)) (outcomes s c (pointsOf ns es))) same
     where
-      either : (a b : Bool) → b ≡ true → a ≡ (a || not b)
-      either true b f = refl
-      either false b f = ap not (sym f)
+      same : _≡_ {A = ℕ} 0 (cond (not (eqb (length ns) (length es))) 3 0)
+      same = rw (eq-eqb (length ns) (length es) e)
 
   pub lists-equal : length ns ≡ length es → reportFrom s (keptOf s) c 0 (pointsOf ns es) (startOf c (length ns)) ≡ listsReport s c ns es
   lists-equal e =

@@ -20,8 +20,8 @@ use Rattle.sample_files.specs.File.{field, pointField, pointFields, fileOf, noP
 use Rattle.sample_files.specs.Held.{Held, AllHeld, more}
 use Rattle.sample_files.proofs.Bytes.{length-contents, length-field, length-points}
 use Rattle.sample_checks.specs.Check.{right, claims, checked}
-use Rattle.sample_refusals.specs.Refusals.{Position, answerAt, positions}
-use Rattle.sample_refusals.proofs.Points.{length-positions}
+use Rattle.sample_refusals.specs.Refusals.{Asked, answerAt, askedOf}
+use Rattle.sample_refusals.proofs.Points.{length-askedOf}
 use Rattle.sample_writer.specs.Write.{sample, samplesFile}
 use Rattle.sample_writer.proofs.Writes.{length-samples}
 use Rattle.sample_demands.specs.Samples.{claimPlace, ClaimChanged}
@@ -107,15 +107,15 @@ held-set (q ∷ ps) (suc k) p x (more y hs) = more y (held-set ps k p x hs)
 
 module _ (m : List ℕ) where
   sample-at : (cs : List ℕ) (ns es : List ℤ) (k : ℕ) → length cs ≡ length ns → length cs ≡ length es → k < length cs
-      → getD (map (sample m) (positions cs ns es)) k noPoint ≡ sample m (record { component = getD cs k 0; north = getD ns k (pos 0); east = getD es k (pos 0) })
-  unfolding positions
+      → getD (map (sample m) (askedOf cs ns es)) k noPoint ≡ sample m (record { component = getD cs k 0; north = getD ns k (pos 0); east = getD es k (pos 0) })
+  unfolding askedOf
   sample-at [] ns es k p q h = absurd (not-suc-le-zero h)
   sample-at (c ∷ cs) [] es k p q h = absurd (omega arith)
   sample-at (c ∷ cs) (n ∷ ns) [] k p q h = absurd (omega arith)
   sample-at (c ∷ cs) (n ∷ ns) (e ∷ es) zero p q h = refl
   sample-at (c ∷ cs) (n ∷ ns) (e ∷ es) (suc k) p q h = sample-at cs ns es k (omega arith) (omega arith) (le-of-suc-le-suc h)
 
-  other-claim : (p : Position) (z : ℤ) → (z ≡ answerAt m p .count → ⊥) → right m (withClaim (sample m p) z) ≡ false
+  other-claim : (p : Asked) (z : ℤ) → (z ≡ answerAt m p .count → ⊥) → right m (withClaim (sample m p) z) ≡ false
   unfolding right sample answerAt sameZ
   other-claim p z d = rw (eqZ-false (answerAt m p .count) z (λ e. d (sym e))) (either (eqb (answerAt m p .refusal) 0))
     where
@@ -127,10 +127,10 @@ pub claim-changed : ClaimChanged
 unfolding samplesFile
 claim-changed m cs ns es room b u v h k z l f d =
     let w = writes m cs ns es room h in
-    let a : Position = record { component = getD cs k 0; north = getD ns k (pos 0); east = getD es k (pos 0) } in
-    let qs : List Point = map (sample m) (positions cs ns es) in
+    let a : Asked = record { component = getD cs k 0; north = getD ns k (pos 0); east = getD es k (pos 0) } in
+    let qs : List Point = map (sample m) (askedOf cs ns es) in
     let p : Point = getD qs k noPoint in
-    let n : length qs ≡ length cs = length-samples m (positions cs ns es) ∙ length-positions cs ns es (w .north) (w .east) in
+    let n : length qs ≡ length cs = length-samples m (askedOf cs ns es) ∙ length-askedOf cs ns es (w .north) (w .east) in
     let i : k < length qs = omega arith in
     let hs : AllHeld qs = samples-held m cs ns es w b u v in
     let x : Held p = held-at qs k hs i in
@@ -146,5 +146,5 @@ claim-changed m cs ns es room b u v h k z l f d =
     (w .message)
     ∙ ap claims
     (is-first m rs k (omega arith) bad
-    (λ j t. ap (right m) (getD-set-other qs k j (withClaim p z) noPoint (λ e. omega arith)) ∙ samples-right m (positions cs ns es) (w .answered) j (omega arith)))
+    (λ j t. ap (right m) (getD-set-other qs k j (withClaim p z) noPoint (λ e. omega arith)) ∙ samples-right m (askedOf cs ns es) (w .answered) j (omega arith)))
     ∙ rw (ne-eqb (suc k) 0 (λ e. omega arith))

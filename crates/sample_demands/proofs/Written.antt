@@ -24,8 +24,8 @@ use Rattle.sample_files.specs.File.{noPoint}
 use Rattle.sample_files.specs.Held.{AllHeld, none, more}
 use Rattle.sample_checks.specs.Check.{messageRefusal, right, claims}
 use Rattle.sample_writer.specs.Write.{sample, samplesFile, writeRefusal}
-use Rattle.sample_refusals.specs.Refusals.{Position, answerAt, positions, pointTest, firstRefused, pointsRefusal}
-use Rattle.sample_refusals.proofs.Points.{length-positions, given-none, Passed, passed}
+use Rattle.sample_refusals.specs.Refusals.{Asked, answerAt, askedOf, pointTest, firstRefused, pointsRefusal}
+use Rattle.sample_refusals.proofs.Points.{length-askedOf, given-none, Passed, passed}
 use Rattle.sample_writer.proofs.Writes.{length-samples}
 use Rattle.sample_demands.specs.Samples.{Bytes, Wholes, WrittenAccepted}
 use Rattle.sample_demands.proofs.Checks.{all-right, file-back, back-checked}
@@ -47,25 +47,25 @@ claim-held m c n e h = subst (λ (z : ℤ). mag z < 2 ^ 63) (count-lossless m c 
     refusal-is h = unfold messageShift shiftWith outcome in h
 
 module _ (m : List ℕ) where
-  first-none : (p : Position) (ps : List Position) → firstRefused m (p ∷ ps) ≡ 0 → (answerAt m p .refusal ≡ 0) × (firstRefused m ps ≡ 0)
+  first-none : (p : Asked) (ps : List Asked) → firstRefused m (p ∷ ps) ≡ 0 → (answerAt m p .refusal ≡ 0) × (firstRefused m ps ≡ 0)
   unfolding firstRefused pointTest
   first-none p ps h = given-none (answerAt m p .refusal) (first (map (pointTest m) ps)) (eqb (answerAt m p .refusal) 0) refl h
 
-  held : (cs : List ℕ) (ns es : List ℤ) → Bytes cs → Wholes ns → Wholes es → firstRefused m (positions cs ns es) ≡ 0 → AllHeld (map (sample m) (positions cs ns es))
-  unfolding positions sample answerAt
+  held : (cs : List ℕ) (ns es : List ℤ) → Bytes cs → Wholes ns → Wholes es → firstRefused m (askedOf cs ns es) ≡ 0 → AllHeld (map (sample m) (askedOf cs ns es))
+  unfolding askedOf sample answerAt
   held [] ns es b u v h = none
   held (c ∷ cs) [] es b u v h = none
   held (c ∷ cs) (n ∷ ns) [] b u v h = none
   held (c ∷ cs) (n ∷ ns) (e ∷ es) b u v h =
-      let r = first-none (record { component = c; north = n; east = e }) (positions cs ns es) h in
+      let r = first-none (record { component = c; north = n; east = e }) (askedOf cs ns es) h in
       more (record { component = b 0; north = u 0; east = v 0; claim = claim-held m c n e (r .0) })
       (held cs ns es (λ i. b (suc i)) (λ i. u (suc i)) (λ i. v (suc i)) (r .1))
 
-  sample-right : (p : Position) → answerAt m p .refusal ≡ 0 → right m (sample m p) ≡ true
+  sample-right : (p : Asked) → answerAt m p .refusal ≡ 0 → right m (sample m p) ≡ true
   unfolding right sample answerAt sameZ
   sample-right p h = rw h (eqZ-refl (answerAt m p .count))
 
-  pub samples-right : (ps : List Position) → firstRefused m ps ≡ 0 → (k : ℕ) → k < length (map (sample m) ps) → right m (getD (map (sample m) ps) k noPoint) ≡ true
+  pub samples-right : (ps : List Asked) → firstRefused m ps ≡ 0 → (k : ℕ) → k < length (map (sample m) ps) → right m (getD (map (sample m) ps) k noPoint) ≡ true
   samples-right [] h k l = absurd (not-suc-le-zero l)
   samples-right (p ∷ ps) h zero l = sample-right p (first-none p ps h .0)
   samples-right (p ∷ ps) h (suc k) l = samples-right ps (first-none p ps h .1) k (le-of-suc-le-suc l)
@@ -76,20 +76,20 @@ unfolding writeRefusal
 writes m cs ns es room h = passed m cs ns es (given-none (pointsRefusal m cs ns es) _ (eqb (pointsRefusal m cs ns es) 0) refl h .0)
 
 module _ (m cs : List ℕ) (ns es : List ℤ) (w : Passed m cs ns es) (b : Bytes cs) (u : Wholes ns) (v : Wholes es) where
-  pub few-samples : length (map (sample m) (positions cs ns es)) ≤ 1000
-  few-samples = omega (arith, w .few, length-samples m (positions cs ns es), length-positions cs ns es (w .north) (w .east))
+  pub few-samples : length (map (sample m) (askedOf cs ns es)) ≤ 1000
+  few-samples = omega (arith, w .few, length-samples m (askedOf cs ns es), length-askedOf cs ns es (w .north) (w .east))
 
   pub message-short : length m ≤ 65535
   message-short = short m (w .message)
 
-  pub samples-held : AllHeld (map (sample m) (positions cs ns es))
+  pub samples-held : AllHeld (map (sample m) (askedOf cs ns es))
   samples-held = held m cs ns es b u v (w .answered)
 
 pub written-accepted : WrittenAccepted
 unfolding samplesFile
 written-accepted m cs ns es room b u v h =
     let w = writes m cs ns es room h in
-    let ps : List Position = positions cs ns es in
+    let ps : List Asked = askedOf cs ns es in
     back-checked m (map (sample m) ps)
     (file-back m (map (sample m) ps) (message-short m cs ns es w b u v) (few-samples m cs ns es w b u v) (samples-held m cs ns es w b u v))
     (w .message)

@@ -14,7 +14,7 @@ use Rattle.sample_files.specs.File.{fileOf, messageOf, pointsOf, shape, noPoint
 use Rattle.sample_files.specs.Held.{AllHeld}
 use Rattle.sample_checks.specs.Check.{messageRefusal, right, checked, refusedWith}
 use Rattle.sample_checks.specs.declared.Checked.{Checked}
-use Rattle.sample_refusals.specs.Refusals.{positions}
+use Rattle.sample_refusals.specs.Refusals.{askedOf}
 use Rattle.sample_writer.specs.Write.{samplesFile, writeRefusal}
 
 -- what slices of u8 and of i64 hold
@@ -102,7 +102,7 @@ PlaceIsFirst = (f : List ℕ) → Place f
 abbrev pub WrittenAccepted : Type 0
 WrittenAccepted =
     (m cs : List ℕ) (ns es : List ℤ) (room : ℕ) → Bytes cs → Wholes ns → Wholes es
-    → writeRefusal m cs ns es room ≡ 0 → checked (samplesFile m (positions cs ns es)) ≡ refusedWith 0
+    → writeRefusal m cs ns es room ≡ 0 → checked (samplesFile m (askedOf cs ns es)) ≡ refusedWith 0
 
 -- the byte of a file where the claim of point k, from 0, begins
 abbrev pub claimPlace : List ℕ → ℕ → ℕ
@@ -114,4 +114,4 @@ ClaimChanged =
     (m cs : List ℕ) (ns es : List ℤ) (room : ℕ) → Bytes cs → Wholes ns → Wholes es
     → writeRefusal m cs ns es room ≡ 0 → (k : ℕ) (z : ℤ) → k < length cs → mag z < 2 ^ 63
     → (z ≡ messageShift m (getD cs k 0) (getD ns k (pos 0)) (getD es k (pos 0)) .count → ⊥)
-    → _≡_ {A = Checked} (checked (putBytes (samplesFile m (positions cs ns es)) (claimPlace m k) (wholeBytes z))) (record { refusal = 25; place = suc k })
+    → _≡_ {A = Checked} (checked (putBytes (samplesFile m (askedOf cs ns es)) (claimPlace m k) (wholeBytes z))) (record { refusal = 25; place = suc k })

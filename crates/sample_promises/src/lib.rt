@@ -5,7 +5,7 @@ ghost use Rattle.layout.specs.Layout.{answered, stored};
 ghost use Rattle.byte_numbers.specs.Number.{bytesOf, wholeBytes, numberAt, wholeAt, putBytes};
 ghost use Rattle.sample_files.specs.File.{pointsOf, shape, endIn, pointAt};
 ghost use Rattle.sample_checks.specs.Check.{checked};
-ghost use Rattle.sample_refusals.specs.Refusals.{positions, pointsRefusal};
+ghost use Rattle.sample_refusals.specs.Refusals.{askedOf, pointsRefusal};
 ghost use Rattle.sample_writer.specs.Write.{samplesFile, writeRefusal};
 
 pub fn number_at(s: &[u8], a: usize, k: usize) -> u64
@@ -81,8 +81,8 @@ pub fn write_samples(
     east: &[i64],
     out: &mut [u8],
 ) -> layout::Written
-    ensures answer { λ r. ⌜ r ≡ answered (writeRefusal (now (message .entry)) (now (components .entry)) (now (north .entry)) (now (east .entry)) (length (now (out .entry)))) (samplesFile (now (message .entry)) (positions (now (components .entry)) (now (north .entry)) (now (east .entry)))) ⌝ }
-    ensures output { λ r. ⌜ now (out .exit) ≡ stored (writeRefusal (now (message .entry)) (now (components .entry)) (now (north .entry)) (now (east .entry)) (length (now (out .entry)))) (samplesFile (now (message .entry)) (positions (now (components .entry)) (now (north .entry)) (now (east .entry)))) (now (out .entry)) ⌝ }
+    ensures answer { λ r. ⌜ r ≡ answered (writeRefusal (now (message .entry)) (now (components .entry)) (now (north .entry)) (now (east .entry)) (length (now (out .entry)))) (samplesFile (now (message .entry)) (askedOf (now (components .entry)) (now (north .entry)) (now (east .entry)))) ⌝ }
+    ensures output { λ r. ⌜ now (out .exit) ≡ stored (writeRefusal (now (message .entry)) (now (components .entry)) (now (north .entry)) (now (east .entry)) (length (now (out .entry)))) (samplesFile (now (message .entry)) (askedOf (now (components .entry)) (now (north .entry)) (now (east .entry)))) (now (out .entry)) ⌝ }
 {
     sample_writer::write_samples(message, components, north, east, out)
 }

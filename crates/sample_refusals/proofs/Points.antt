@@ -18,23 +18,23 @@ use Rattle.wire.specs.Message.{kindRefusal}
 use Rattle.part.specs.declared.Counted.{Counted}
 use Rattle.part.specs.Part.{counted}
 use Rattle.sample_files.specs.File.{mostPoints}
-use Rattle.sample_refusals.specs.Refusals.{Position, answerAt, positions, pointTest, firstRefused, pointsRefusal}
+use Rattle.sample_refusals.specs.Refusals.{Asked, answerAt, askedOf, pointTest, firstRefused, pointsRefusal}
 
 module _ (cs : List ℕ) (ns es : List ℤ) (i : ℕ) where
   -- the points from place i on
-  abbrev pub from : List Position
-  from = positions (drop i cs) (drop i ns) (drop i es)
+  abbrev pub from : List Asked
+  from = askedOf (drop i cs) (drop i ns) (drop i es)
 
-  abbrev pub point : Position
+  abbrev pub point : Asked
   point = record { component = getD cs i 0; north = getD ns i (pos 0); east = getD es i (pos 0) }
 
 pub from-end : (cs : List ℕ) (ns es : List ℤ) (i : ℕ) → length cs ≤ i → from cs ns es i ≡ []
-unfolding positions
+unfolding askedOf
 from-end cs ns es i h = rw (drop-of-length-le cs h)
 
 module _ (cs : List ℕ) (ns es : List ℤ) (i : ℕ) (h : i < length cs) (p : length cs ≡ length ns) (q : length cs ≡ length es) where
   pub from-point : from cs ns es i ≡ point cs ns es i ∷ from cs ns es (i + 1)
-  unfolding positions
+  unfolding askedOf
   from-point = rw (add-one i, drop-cons cs i 0 h, drop-cons ns i (pos 0) (omega arith), drop-cons es i (pos 0) (omega arith))
 
   module _ (m : List ℕ) (a : Counted) (e : a ≡ counted (answerAt m (point cs ns es i))) where
@@ -53,12 +53,12 @@ pub end-refused : (cs : List ℕ) (ns es : List ℤ) (i : ℕ) (m : List ℕ) �
 unfolding firstRefused pointTest
 end-refused cs ns es i m h = rw (from-end cs ns es i h)
 
-pub length-positions : (cs : List ℕ) (ns es : List ℤ) → length cs ≡ length ns → length cs ≡ length es → length (positions cs ns es) ≡ length cs
-unfolding positions
-length-positions [] ns es p q = refl
-length-positions (c ∷ cs) [] es p q = absurd (omega arith)
-length-positions (c ∷ cs) (n ∷ ns) [] p q = absurd (omega arith)
-length-positions (c ∷ cs) (n ∷ ns) (e ∷ es) p q = ap suc (length-positions cs ns es (omega arith) (omega arith))
+pub length-askedOf : (cs : List ℕ) (ns es : List ℤ) → length cs ≡ length ns → length cs ≡ length es → length (askedOf cs ns es) ≡ length cs
+unfolding askedOf
+length-askedOf [] ns es p q = refl
+length-askedOf (c ∷ cs) [] es p q = absurd (omega arith)
+length-askedOf (c ∷ cs) (n ∷ ns) [] p q = absurd (omega arith)
+length-askedOf (c ∷ cs) (n ∷ ns) (e ∷ es) p q = ap suc (length-askedOf cs ns es (omega arith) (omega arith))
 
 -- ---- the ways out of `points_refusal`
 
@@ -78,18 +78,18 @@ module _ (m cs : List ℕ) (ns es : List ℤ) where
       by-east q = rw (a, eq-eqb (length cs) (length ns) p, ne-eqb (length cs) (length es) q)
 
       module _ (q : length cs ≡ length es) where
-        pub by-point : (k : ℕ) → k ≡ firstRefused m (positions cs ns es) → (k ≡ 0 → ⊥) → k ≡ pointsRefusal m cs ns es
+        pub by-point : (k : ℕ) → k ≡ firstRefused m (askedOf cs ns es) → (k ≡ 0 → ⊥) → k ≡ pointsRefusal m cs ns es
         unfolding pointsRefusal
         by-point k e r = rw (a, eq-eqb (length cs) (length ns) p, eq-eqb (length cs) (length es) q, ← e, ne-eqb k 0 r)
 
-        module _ (r : firstRefused m (positions cs ns es) ≡ 0) where
+        module _ (r : firstRefused m (askedOf cs ns es) ≡ 0) where
           pub by-count : mostPoints < length cs → 3 ≡ pointsRefusal m cs ns es
           unfolding pointsRefusal
-          by-count h = rw (a, eq-eqb (length cs) (length ns) p, eq-eqb (length cs) (length es) q, r, length-positions cs ns es p q, lt-ltb mostPoints (length cs) h)
+          by-count h = rw (a, eq-eqb (length cs) (length ns) p, eq-eqb (length cs) (length es) q, r, length-askedOf cs ns es p q, lt-ltb mostPoints (length cs) h)
 
           pub by-none : length cs ≤ mostPoints → 0 ≡ pointsRefusal m cs ns es
           unfolding pointsRefusal
-          by-none h = rw (a, eq-eqb (length cs) (length ns) p, eq-eqb (length cs) (length es) q, r, length-positions cs ns es p q, le-ltb mostPoints (length cs) h)
+          by-none h = rw (a, eq-eqb (length cs) (length ns) p, eq-eqb (length cs) (length es) q, r, length-askedOf cs ns es p q, le-ltb mostPoints (length cs) h)
 
 -- ---- what is known where nothing is refused
 
@@ -102,19 +102,19 @@ pub record Passed (m cs : List ℕ) (ns es : List ℤ) : Type 0 where
   pub message : kindRefusal 1023 1024 m ≡ 0
   pub north : length cs ≡ length ns
   pub east : length cs ≡ length es
-  pub answered : firstRefused m (positions cs ns es) ≡ 0
+  pub answered : firstRefused m (askedOf cs ns es) ≡ 0
   pub few : length cs ≤ mostPoints
 
 pub passed : (m cs : List ℕ) (ns es : List ℤ) → pointsRefusal m cs ns es ≡ 0 → Passed m cs ns es
 unfolding pointsRefusal
 passed m cs ns es h =
-    let n : ℕ = length (positions cs ns es) in
+    let n : ℕ = length (askedOf cs ns es) in
     let x : Bool = eqb (length cs) (length ns) in
     let y : Bool = eqb (length cs) (length es) in
     let a = given-none (kindRefusal 1023 1024 m) _ (eqb (kindRefusal 1023 1024 m) 0) refl h in
     let q = not-false (x && y) (none-first (not (x && y)) 3 _ (omega arith) (a .1)) in
     let e = none-rest (not (x && y)) 3 _ (omega arith) (a .1) in
-    let r = given-none (firstRefused m (positions cs ns es)) _ (eqb (firstRefused m (positions cs ns es)) 0) refl e in
+    let r = given-none (firstRefused m (askedOf cs ns es)) _ (eqb (firstRefused m (askedOf cs ns es)) 0) refl e in
     let p = eqb-true (length cs) (length ns) (both-first x y q) in
     let z = eqb-true (length cs) (length es) (both-second x y q) in
     record {
@@ -122,5 +122,5 @@ passed m cs ns es h =
       north = p;
       east = z;
       answered = r .0;
-      few = omega (arith, length-positions cs ns es p z, ltb-false mostPoints n (none-first (ltb mostPoints n) 3 0 (omega arith) (r .1)));
+      few = omega (arith, length-askedOf cs ns es p z, ltb-false mostPoints n (none-first (ltb mostPoints n) 3 0 (omega arith) (r .1)));
     }

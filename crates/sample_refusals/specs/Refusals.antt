@@ -13,31 +13,31 @@ use Rattle.grid.specs.Shift.{messageShift}
 use Rattle.sample_files.specs.File.{mostPoints}
 
 -- a point without a claim
-pub record Position : Type 0 where
+pub record Asked : Type 0 where
   pub component : ℕ
   pub north : ℤ
   pub east : ℤ
 
 -- the points of three lists: as many as the shortest has
-unfoldable pub positions : List ℕ → List ℤ → List ℤ → List Position
-positions [] ns es = []
-positions (c ∷ cs) [] es = []
-positions (c ∷ cs) (n ∷ ns) [] = []
-positions (c ∷ cs) (n ∷ ns) (e ∷ es) = record { component = c; north = n; east = e } ∷ positions cs ns es
+unfoldable pub askedOf : List ℕ → List ℤ → List ℤ → List Asked
+askedOf [] ns es = []
+askedOf (c ∷ cs) [] es = []
+askedOf (c ∷ cs) (n ∷ ns) [] = []
+askedOf (c ∷ cs) (n ∷ ns) (e ∷ es) = record { component = c; north = n; east = e } ∷ askedOf cs ns es
 
 -- the message's answer at a point
-unfoldable pub answerAt : List ℕ → Position → Shift
+unfoldable pub answerAt : List ℕ → Asked → Shift
 answerAt m p = messageShift m (p .component) (p .north) (p .east)
 
 -- a refusal number that another call gives
 abbrev pub given : ℕ → Test
 given n = (n, not (eqb n 0))
 
-unfoldable pub pointTest : List ℕ → Position → Test
+unfoldable pub pointTest : List ℕ → Asked → Test
 pointTest m p = given (answerAt m p .refusal)
 
 -- "that of the first refused point"
-unfoldable pub firstRefused : List ℕ → List Position → ℕ
+unfoldable pub firstRefused : List ℕ → List Asked → ℕ
 firstRefused m ps = first (map (pointTest m) ps)
 
 abbrev pub equalCounts : List ℕ → List ℤ → List ℤ → Bool
@@ -50,6 +50,6 @@ pointsRefusal m cs ns es =
     first
     (given (kindRefusal 1023 1024 m)
     ∷ (3, not (equalCounts cs ns es))
-    ∷ given (firstRefused m (positions cs ns es))
-    ∷ (3, ltb mostPoints (length (positions cs ns es)))
+    ∷ given (firstRefused m (askedOf cs ns es))
+    ∷ (3, ltb mostPoints (length (askedOf cs ns es)))
     ∷ [])

@@ -3,7 +3,7 @@ use part::Kept;
 ghost use mathlib.Core.Path.{_≡_};
 ghost use lib.ListN.{length};
 ghost use Rattle.part.specs.Part.{keptOf};
-ghost use Rattle.sample_refusals.specs.Refusals.{positions, firstRefused, pointsRefusal};
+ghost use Rattle.sample_refusals.specs.Refusals.{askedOf, firstRefused, pointsRefusal};
 
 const MOST_POINTS: usize = 1000;
 
@@ -13,7 +13,7 @@ const LENGTH: u8 = 3;
 // The refusal of the first point that is refused, 0 where none is.
 fn first_refused(message: &[u8], kept: Kept, components: &[u8], north: &[i64], east: &[i64]) -> u8
     requires { ⌜ (kept ≡ keptOf (now message)) × ((length (now components) ≡ length (now north)) × (length (now components) ≡ length (now east))) ⌝ }
-    ensures { λ r. ⌜ r ≡ firstRefused (now (message .entry)) (positions (now (components .entry)) (now (north .entry)) (now (east .entry))) ⌝ }
+    ensures { λ r. ⌜ r ≡ firstRefused (now (message .entry)) (askedOf (now (components .entry)) (now (north .entry)) (now (east .entry))) ⌝ }
 {
     let mut i: usize = 0;
     while i < components.len() {

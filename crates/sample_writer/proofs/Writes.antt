@@ -9,12 +9,12 @@ use lib.ListN.{length}
 use Rattle.layout.specs.declared.Written.{Written}
 use Rattle.layout.specs.Layout.{answered, stored}
 use Rattle.sample_files.specs.File.{pointSize}
-use Rattle.sample_refusals.specs.Refusals.{Position, positions, pointsRefusal}
-use Rattle.sample_refusals.proofs.Points.{length-positions, passed}
+use Rattle.sample_refusals.specs.Refusals.{Asked, askedOf, pointsRefusal}
+use Rattle.sample_refusals.proofs.Points.{length-askedOf, passed}
 use Rattle.sample_writer.specs.Write.{sample, samplesFile, writeRefusal}
 use Rattle.sample_files.proofs.Bytes.{length-file}
 
-pub length-samples : (m : List ℕ) (ps : List Position) → length (map (sample m) ps) ≡ length ps
+pub length-samples : (m : List ℕ) (ps : List Asked) → length (map (sample m) ps) ≡ length ps
 length-samples m [] = refl
 length-samples m (p ∷ ps) = ap suc (length-samples m ps)
 
@@ -29,11 +29,11 @@ module _ (m cs : List ℕ) (ns es : List ℤ) (room : ℕ) where
   by-points k e q = rw (← e, ne-eqb k 0 q)
 
   module _ (a : pointsRefusal m cs ns es ≡ 0) where
-    pub length-written : length (samplesFile m (positions cs ns es)) ≡ 3 + length m + pointSize * length cs
+    pub length-written : length (samplesFile m (askedOf cs ns es)) ≡ 3 + length m + pointSize * length cs
     unfolding samplesFile
     length-written =
-        length-file m (map (sample m) (positions cs ns es))
-        ∙ ap (λ (n : ℕ). 3 + length m + pointSize * n) (length-samples m (positions cs ns es) ∙ length-positions cs ns es (passed m cs ns es a .north) (passed m cs ns es a .east))
+        length-file m (map (sample m) (askedOf cs ns es))
+        ∙ ap (λ (n : ℕ). 3 + length m + pointSize * n) (length-samples m (askedOf cs ns es) ∙ length-askedOf cs ns es (passed m cs ns es a .north) (passed m cs ns es a .east))
 
     pub by-room : room < 3 + length m + pointSize * length cs → writeRefusal m cs ns es room ≡ 6
     unfolding writeRefusal

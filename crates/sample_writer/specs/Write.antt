@@ -8,16 +8,16 @@ use lib.IntN.{ℤ}
 use Rattle.arith.specs.First.{first}
 use Rattle.sample_files.specs.declared.Point.{Point}
 use Rattle.sample_files.specs.File.{fileOf}
-use Rattle.sample_refusals.specs.Refusals.{Position, positions, answerAt, given, pointsRefusal}
+use Rattle.sample_refusals.specs.Refusals.{Asked, askedOf, answerAt, given, pointsRefusal}
 
 -- a point with the message's answer there as its claim
-unfoldable pub sample : List ℕ → Position → Point
+unfoldable pub sample : List ℕ → Asked → Point
 sample m p = record { component = p .component; north = p .north; east = p .east; claim = answerAt m p .count }
 
-unfoldable pub samplesFile : List ℕ → List Position → List ℕ
+unfoldable pub samplesFile : List ℕ → List Asked → List ℕ
 samplesFile m ps = fileOf m (map (sample m) ps)
 
 -- the refusals of the message and the points, "then" 6 "ROOM"
 unfoldable pub writeRefusal : List ℕ → List ℕ → List ℤ → List ℤ → ℕ → ℕ
 writeRefusal m cs ns es room =
-    first (given (pointsRefusal m cs ns es) ∷ (6, ltb room (length (samplesFile m (positions cs ns es)))) ∷ [])
+    first (given (pointsRefusal m cs ns es) ∷ (6, ltb room (length (samplesFile m (askedOf cs ns es)))) ∷ [])

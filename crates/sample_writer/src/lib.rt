@@ -8,7 +8,7 @@ ghost use lib.ListN.{length};
 ghost use Rattle.layout.specs.Layout.{answered, stored};
 ghost use Rattle.part.specs.Part.{keptOf};
 ghost use Rattle.sample_files.specs.File.{pointSize, pointField, pointFields};
-ghost use Rattle.sample_refusals.specs.Refusals.{positions};
+ghost use Rattle.sample_refusals.specs.Refusals.{askedOf};
 ghost use Rattle.sample_writer.specs.Write.{sample, samplesFile, writeRefusal};
 
 const POINT_SIZE: usize = 28;
@@ -48,7 +48,7 @@ fn put_samples(
     east: &[i64],
 )
     requires { ⌜ (kept ≡ keptOf (now message)) × ((length (now components) ≡ length (now north)) × ((length (now components) ≡ length (now east)) × (length (now out) ≡ pointSize * length (now components)))) ⌝ }
-    ensures { λ _. ⌜ now (out .exit) ≡ pointFields (map (sample (now (message .entry))) (positions (now (components .entry)) (now (north .entry)) (now (east .entry)))) ⌝ }
+    ensures { λ _. ⌜ now (out .exit) ≡ pointFields (map (sample (now (message .entry))) (askedOf (now (components .entry)) (now (north .entry)) (now (east .entry)))) ⌝ }
 {
     let mut i: usize = 0;
     while i < components.len() {
@@ -76,7 +76,7 @@ fn put_file(
     east: &[i64],
 )
     requires { ⌜ (kept ≡ keptOf (now message)) × ((length (now components) ≡ length (now north)) × ((length (now components) ≡ length (now east)) × (length (now out) ≡ 3 + length (now message) + pointSize * length (now components)))) ⌝ }
-    ensures { λ _. ⌜ now (out .exit) ≡ samplesFile (now (message .entry)) (positions (now (components .entry)) (now (north .entry)) (now (east .entry))) ⌝ }
+    ensures { λ _. ⌜ now (out .exit) ≡ samplesFile (now (message .entry)) (askedOf (now (components .entry)) (now (north .entry)) (now (east .entry))) ⌝ }
 {
     let e = 3 + message.len();
     byte_numbers::put_at(out, 0, 1, 1);
@@ -99,8 +99,8 @@ pub fn write_samples(
     east: &[i64],
     out: &mut [u8],
 ) -> Written
-    ensures answer { λ r. ⌜ r ≡ answered (writeRefusal (now (message .entry)) (now (components .entry)) (now (north .entry)) (now (east .entry)) (length (now (out .entry)))) (samplesFile (now (message .entry)) (positions (now (components .entry)) (now (north .entry)) (now (east .entry)))) ⌝ }
-    ensures output { λ r. ⌜ now (out .exit) ≡ stored (writeRefusal (now (message .entry)) (now (components .entry)) (now (north .entry)) (now (east .entry)) (length (now (out .entry)))) (samplesFile (now (message .entry)) (positions (now (components .entry)) (now (north .entry)) (now (east .entry)))) (now (out .entry)) ⌝ }
+    ensures answer { λ r. ⌜ r ≡ answered (writeRefusal (now (message .entry)) (now (components .entry)) (now (north .entry)) (now (east .entry)) (length (now (out .entry)))) (samplesFile (now (message .entry)) (askedOf (now (components .entry)) (now (north .entry)) (now (east .entry)))) ⌝ }
+    ensures output { λ r. ⌜ now (out .exit) ≡ stored (writeRefusal (now (message .entry)) (now (components .entry)) (now (north .entry)) (now (east .entry)) (length (now (out .entry)))) (samplesFile (now (message .entry)) (askedOf (now (components .entry)) (now (north .entry)) (now (east .entry)))) (now (out .entry)) ⌝ }
 {
     let refusal = sample_refusals::points_refusal(message, components, north, east);
     if refusal != 0 {

@@ -51,10 +51,11 @@ withOutcome t refusal count k = cond (eqb refusal 0) (withAnswered t count k) (w
 
 -- ---- the same of any tally and any numbers: it is as it was where a number would be past its limit
 
--- a tally of at most 10,000 points "with a sum" within "±10^11", and a count of at most 10^7
+-- fewer than 10,000 points answered, "a sum" within "±10^11", and a count of at most 10^7, past which no grid message has one
 abbrev pub countable : Tally → ℤ → Bool
 countable t z = ltb (t .answered) 10000 && leb (natAbs (t .sum)) 100000000000 && leb (natAbs z) 10000000
 
+-- a number to 15 under which fewer than 10,000 points are refused
 abbrev pub refusable : Tally → ℕ → Bool
 refusable t n = leb n 15 && ltb (getD (t .refused) (n - 1) 0) 10000
 

@@ -15,30 +15,30 @@ use Rattle.grid_records.specs.declared.Frame.{Frame}
 use Rattle.grid_refusals.specs.Refusals.{available}
 use Rattle.grid_fields.specs.Fields.{meanSays}
 use Rattle.part.specs.declared.Kept.{Kept}
-use Rattle.prepared_grid.specs.Nodes.{nodesThere}
-use Rattle.prepared_grid.specs.Edges.{nowhere, middleOf, edgesAt, preparedOf}
+use Rattle.prepared_grid.specs.Nodes.{nodesAvailable}
+use Rattle.prepared_grid.specs.Edges.{noEdges, middleOf, edgesAt, preparedOf}
 use Rattle.prepared_grid.proofs.prepare.Statement.{statement}
 use Rattle.prepared_grid.proofs.prepare.Tie as tie
 
 -- ---- the definition, test by test
 
 module _ (s : List ℕ) (kept : Kept) (c : ℕ) where
-  refused : (kept .refusal ≡ 0 → ⊥) → nowhere ≡ preparedOf s kept c
+  refused : (kept .refusal ≡ 0 → ⊥) → noEdges ≡ preparedOf s kept c
   unfolding preparedOf
   refused h = rw (ne-eqb (kept .refusal) 0 h)
 
-  no-mean : kept .refusal ≡ 0 → available (meanSays s c) ≡ false → nowhere ≡ preparedOf s kept c
+  no-mean : kept .refusal ≡ 0 → available (meanSays s c) ≡ false → noEdges ≡ preparedOf s kept c
   unfolding preparedOf
   no-mean z m = rw (eq-eqb (kept .refusal) 0 z, m)
 
-  no-nodes : kept .refusal ≡ 0 → available (meanSays s c) ≡ true → nodesThere s c ≡ false → nowhere ≡ preparedOf s kept c
+  no-nodes : kept .refusal ≡ 0 → available (meanSays s c) ≡ true → nodesAvailable s c ≡ false → noEdges ≡ preparedOf s kept c
   unfolding preparedOf
   no-nodes z m h = rw (eq-eqb (kept .refusal) 0 z, m, h)
 
   abbrev middles : ℤ × ℤ
   middles = let f = kept .frame in (middleOf (f .number) (valueIn (f .origin .north)), middleOf (f .number) (valueIn (f .origin .east)))
 
-  all-there : kept .refusal ≡ 0 → available (meanSays s c) ≡ true → nodesThere s c ≡ true → edgesAt s (kept .frame) c (middles .0) (middles .1) ≡ preparedOf s kept c
+  all-there : kept .refusal ≡ 0 → available (meanSays s c) ≡ true → nodesAvailable s c ≡ true → edgesAt s (kept .frame) c (middles .0) (middles .1) ≡ preparedOf s kept c
   unfolding preparedOf
   all-there z m h = rw (eq-eqb (kept .refusal) 0 z, m, h)
 
@@ -47,9 +47,9 @@ module _ (s : List ℕ) (kept : Kept) (c : ℕ) where
 returns : tie.Need-returns
 returns t =
     let a = t .before .before .before .before .args in
-    t .nowhere .ensures ∙ refused (a .message .now) (a .kept) (a .component) (t .before .if1 .taken)
+    t .no-edges .ensures ∙ refused (a .message .now) (a .kept) (a .component) (t .before .if1 .taken)
 
-module _ (t : tie.After-is-there) where
+module _ (t : tie.After-is-available) where
   abbrev s : tie.Start
   s = t .before .before .before .before .before
 
@@ -65,16 +65,16 @@ module _ (t : tie.After-is-there) where
   accepted : kept .refusal ≡ 0
   accepted = t .before .before .if1 .left
 
-  mean : t .is-there .result ≡ available (meanSays m c)
-  mean = t .is-there .ensures ∙ ap available (t .before .mean-at .ensures)
+  mean : t .is-available .result ≡ available (meanSays m c)
+  mean = t .is-available .ensures ∙ ap available (t .before .mean-at .ensures)
 
 returns-2 : tie.Need-returns-2
 returns-2 q =
     let t = q .before .before in
-    q .nowhere2 .ensures ∙ no-mean (m t) (kept t) (c t) (accepted t) (sym (mean t) ∙ not-true _ (q .before .if2 .taken))
+    q .no-edges2 .ensures ∙ no-mean (m t) (kept t) (c t) (accepted t) (sym (mean t) ∙ not-true _ (q .before .if2 .taken))
 
-module _ (h : tie.After-nodes-there) where
-  abbrev t : tie.After-is-there
+module _ (h : tie.After-nodes-available) where
+  abbrev t : tie.After-is-available
   t = h .before .before
 
   mean-there : available (meanSays (m t) (c t)) ≡ true
@@ -84,13 +84,13 @@ returns-3 : tie.Need-returns-3
 returns-3 q =
     let h = q .before .before in
     let t = t h in
-    q .nowhere3 .ensures ∙ no-nodes (m t) (kept t) (c t) (accepted t) (mean-there h) (sym (h .nodes-there .ensures) ∙ not-true _ (q .before .if3 .taken))
+    q .no-edges3 .ensures ∙ no-nodes (m t) (kept t) (c t) (accepted t) (mean-there h) (sym (h .nodes-available .ensures) ∙ not-true _ (q .before .if3 .taken))
 
 module _ (b : tie.After-middle2) where
   abbrev o : tie.After-origin
   o = b .before .before .before .before
 
-  abbrev h : tie.After-nodes-there
+  abbrev h : tie.After-nodes-available
   h = o .before .before .before .before
 
   abbrev f : Frame
@@ -116,7 +116,7 @@ returns-4 q =
     let h = h b in
     let t = t h in
     q .prepare-at .ensures ∙ (λ i. edgesAt (m t) (kept t .frame) (c t) (north b i) (east b i))
-    ∙ all-there (m t) (kept t) (c t) (accepted t) (mean-there h) (sym (h .nodes-there .ensures) ∙ not-false _ (o b .before .before .before .if3 .left))
+    ∙ all-there (m t) (kept t) (c t) (accepted t) (mean-there h) (sym (h .nodes-available .ensures) ∙ not-false _ (o b .before .before .before .if3 .left))
 
 pub prepare-spec : {M : Type 1} → statement M
 prepare-spec =

@@ -18,7 +18,7 @@ use Rattle.position.specs.Position.{heldPlace}
 use Rattle.position.specs.declared.Located.{Located}
 use Rattle.part.proofs.Means.{mean-most}
 use Rattle.prepared_grid.specs.declared.Prepared.{Prepared}
-use Rattle.prepared_grid.specs.Edges.{nowhere, aroundOf, refusalAt, edgesAt}
+use Rattle.prepared_grid.specs.Edges.{noEdges, aroundOf, refusalAt, edgesAt}
 use Rattle.prepared_grid.specs.Private.{Near}
 use Rattle.prepared_grid.proofs.Served.{near-is}
 use Rattle.prepared_grid.proofs.prepare_at.Statement.{statement}
@@ -42,15 +42,15 @@ module _ (s : List ℕ) (f : Frame) (c : ℕ) (n e : ℤ) where
   abbrev high : ℕ
   high = refusalAt (f .number) c (edges .north) (edges .east)
 
-  no-place : (q .refusal ≡ 0 → ⊥) → nowhere ≡ edgesAt s f c n e
+  no-place : (q .refusal ≡ 0 → ⊥) → noEdges ≡ edgesAt s f c n e
   unfolding edgesAt
   no-place h = rw (ne-eqb (q .refusal) 0 h)
 
-  low-out : q .refusal ≡ 0 → (low ≡ 0 → ⊥) → nowhere ≡ edgesAt s f c n e
+  low-out : q .refusal ≡ 0 → (low ≡ 0 → ⊥) → noEdges ≡ edgesAt s f c n e
   unfolding edgesAt
   low-out z h = rw (eq-eqb (q .refusal) 0 z, ne-eqb low 0 h)
 
-  high-out : q .refusal ≡ 0 → low ≡ 0 → (high ≡ 0 → ⊥) → nowhere ≡ edgesAt s f c n e
+  high-out : q .refusal ≡ 0 → low ≡ 0 → (high ≡ 0 → ⊥) → noEdges ≡ edgesAt s f c n e
   unfolding edgesAt
   high-out z l h = rw (eq-eqb (q .refusal) 0 z, eq-eqb low 0 l, ne-eqb high 0 h)
 
@@ -92,7 +92,7 @@ module _ (k : tie.After-locate) where
 returns : tie.Need-returns
 returns t =
     let k = t .before .before .before in
-    t .nowhere .ensures ∙ no-place (m k) (f k) (c k) (n k) (e k) (λ z. t .before .if1 .taken (refusal k ∙ z))
+    t .no-edges .ensures ∙ no-place (m k) (f k) (c k) (n k) (e k) (λ z. t .before .if1 .taken (refusal k ∙ z))
 
 -- ---- the edges
 
@@ -151,7 +151,7 @@ returns-2 : tie.Need-returns-2
 returns-2 t =
     let p = t .before .before in
     let j = j p in
-    t .nowhere2 .ensures ∙ low-out (m j) (f j) (c j) (n j) (e j) (none (a p .before)) (λ z. t .before .if2 .taken (low-is p ∙ z))
+    t .no-edges2 .ensures ∙ low-out (m j) (f j) (c j) (n j) (e j) (none (a p .before)) (λ z. t .before .if2 .taken (low-is p ∙ z))
 
 module _ (r : tie.After-position-refusal2) where
   abbrev l : tie.After-position-refusal
@@ -174,7 +174,7 @@ returns-3 : tie.Need-returns-3
 returns-3 t =
     let r = t .before .before in
     let j = j (l r) in
-    t .nowhere3 .ensures ∙ high-out (m j) (f j) (c j) (n j) (e j) (none (a (l r) .before)) (low-none r) (λ z. t .before .if3 .taken (high-is r ∙ z))
+    t .no-edges3 .ensures ∙ high-out (m j) (f j) (c j) (n j) (e j) (none (a (l r) .before)) (low-none r) (λ z. t .before .if3 .taken (high-is r ∙ z))
 
 returns-4 : tie.Need-returns-4
 returns-4 t =

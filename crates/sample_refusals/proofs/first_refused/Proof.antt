@@ -8,7 +8,7 @@ use lib.ListN.{length, getD}
 use Rattle.arith.proofs.Back.{held}
 use Rattle.part.specs.Part.{counted, countedBy}
 use Rattle.part.proofs.Counts.{counted-is}
-use Rattle.sample_refusals.specs.Refusals.{answerAt, positions, firstRefused}
+use Rattle.sample_refusals.specs.Refusals.{answerAt, askedOf, firstRefused}
 use Rattle.sample_refusals.proofs.Points.{from, point, turn-refused, turn-answered, end-refused}
 use Rattle.sample_refusals.proofs.first_refused.Statement.{statement}
 use Rattle.sample_refusals.proofs.first_refused.Tie as tie
@@ -18,7 +18,7 @@ Inv-loop message kept components north east i₀ i =
     (i ≤ length components)
     × ((length components ≡ length north)
     × ((length components ≡ length east)
-    × (firstRefused message (positions components north east) ≡ firstRefused message (from components north east i))))
+    × (firstRefused message (askedOf components north east) ≡ firstRefused message (from components north east i))))
 
 abbrev μ-loop : tie.MeasureT-loop
 μ-loop message kept components north east i₀ i = length components - i

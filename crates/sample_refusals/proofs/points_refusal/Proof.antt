@@ -5,7 +5,7 @@ use borrow.Author.Needs.{needs}
 use Rattle.wire.specs.Message.{kindRefusal}
 use Rattle.part.specs.declared.Kept.{Kept}
 use Rattle.part.specs.Part.{keptOf}
-use Rattle.sample_refusals.specs.Refusals.{positions, firstRefused}
+use Rattle.sample_refusals.specs.Refusals.{askedOf, firstRefused}
 use Rattle.sample_refusals.proofs.Points.{by-message, by-north, by-east, by-point, by-count, by-none}
 use Rattle.sample_refusals.proofs.points_refusal.Statement.{statement}
 use Rattle.sample_refusals.proofs.points_refusal.Tie as tie
@@ -40,7 +40,7 @@ module _ (c : tie.After-first-refused) where
   abbrev from : tie.Start
   from = s (k .before .before)
 
-  point : c .first-refused .result ≡ firstRefused (from .args .message .now) (positions (from .args .components .now) (from .args .north .now) (from .args .east .now))
+  point : c .first-refused .result ≡ firstRefused (from .args .message .now) (askedOf (from .args .components .now) (from .args .north .now) (from .args .east .now))
   point = c .first-refused .ensures
 
 returns-4 : tie.Need-returns-4

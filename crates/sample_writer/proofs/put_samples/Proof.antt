@@ -10,7 +10,7 @@ use lib.ListN.{length, getD, take}
 use Rattle.arith.proofs.Back.{held}
 use Rattle.sample_files.specs.File.{pointSize, pointField, pointFields}
 use Rattle.sample_writer.specs.Write.{sample}
-use Rattle.sample_refusals.specs.Refusals.{positions}
+use Rattle.sample_refusals.specs.Refusals.{askedOf}
 use Rattle.sample_refusals.proofs.Points.{from, point}
 use Rattle.sample_writer.proofs.Points.{size-put, turn-fields, end-fields}
 use Rattle.sample_writer.proofs.put_samples.Statement.{statement}
@@ -23,7 +23,7 @@ Inv-loop out₀ message kept components north east i₀ out i =
     × ((length components ≡ length east)
     × ((length out ≡ pointSize * length components)
     × ((length out₀ ≡ pointSize * length components)
-    × (take (pointSize * i) out ++ pointFields (map (sample message) (from components north east i)) ≡ pointFields (map (sample message) (positions components north east)))))))
+    × (take (pointSize * i) out ++ pointFields (map (sample message) (from components north east i)) ≡ pointFields (map (sample message) (askedOf components north east)))))))
 
 abbrev μ-loop : tie.MeasureT-loop
 μ-loop out₀ message kept components north east i₀ out i = length components - i

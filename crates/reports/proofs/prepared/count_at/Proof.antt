@@ -14,7 +14,7 @@ use Rattle.arith.proofs.Machine.{Num, any, sub-within, fits, not-less, is-back}
 use Rattle.arith.proofs.Whole.{cast-natural}
 use Rattle.part.specs.Part.{countedBy}
 use Rattle.prepared_grid.specs.declared.Prepared.{Prepared}
-use Rattle.prepared_grid.specs.Private.{Between, Told, countIn}
+use Rattle.prepared_grid.specs.Private.{Between, CountBetween, countIn}
 use Rattle.reports.proofs.prepared.count_at.Statement.{statement}
 use Rattle.reports.proofs.prepared.count_at.Tie as tie
 
@@ -76,7 +76,7 @@ module _ (t : tie.Else4) where
         east = not-less (any (p .east) (record { sfits = t .before .struct-told4 .given .1 .1 .1 .0 .1 })) east (t .if4 .left);
       }
 
-  told : Told (s .args .message .now) (s .args .kept) (s .args .component) p (s .args .nodes .now) (s .args .north) (s .args .east)
+  told : CountBetween (s .args .message .now) (s .args .kept) (s .args .component) p (s .args .nodes .now) (s .args .north) (s .args .east)
   told = s .pre (s .args .north) (s .args .east) between
 
   abbrev y : Num
