@@ -12,6 +12,8 @@ ghost use Rattle.tally_update.specs.Update.{grownBy};
 ghost use Rattle.grid_refusals.specs.Refusals.{available};
 ghost use Rattle.prepared_grid.specs.Nodes.{nodeValues, nodesThere};
 
+pub mod lent;
+
 pub fn cell_lacks(mean: field::Reading, n: grid_fields::Nodes, k: cell::Weights) -> bool
     ensures { λ r. ⌜ r ≡ lacking mean n k ⌝ }
 {
