@@ -45,6 +45,15 @@ RefusedComponent =
 abbrev pub RefusedKeeps : Type 0
 RefusedKeeps = (t : Tally) (s : List ℕ) (c : ℕ) (n e : ℤ) → (nextOf t s c n e .refusal ≡ 0 → ⊥) → nextOf t s c n e .tally ≡ t
 
+-- "with answered 0, smallest, greatest and places are .. in a lent tally read as zero": an update is refused as that of the tally with zeros there, and where it is not, it is the same
+abbrev pub withZeros : Tally → Tally
+withZeros t = record { answered = t .answered; refused = t .refused; smallest = pos 0; greatest = pos 0; «smallest_place» = 0; «greatest_place» = 0; sum = t .sum }
+
+abbrev pub ReadAsZero : Type 0
+ReadAsZero =
+    (t : Tally) (s : List ℕ) (c : ℕ) (n e : ℤ) → t .answered ≡ 0
+    → (nextOf t s c n e .refusal ≡ nextOf (withZeros t) s c n e .refusal) × (nextOf t s c n e .refusal ≡ 0 → nextOf t s c n e ≡ nextOf (withZeros t) s c n e)
+
 -- ---- the numbers of a report
 
 -- "Answered plus refused equals the points given"

@@ -1,5 +1,5 @@
 // Request A10 as theorems, each the promise of a function that does nothing, so that none can be taken away unnoticed.
-ghost use Rattle.report_demands.specs.Points.{RunningIsReport, AfterEveryPoint, RefusedComponent, GivenIsAll, RefusedKeeps, SmallestIs, GreatestIs, NoneAnswered, ListsArePoints};
+ghost use Rattle.report_demands.specs.Points.{RunningIsReport, AfterEveryPoint, RefusedComponent, GivenIsAll, RefusedKeeps, ReadAsZero, SmallestIs, GreatestIs, NoneAnswered, ListsArePoints};
 
 // The running tally, from all zeros and with one message and component, and the report of the list.
 pub fn running()
@@ -7,6 +7,7 @@ pub fn running()
     ensures next { λ r. ⌜ AfterEveryPoint ⌝ }
     ensures component { λ r. ⌜ RefusedComponent ⌝ }
     ensures kept { λ r. ⌜ RefusedKeeps ⌝ }
+    ensures read { λ r. ⌜ ReadAsZero ⌝ }
 {}
 
 // What the numbers of a report say of its points.

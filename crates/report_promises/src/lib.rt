@@ -12,6 +12,8 @@ ghost use Rattle.tally_update.specs.Update.{grownBy};
 ghost use Rattle.prepared_grid.specs.Nodes.{nodeValues};
 ghost use Rattle.prepared_grid.specs.Edges.{preparedOf};
 
+pub mod by_reference;
+
 pub fn cell_lacks(mean: field::Reading, n: grid_nodes::Nodes, k: cell::Weights) -> bool
     ensures { λ r. ⌜ r ≡ lacking mean n k ⌝ }
 {
