@@ -1,26 +1,13 @@
--- A position along one direction of a grid, and the count in a cell: document 01, "The grid", on what a grid message can hold.
+-- The count in a cell: document 01, "The grid", on what a grid message can hold.
 -- Assumes nothing.
-use mathlib.Core.Bool.{Bool, not, cond, _&&_, _||_}
+use mathlib.Core.Bool.{Bool, not, cond, _&&_}
 use Prim.Native.Nat.{ℕ, _+_, _-_, _*_}
-use lib.Dec.{eqb, leb, ltb}
+use lib.Dec.{eqb, leb}
 use lib.IntN.{ℤ, pos, natAbs, _+ℤ_, _*ℤ_}
-use Rattle.bilinear.specs.Bilinear.{nearestWhole, fromEdge, outside, cell, weighted}
-use Rattle.cell.specs.declared.Place.{Place}
+use Rattle.bilinear.specs.Bilinear.{nearestWhole, weighted}
+use Rattle.direction.specs.Direction.{greatestSpacing}
 use Rattle.cell.specs.declared.Corners.{Corners}
 use Rattle.cell.specs.declared.Weights.{Weights}
-
--- the greatest spacing in steps: a raw 4,095 (uint12) of 10,000 steps
-abbrev pub greatestSpacing : ℕ
-greatestSpacing = 40950000
-
--- u is the difference position minus origin and d the spacing, in steps: 14 OUTSIDE, which a spacing that no grid has gives too;
--- or 0, the steps from the southern or western edge, and the cell
-unfoldable pub alongOf : ℕ → ℤ → Place
-alongOf d u =
-    let t = natAbs (fromEdge d u) in
-    cond (eqb d 0 || ltb greatestSpacing d || outside d u)
-    (record { refusal = 14; steps = 0; cell = 0 })
-    (record { refusal = 0; steps = t; cell = cell d t })
 
 -- the weighted sum of a cell's raw nodes, each raw number f counts
 abbrev pub sumOf : ℕ → (h w y x : ℕ) → Corners → ℤ

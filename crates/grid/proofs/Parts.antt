@@ -26,7 +26,8 @@ use Rattle.cell.specs.Private.{Within}
 use Rattle.cell.specs.declared.Corners.{Corners}
 use Rattle.cell.specs.declared.Weights.{Weights}
 use Rattle.cell.proofs.Sum.{area-most, sum-most, near-by-most, weighed}
-use Rattle.cell.proofs.Held.{along-steps, along-cell, count-by-is, count-at-is, weights-in-is}
+use Rattle.direction.proofs.Placed.{along-steps, along-cell}
+use Rattle.cell.proofs.Held.{count-by-is, count-at-is, weights-in-is}
 use Rattle.position.specs.Position.{heightOf, widthOf, northFrom, eastFrom, placeTests, located}
 use Rattle.grid.specs.Shift.{part, nodeFactor, meanFactor, surface, northOf, eastOf, gridTests, answerOf, outcome, inCellShift, shiftWith}
 use Rattle.grid.specs.Private.{Held, asked, nodesIn, valuesIn, lacking, Bounded, countAt, cellShift, partShift}

@@ -18,10 +18,10 @@ use Rattle.grid_records.specs.declared.Frame.{Frame}
 use Rattle.grid_refusals.specs.Refusals.{ellipsoidal, side, originAvailable, beyond, fieldTests}
 use Rattle.bilinear.specs.Bilinear.{fromEdge, outside}
 use Rattle.bilinear.proofs.Place.{steps-most, cell-le, cell-from, cell-upto}
-use Rattle.cell.specs.Cell.{alongOf}
+use Rattle.direction.specs.Direction.{alongOf}
 use Rattle.cell.specs.Private.{Within}
-use Rattle.cell.specs.declared.Place.{Place}
-use Rattle.cell.proofs.Held.{along-steps, along-cell}
+use Rattle.direction.specs.declared.Place.{Place}
+use Rattle.direction.proofs.Placed.{along-steps, along-cell}
 use Rattle.position.specs.Position.{stepsOf}
 use Rattle.position.specs.Position.{heightOf, widthOf, northFrom, eastFrom, placeTests, noPlace, placeOf, located}
 use Rattle.position.specs.Private.{Fields}

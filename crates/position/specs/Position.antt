@@ -12,8 +12,8 @@ use Rattle.layout.specs.Layout.{valueIn}
 use Rattle.grid_records.specs.declared.Frame.{Frame}
 use Rattle.grid_refusals.specs.Refusals.{ellipsoidal, fieldTests}
 use Rattle.bilinear.specs.Bilinear.{outside}
-use Rattle.cell.specs.Cell.{alongOf}
-use Rattle.cell.specs.declared.Place.{Place}
+use Rattle.direction.specs.Direction.{alongOf}
+use Rattle.direction.specs.declared.Place.{Place}
 use Rattle.position.specs.declared.Located.{Located}
 use Rattle.position.specs.declared.Sides.{Sides}
 

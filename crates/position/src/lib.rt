@@ -99,7 +99,7 @@ fn no_place(refusal: u8) -> Located
 }
 
 // A place in both directions, in cells h high and w wide.
-fn place_in(n: cell::Place, e: cell::Place, h: u64, w: u64) -> Located
+fn place_in(n: direction::Place, e: direction::Place, h: u64, w: u64) -> Located
     requires { ⌜ (n .cell * h ≤ n .steps) × (e .cell * w ≤ e .steps) ⌝ }
     ensures { λ r. ⌜ r ≡ placeOf n e h w ⌝ }
 {
@@ -130,14 +130,14 @@ fn place_of(f: Frame, component: u8, north: i64, east: i64) -> Located
     let spacing = f.spacing;
     let h = spacing_of(spacing.north, steps);
     let u = difference(north, layout::value_in(latitude), steps);
-    let n = cell::along(u, h);
+    let n = direction::along(u, h);
     if n.refusal != 0 {
         return no_place(14);
     }
     let longitude = origin.east;
     let w = spacing_of(spacing.east, steps);
     let v = east_difference(number, east, layout::value_in(longitude), steps);
-    let e = cell::along(v, w);
+    let e = direction::along(v, w);
     if e.refusal != 0 {
         return no_place(14);
     }

@@ -20,10 +20,11 @@ use Rattle.grid_records.specs.declared.Frame.{Frame}
 use Rattle.grid_refusals.specs.Refusals.{beyond, ellipsoidal, available, fieldTests}
 use Rattle.bilinear.specs.Bilinear.{fromEdge, outside, cell, lacks}
 use Rattle.bilinear.proofs.Place.{steps-are, cell-le}
-use Rattle.cell.specs.Cell.{alongOf, countBy}
+use Rattle.direction.specs.Direction.{alongOf}
+use Rattle.cell.specs.Cell.{countBy}
 use Rattle.cell.specs.declared.Corners.{Corners}
 use Rattle.cell.specs.declared.Weights.{Weights}
-use Rattle.cell.proofs.Held.{along-steps, along-cell}
+use Rattle.direction.proofs.Placed.{along-steps, along-cell}
 use Rattle.grid_fields.specs.Fields.{meanSays}
 use Rattle.grid_nodes.specs.NodeFields.{nodeSays, nodesSaid, cellSays}
 use Rattle.grid_nodes.specs.declared.Nodes.{Nodes}

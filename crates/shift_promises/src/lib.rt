@@ -8,7 +8,8 @@ ghost use Rattle.field.specs.Field.{fieldAt, signedAt};
 ghost use Rattle.grid_records.specs.Grids.{frameAt, shiftsAt};
 ghost use Rattle.grid_fields.specs.Fields.{gridSays, meanSays};
 ghost use Rattle.grid_nodes.specs.NodeFields.{nodeSays, cellSays, cellsSay};
-ghost use Rattle.cell.specs.Cell.{alongOf, sumIn, weightsIn, countBy};
+ghost use Rattle.direction.specs.Direction.{alongOf};
+ghost use Rattle.cell.specs.Cell.{sumIn, weightsIn, countBy};
 ghost use Rattle.position.specs.Position.{heldPlace, heldSides};
 ghost use Rattle.grid_refusals.specs.Refusals.{beyond, fieldTests};
 ghost use Rattle.grid.specs.Shift.{nodeFactor, messageShifts, recordShifts};
@@ -17,10 +18,10 @@ ghost use Rattle.arith.specs.Row.{at};
 ghost use Rattle.height_mean.specs.Means.{smallestMean};
 ghost use Rattle.heights.specs.Heights.{writeHeights};
 
-pub fn along(difference: i64, spacing: u64) -> cell::Place
+pub fn along(difference: i64, spacing: u64) -> direction::Place
     ensures { λ r. ⌜ r ≡ alongOf spacing difference ⌝ }
 {
-    cell::along(difference, spacing)
+    direction::along(difference, spacing)
 }
 
 pub fn sum_in(factor: u64, n: cell::Corners, h: u64, w: u64, y: u64, x: u64) -> i64

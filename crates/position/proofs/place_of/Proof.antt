@@ -12,9 +12,9 @@ use Rattle.arith.proofs.Back.{held}
 use Rattle.arith.proofs.Machine.{is-back}
 use Rattle.layout.specs.Layout.{valueIn}
 use Rattle.bilinear.specs.Bilinear.{outside}
-use Rattle.cell.specs.Cell.{alongOf}
-use Rattle.cell.specs.declared.Place.{Place}
-use Rattle.cell.proofs.Held.{along-refusal}
+use Rattle.direction.specs.Direction.{alongOf}
+use Rattle.direction.specs.declared.Place.{Place}
+use Rattle.direction.proofs.Placed.{along-refusal}
 use Rattle.grid_records.specs.declared.Frame.{Frame}
 use Rattle.grid_refusals.specs.Refusals.{ellipsoidal, fieldTests}
 use Rattle.position.specs.Position.{stepsOf, eastBy}

@@ -1,4 +1,4 @@
--- `shift_promises::along` meets its contract, which is that of `cell::along`.
+-- `shift_promises::along` meets its contract, which is that of `direction::along`.
 -- Assumes nothing.
 use Rattle.field.proofs.Sign.{bits-z}
 use Rattle.shift_promises.proofs.along.Statement.{statement}

@@ -1,11 +1,11 @@
--- `cell::cell_of` meets its contract.
+-- `direction::cell_of` meets its contract.
 -- Assumes nothing.
 use mathlib.Core.Path.{sym}
 use native.Mathlib.Omega.{arith}
 use borrow.Author.Needs.{needs}
 use Rattle.bilinear.proofs.Place.{cell-is, cell-far}
-use Rattle.cell.proofs.cell_of.Statement.{statement}
-use Rattle.cell.proofs.cell_of.Tie as tie
+use Rattle.direction.proofs.cell_of.Statement.{statement}
+use Rattle.direction.proofs.cell_of.Tie as tie
 
 returns : tie.Need-returns
 returns c = sym (cell-is _ _ 0 (omega arith) (omega arith) (omega arith))

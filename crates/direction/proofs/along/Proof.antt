@@ -1,17 +1,16 @@
--- `cell::along` meets its contract.
+-- `direction::along` meets its contract.
 -- Assumes nothing.
-use mathlib.Core.Path.{_≡_, sym, ap, _∙_}
-use mathlib.Core.Bool.{Bool}
+use mathlib.Core.Path.{_≡_, ap, _∙_, subst}
+use Prim.Native.Nat.{ℕ, _≤_, _<_}
 use native.Mathlib.Omega.{arith}
 use borrow.Author.Needs.{needs}
-use borrow.Author.Tests.{not-true, not-false, leb-true, leb-false, eq-eqb, ne-eqb, lt-ltb}
-use lib.Dec.{leb}
-use lib.IntN.{ℤ, natAbs}
+use borrow.Author.Tests.{eq-eqb, ne-eqb, lt-ltb}
+use lib.IntN.{natAbs}
 use Rattle.arith.proofs.Machine.{is-back}
-use Rattle.cell.specs.Cell.{alongOf}
-use Rattle.cell.proofs.Held.{along-out, unplaced-is, far-outside}
-use Rattle.cell.proofs.along.Statement.{statement}
-use Rattle.cell.proofs.along.Tie as tie
+use Rattle.direction.specs.Direction.{alongOf}
+use Rattle.direction.proofs.Placed.{along-out, unplaced-is, far-outside}
+use Rattle.direction.proofs.along.Statement.{statement}
+use Rattle.direction.proofs.along.Tie as tie
 
 returns : tie.Need-returns
 returns c =
@@ -24,9 +23,9 @@ returns-2 c =
     along-out (s .args .spacing) (s .args .difference) (c .outer2 .ensures)
     (rw (ne-eqb (s .args .spacing) 0 (c .before .before .if1 .left), lt-ltb 40950000 (s .args .spacing) (c .before .if2 .taken)))
 
--- what the test of the difference says
-near : (k : tie.After-no-larger) {b : Bool} → k .no-larger .result ≡ b → leb (natAbs (k .before .before .before .args .difference)) 10000000000000 ≡ b
-near k e = sym (k .no-larger .ensures ∙ ap (λ (z : ℤ). leb (natAbs z) 10000000000000) (is-back (k .before .before .before .fits .difference))) ∙ e
+-- the magnitude of the difference
+size : (k : tie.After-magnitude) → k .magnitude .result ≡ natAbs (k .before .before .before .args .difference)
+size k = k .magnitude .ensures ∙ ap natAbs (is-back (k .before .before .before .fits .difference))
 
 returns-3 : tie.Need-returns-3
 returns-3 c =
@@ -34,14 +33,14 @@ returns-3 c =
     let s = k .before .before .before in
     along-out (s .args .spacing) (s .args .difference) (c .outer3 .ensures)
     (unplaced-is (s .args .spacing) (s .args .difference) (omega (arith, k .before .before .if1 .left)) (k .before .if2 .left)
-    (far-outside (s .args .spacing) (s .args .difference) (k .before .if2 .left) (leb-false _ _ (near k (not-true _ (c .before .if3 .taken))))))
+    (far-outside (s .args .spacing) (s .args .difference) (k .before .if2 .left) (subst (λ (n : ℕ). 10000000000000 < n) (size k) (c .before .if3 .taken))))
 
 axis-requires : tie.Need-axis-requires
 axis-requires c κs =
     let k = c .before in
     let s = k .before .before .before in
     rw (is-back (s .fits .difference))
-    (leb-true _ _ (near k (not-false _ (c .if3 .left))), omega (arith, k .before .before .if1 .left), k .before .if2 .left)
+    (subst (λ (n : ℕ). n ≤ 10000000000000) (size k) (c .if3 .left), omega (arith, k .before .before .if1 .left), k .before .if2 .left)
 
 returns-4 : tie.Need-returns-4
 returns-4 c =

@@ -1,4 +1,4 @@
--- `cell::axis` meets its contract.
+-- `direction::axis` meets its contract.
 -- Assumes nothing.
 use mathlib.Core.Path.{_≡_, refl, ap, _∙_}
 use mathlib.Core.Bool.{Bool, true, false}
@@ -10,9 +10,9 @@ use lib.Signed.{ltZ}
 use Rattle.arith.proofs.Whole.{cast-natural}
 use Rattle.bilinear.specs.Bilinear.{fromEdge, outside, cell}
 use Rattle.arith.proofs.Machine.{Num, arg, cast, lit, add, fits, test}
-use Rattle.cell.proofs.Held.{along-out, unplaced-is, along-in}
-use Rattle.cell.proofs.axis.Statement.{statement}
-use Rattle.cell.proofs.axis.Tie as tie
+use Rattle.direction.proofs.Placed.{along-out, unplaced-is, along-in}
+use Rattle.direction.proofs.axis.Statement.{statement}
+use Rattle.direction.proofs.axis.Tie as tie
 
 module _ (c : tie.Start) where
   abbrev u : ℤ
