@@ -27,7 +27,8 @@ use Rattle.grid.specs.declared.Answer.the-variants.{Refused}
 use Rattle.grid.specs.declared.Shift.{Shift}
 use Rattle.grid.specs.declared.ThreeShifts.{ThreeShifts}
 use Rattle.grid_refusals.specs.Refusals.{ellipsoidal, available, fieldTests}
-use Rattle.grid.specs.Shift.{nodeFactor, surface, northOf, eastOf, outcome, shiftWith, recordShiftRefusal, shiftRefusal, recordShift, messageShift, answerOf, floatOf, threeOf, messageShifts}
+use Rattle.cell_counts.specs.Counts.{nodeFactor}
+use Rattle.grid.specs.Shift.{surface, northOf, eastOf, outcome, shiftWith, recordShiftRefusal, shiftRefusal, recordShift, messageShift, answerOf, floatOf, threeOf, messageShifts}
 use Rattle.position.specs.Position.{byTurns, eastBy}
 use Rattle.grid.proofs.Accepted.{message-grid, held-is-written}
 use Rattle.grid.proofs.Lipschitz.{lipschitz-message, spaced, counted, east-steps}

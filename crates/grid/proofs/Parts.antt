@@ -1,36 +1,36 @@
--- From a place and what its nodes say to the answer: the refusals of a cell, the bound of the count, and the answer of a grid.
+-- From a place and what its nodes say to the answer: the refusals of a cell, the count at a place, and the answer of a grid.
 -- Assumes nothing.
 use mathlib.Core.Path.{_≡_, refl, sym, ap, _∙_, subst}
-use mathlib.Core.Bool.{Bool, true, false, not, cond, _&&_}
+use mathlib.Core.Bool.{Bool, true, false, cond, _&&_}
 use mathlib.Core.List.{List, [], _∷_}
 use Prim.Native.Nat.{ℕ, zero, suc, _+_, _*_, _-_, _≤_, _<_}
 use native.Mathlib.Nat.{le-trans}
 use native.Mathlib.Omega.{arith}
 use borrow.Author.Tests.{eq-eqb, ne-eqb}
-use lib.Dec.{eqb, ltb, lit≤}
+use lib.Dec.{ltb, lit≤}
 use lib.IntN.{ℤ, pos, natAbs, _+ℤ_, _*ℤ_}
 use Rattle.arith.specs.First.{Test, first}
 use Rattle.arith.specs.Whole.{sameZ}
 use Rattle.arith.proofs.First.{stops, goes-on, passes}
-use Rattle.arith.proofs.Machine.{Num, lit, arg, mul, add}
-use Rattle.arith.proofs.Tests.{false-ne-true}
+use Rattle.arith.proofs.Machine.{Num, lit, arg, mul}
 use Rattle.field.specs.declared.Reading.{Reading}
-use Rattle.field.specs.declared.Reading.the-variants.{Value, Absent}
 use Rattle.layout.specs.Layout.{valueIn}
 use Rattle.grid_records.specs.declared.Grid.{Grid}
 use Rattle.grid_records.specs.Grids.{frameOf}
-use Rattle.grid_refusals.specs.Refusals.{available}
-use Rattle.bilinear.specs.Bilinear.{nearestWhole, fromEdge, outside, cell, lacks, inCell, exact, interpolated, absentIn, absent}
-use Rattle.cell.specs.Cell.{weightsOf, weightsIn, areaOf, sumBy, sumOf}
-use Rattle.cell.specs.Private.{Within}
+use Rattle.bilinear.specs.Bilinear.{nearestWhole, fromEdge, outside, cell, inCell, exact, interpolated, absentIn, absent}
+use Rattle.cell.specs.Cell.{weightsOf, weightsIn, sumOf}
+use Rattle.cell.specs.Private.{Within, Weighed, Most}
 use Rattle.cell.specs.declared.Corners.{Corners}
 use Rattle.cell.specs.declared.Weights.{Weights}
-use Rattle.cell.proofs.Sum.{area-most, sum-most, near-by-most, weighed}
+use Rattle.cell.proofs.Sum.{area-most, sum-most, weighed}
 use Rattle.direction.proofs.Placed.{along-steps, along-cell}
-use Rattle.cell.proofs.Held.{count-by-is, count-at-is, weights-in-is}
+use Rattle.cell.proofs.Held.{count-at-is, weights-in-is}
+use Rattle.cell_counts.specs.Counts.{nodeFactor, meanFactor, valuesIn, lacking, countAt, refusedWith, cellCount}
+use Rattle.cell_counts.specs.declared.Counted.{Counted}
+use Rattle.cell_counts.proofs.Bounds.{count-most}
 use Rattle.position.specs.Position.{heightOf, widthOf, northFrom, eastFrom, placeTests, located}
-use Rattle.grid.specs.Shift.{part, nodeFactor, meanFactor, surface, northOf, eastOf, gridTests, answerOf, outcome, inCellShift, shiftWith}
-use Rattle.grid.specs.Private.{Held, asked, nodesIn, valuesIn, lacking, Bounded, countAt, cellShift, partShift}
+use Rattle.grid.specs.Shift.{part, surface, northOf, eastOf, gridTests, answerOf, outcome, inCellShift, shiftWith}
+use Rattle.grid.specs.Private.{Held, nodesIn, cellShift, partShift}
 use Rattle.grid.specs.declared.Answer.the-variants.{Refused}
 use Rattle.position.specs.declared.Located.{Located}
 use Rattle.grid_nodes.specs.declared.Nodes.{Nodes}
@@ -50,69 +50,20 @@ pub refusal-is : (number : ℤ) (c r : ℕ) → (r ≡ 0 → ⊥) → Refuses r 
 unfolding outcome answerOf
 refusal-is number c r n = rw (ne-eqb r 0 n) (refl, refl, refl)
 
--- ---- what a node of weight w says
-
-differ : {z : ℤ} → Value z ≡ Absent → ⊥
-differ e = false-ne-true (sym (ap available e))
-
-none : (b : Bool) (r : Reading) → cond b (Value (valueIn r)) r ≡ Absent → (not b && not (available r)) ≡ true
-none true r e = absurd (differ e)
-none false (Value z) e = absurd (differ e)
-none false Absent e = refl
-
-some : (b : Bool) (r : Reading) {z : ℤ} → cond b (Value (valueIn r)) r ≡ Value z → ((not b && not (available r)) ≡ false) × (z ≡ valueIn r)
-some true r e = (refl, sym (ap valueIn e))
-some false (Value z) e = (refl, sym (ap valueIn e))
-some false Absent e = absurd (differ (sym e))
-
-module _ (w : ℕ) (r : Reading) {q : Reading} (h : q ≡ asked w r) where
-  pub missing : q ≡ Absent → lacks w (available r) ≡ true
-  unfolding lacks
-  missing e = none (eqb w 0) r (sym h ∙ e)
-
-  pub given : {z : ℤ} → q ≡ Value z → (lacks w (available r) ≡ false) × (z ≡ valueIn r)
-  unfolding lacks
-  given e = some (eqb w 0) r (sym h ∙ e)
-
 -- ---- the answers in a cell
 
-module _ (number : ℤ) (c : ℕ) (mean : Reading) (n : Nodes) (k : Weights) (s : Shift) where
-  abbrev lack : Bool
-  lack = lacking mean n k
-
+module _ (number : ℤ) (c : ℕ) (mean : Reading) (n : Nodes) (k : Weights) where
   abbrev count : ℤ
   count = countAt number c (valueIn mean) (valuesIn n) k
 
-  absent-out : lack ≡ true → Refuses 15 s → s ≡ cellShift number c mean n k
-  unfolding cellShift
-  absent-out e r = refuses number c 15 count s r (λ z. absurd (omega arith)) ∙ rw e
+  of-count : (b : Bool) → let r : Counted = cond b (refusedWith 15) (record { refusal = 0; count = count }) in outcome number c (r .refusal) (r .count) ≡ outcome number c (cond b 15 0) count
+  unfolding outcome
+  of-count true = refl
+  of-count false = refl
 
-  present-out : lack ≡ false → s ≡ outcome number c 0 count → s ≡ cellShift number c mean n k
-  unfolding cellShift
-  present-out e h = h ∙ rw e
-
-  pub mean-out : available mean ≡ false → Refuses 15 s → s ≡ cellShift number c mean n k
-  mean-out e = absent-out (rw e)
-
-  module _ (m : available mean ≡ true) where
-    pub sw-out : lacks (k .sw) (available (n .sw)) ≡ true → Refuses 15 s → s ≡ cellShift number c mean n k
-    sw-out e = absent-out (rw (m, e))
-
-    module _ (a : lacks (k .sw) (available (n .sw)) ≡ false) where
-      pub se-out : lacks (k .se) (available (n .se)) ≡ true → Refuses 15 s → s ≡ cellShift number c mean n k
-      se-out e = absent-out (rw (m, a, e))
-
-      module _ (b : lacks (k .se) (available (n .se)) ≡ false) where
-        pub nw-out : lacks (k .nw) (available (n .nw)) ≡ true → Refuses 15 s → s ≡ cellShift number c mean n k
-        nw-out e = absent-out (rw (m, a, b, e))
-
-        module _ (d : lacks (k .nw) (available (n .nw)) ≡ false) where
-          pub ne-out : lacks (k .ne) (available (n .ne)) ≡ true → Refuses 15 s → s ≡ cellShift number c mean n k
-          ne-out e = absent-out (rw (m, a, b, d, e))
-
-          pub all-in : lacks (k .ne) (available (n .ne)) ≡ false → {z y : ℤ} {w : Corners} → s ≡ outcome z c 0 (countAt z c y w k)
-              → z ≡ number → y ≡ valueIn mean → w ≡ valuesIn n → s ≡ cellShift number c mean n k
-          all-in e h i j l = present-out (rw (m, a, b, d, e)) (h ∙ (λ x. outcome (i x) c 0 (countAt (i x) c (j x) (l x) k)))
+  pub cell-outcome : cellShift number c mean n k ≡ outcome number c (cond (lacking mean n k) 15 0) count
+  unfolding cellShift cellCount
+  cell-outcome = of-count (lacking mean n k)
 
 pub factor-most : (number : ℤ) (c : ℕ) → nodeFactor number c ≤ 10
 factor-most number c = by (sameZ number (pos 1023) && ltb c 2)
@@ -121,29 +72,19 @@ factor-most number c = by (sameZ number (pos 1023) && ltb c 2)
     by true = omega arith
     by false = omega arith
 
-module _ (number : ℤ) (c : ℕ) {m : ℤ} {n : Corners} {k : Weights} (b : Bounded m n k) where
-  abbrev means : Num
-  means = mul (lit 100 tt) (arg m 16384 (b .mean) tt) tt
-
-  abbrev value : ℤ
-  value = pos meanFactor *ℤ m +ℤ nearestWhole (sumBy (nodeFactor number c) k n) (areaOf k)
-
-  count-is : countAt number c m n k ≡ value
-  count-is = count-by-is (means .z) (nodeFactor number c) n k (b .weights) (b .nodes) (means .le) (factor-most number c)
-
-  pub count-most : natAbs (countAt number c m n k) ≤ 9007199254740992
-  count-most =
-      rw count-is
-      (le-trans
-      (add means
-      (arg (nearestWhole (sumBy (nodeFactor number c) k n) (areaOf k)) 2560
-      (near-by-most k (nodeFactor number c) n (factor-most number c) (b .nodes) (b .weights .some)) tt) tt .le)
-      (lit≤ tt))
+-- weights of a place in its cell, with values that a grid message can hold
+pub record Bounded (m : ℤ) (n : Corners) (k : Weights) : Type 0 where
+  pub mean : natAbs m ≤ 16384
+  pub nodes : Most 256 n
+  pub weights : Weighed k
 
 -- at a place in its cell
 module _ (number : ℤ) (c : ℕ) {m : ℤ} {n : Corners} {h w y x : ℕ} (p : Within h w y x) (b : Bounded m n (weightsOf h w y x)) where
+  abbrev means : Num
+  means = mul (lit 100 tt) (arg m 16384 (b .mean) tt) tt
+
   pub count-at : countAt number c m n (weightsOf h w y x) ≡ pos meanFactor *ℤ m +ℤ nearestWhole (sumOf (nodeFactor number c) h w y x n) (h * w)
-  count-at = count-at-is p (means number c b .z) (nodeFactor number c) n (b .nodes) (means number c b .le) (factor-most number c)
+  count-at = count-at-is p (means .z) (nodeFactor number c) n (b .nodes) (means .le) (factor-most number c)
 
 -- ---- the answer of a grid
 
@@ -181,8 +122,10 @@ summed g c k l p f w =
 
 pub cell-is : (g : Grid) (c k l y x : ℕ) → In (placeAt g c k l y x) → Summed g c k l (placeAt g c k l y x)
     → cellShift (g .number) c (part c (g .mean)) (nodesIn (g .nodes) c k l) (weightsAt (placeAt g c k l y x)) ≡ inCellShift g c k l y x
-unfolding cellShift absentIn inCell surface
-cell-is g c k l y x w b = ap (outcome (g .number) c (cond (absentIn (surface g c) k l y x) 15 0)) (count-at (g .number) c w b)
+unfolding absentIn inCell surface
+cell-is g c k l y x w b =
+    cell-outcome (g .number) c (part c (g .mean)) (nodesIn (g .nodes) c k l) (weightsAt (placeAt g c k l y x))
+    ∙ ap (outcome (g .number) c (cond (absentIn (surface g c) k l y x) 15 0)) (count-at (g .number) c w b)
 
 module _ (g : Grid) (c : ℕ) (n e : ℤ) where
   abbrev p : Located
@@ -276,7 +219,7 @@ module _ (g : Grid) (c : ℕ) (n e : ℤ) where
     pub whole-most : natAbs (interpolated (surface g c) (northOf g n) (eastOf g e)) ≤ 9007199254740992
     unfolding interpolated exact inCell surface
     whole-most =
-        subst (λ (z : ℤ). natAbs z ≤ 9007199254740992) (count-at (g .number) c in-place summed-place) (count-most (g .number) c summed-place)
+        subst (λ (z : ℤ). natAbs z ≤ 9007199254740992) (count-at (g .number) c in-place summed-place) (le-trans (count-most _ _ _ _) (lit≤ tt))
 
 -- ---- a position that is answered
 
@@ -312,9 +255,6 @@ module _ (g : Grid) (c : ℕ) (n e : ℤ) (f : Held g) {r : ℕ} {t : Located} (
       (p : m ≡ part c (g .mean))
       (q : r ≡ 0 → w ≡ nodesIn (g .nodes) c (t .row) (t .column))
       (l : k ≡ weightsIn (t .height) (t .width) (t .north) (t .east)) where
-    pub call-summed : r ≡ 0 → Bounded (valueIn m) (valuesIn w) k
-    call-summed z = rw (p, q z, l, weights-of-place z, b z) (summed-in g c n e f (none-at z))
-
     part-is : (x : ℕ) → r ≡ x → partShift (g .number) c r m w k ≡ shiftWith g c n e (first (gridTests g c n e))
     unfolding partShift
     part-is zero y = rw (eq-eqb r 0 y) (rw (p, q y, l, weights-of-place y, b y) (answered-out g c n e f (none-at y)))

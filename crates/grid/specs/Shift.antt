@@ -20,26 +20,16 @@ use Rattle.wire.specs.Message.{tests, numberOf, row}
 use Rattle.message.specs.Kinds.{gridHeld}
 use Rattle.grid_refusals.specs.Refusals.{ellipsoidal, available, fieldTests}
 use Rattle.position.specs.Position.{stepsOf, eastBy}
+use Rattle.cell_counts.specs.Counts.{nodeFactor, meanFactor}
 use Rattle.bilinear.specs.Bilinear.{Surface, nearestWhole, outside, inCell, absentIn, absent, interpolated}
 use Rattle.grid.specs.declared.Answer.{Answer}
 use Rattle.grid.specs.declared.Answer.the-variants.{Seconds, Metres, Refused}
 use Rattle.grid.specs.declared.Shift.{Shift}
 use Rattle.grid.specs.declared.ThreeShifts.{ThreeShifts}
 
--- ---- from values of fields to steps and counts
-
 -- the components of a shift, document 01's term: 0 north-south, 1 east-west, 2 height
 abbrev pub part : ℕ → Shifts → Reading
 part c s = cond (eqb c 0) (s .north) (cond (eqb c 1) (s .east) (s .height))
-
--- counts in a raw step of a node: 0.00003" over 0.00001" (DF199, DF200), 0.001 m over 0.1 mm (DF201, DF209 to DF211)
-abbrev pub nodeFactor : ℤ → ℕ → ℕ
-nodeFactor number c = cond (ellipsoidal number && ltb c 2) 3 10
-
--- counts in a raw step of the mean: 0.001" over 0.00001" (DF196, DF197), 0.01 m over 0.1 mm (DF198, DF206 to DF208): 100 in all.
--- Document 01 prints 10 for DF206 and DF207 and lets the resolution column of 000 decide: D6 of docs/DECISIONS.md
-abbrev pub meanFactor : ℕ
-meanFactor = 100
 
 -- ---- the component's surface, and the place in it
 

@@ -1,5 +1,4 @@
 // The shift at a position from a grid message, 1023 or 1024.
-use cell::Corners;
 use cell::Weights;
 use field::Reading;
 use grid_nodes::Nodes;
@@ -8,9 +7,8 @@ use grid_records::Shifts;
 ghost use mathlib.Core.Path.{_≡_};
 ghost use Prim.Native.Nat.{_≤_};
 ghost use lib.IntN.{ℤ, pos, natAbs};
-ghost use Rattle.layout.specs.Layout.{valueIn};
-ghost use Rattle.grid.specs.Shift.{part, nodeOf, nodeFactor, answerOf, outcome, floatOf, threeOf, recordShifts, messageShifts};
-ghost use Rattle.grid.specs.Private.{Bounded, asked, valuesIn, nodesIn, countAt, cellShift, partShift};
+ghost use Rattle.grid.specs.Shift.{part, nodeOf, answerOf, outcome, floatOf, threeOf, recordShifts, messageShifts};
+ghost use Rattle.grid.specs.Private.{nodesIn, cellShift, partShift};
 
 // What the add-on gets: arc seconds, metres, or the refusal number.
 pub enum Answer {
@@ -52,19 +50,6 @@ fn refused(refusal: u8) -> Shift
     }
 }
 
-// Counts in a unit of a node.
-pub fn factor_of(number: i64, component: u8) -> u64
-    ensures { λ r. ⌜ r ≡ nodeFactor number component ⌝ }
-{
-    if number != 1023 {
-        return 10;
-    }
-    if component < 2 {
-        return 3;
-    }
-    10
-}
-
 // The second answer for a count.
 fn answer_of(number: i64, component: u8, count: i64) -> Answer
     requires { ⌜ natAbs count ≤ 9007199254740992 ⌝ }
@@ -79,60 +64,23 @@ fn answer_of(number: i64, component: u8, count: i64) -> Answer
     Answer::Metres(count as f64 / 10000.0)
 }
 
-// What a node says that has this weight: without weight it is not asked for.
-fn weighted(weight: u64, r: Reading) -> Reading
-    ensures { λ q. ⌜ q ≡ asked weight r ⌝ }
-{
-    if weight == 0 {
-        return Reading::Value(layout::value_in(r));
-    }
-    r
-}
-
-// The shift at a place from its mean, its nodes and their weights.
-fn count_shift(number: i64, component: u8, mean: i64, n: Corners, k: Weights) -> Shift
-    requires { ⌜ Bounded mean n k ⌝ }
-    ensures { λ r. ⌜ r ≡ outcome number component 0 (countAt number component mean n k) ⌝ }
-{
-    let factor = factor_of(number, component);
-    let count = cell::count_by(100 * mean, factor, n, k);
-    Shift {
-        refusal: 0,
-        count,
-        answer: answer_of(number, component, count),
-    }
-}
-
-// ABSENT, or the shift at a place: each field that is asked for is taken apart into its value.
+// ABSENT, or the shift at a place.
 fn cell_shift(number: i64, component: u8, mean: Reading, n: Nodes, k: Weights) -> Shift
-    requires { ⌜ Bounded (valueIn mean) (valuesIn n) k ⌝ }
     ensures { λ r. ⌜ r ≡ cellShift number component mean n k ⌝ }
 {
-    let Reading::Value(m) = mean else {
-        return refused(15);
-    };
-    let a = n.sw;
-    let Reading::Value(sw) = weighted(k.sw, a) else {
-        return refused(15);
-    };
-    let b = n.se;
-    let Reading::Value(se) = weighted(k.se, b) else {
-        return refused(15);
-    };
-    let c = n.nw;
-    let Reading::Value(nw) = weighted(k.nw, c) else {
-        return refused(15);
-    };
-    let d = n.ne;
-    let Reading::Value(ne) = weighted(k.ne, d) else {
-        return refused(15);
-    };
-    count_shift(number, component, m, Corners { sw, se, nw, ne }, k)
+    let c = cell_counts::cell_count(number, component, mean, n, k);
+    if c.refusal != 0 {
+        return refused(c.refusal);
+    }
+    Shift {
+        refusal: 0,
+        count: c.count,
+        answer: answer_of(number, component, c.count),
+    }
 }
 
 // One part: the refusal of the position, or the shift at its place.
 fn part_shift(number: i64, component: u8, refusal: u8, mean: Reading, n: Nodes, k: Weights) -> Shift
-    requires { ⌜ (refusal ≡ 0 → Bounded (valueIn mean) (valuesIn n) k) ⌝ }
     ensures { λ r. ⌜ r ≡ partShift number component refusal mean n k ⌝ }
 {
     if refusal != 0 {

@@ -38,7 +38,8 @@ use Rattle.position.proofs.Places.{early, spacings}
 use Rattle.position.proofs.Antimeridian.{turned-only}
 use Rattle.grid.specs.declared.Shift.{Shift}
 use Rattle.grid.specs.Private.{Held}
-use Rattle.grid.specs.Shift.{nodeFactor, surface, northOf, eastOf, gridTests, answerOf, outcome, shiftWith, messageShift, floatOf, threeOf, messageShifts}
+use Rattle.cell_counts.specs.Counts.{nodeFactor}
+use Rattle.grid.specs.Shift.{surface, northOf, eastOf, gridTests, answerOf, outcome, shiftWith, messageShift, floatOf, threeOf, messageShifts}
 use Rattle.grid.proofs.Accepted.{message-passed, message-fields}
 use Rattle.height_mean.specs.Means.{less, nearAt, fits, smallestMean}
 use Rattle.height_mean.proofs.Near.{less-most}

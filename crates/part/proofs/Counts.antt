@@ -1,7 +1,7 @@
 -- What is counted by a kept message is one part of the call for the three shifts.
 -- Assumes nothing.
 use mathlib.Core.Path.{_≡_, refl, sym, ap, _∙_, subst}
-use mathlib.Core.Bool.{cond}
+use mathlib.Core.Bool.{Bool, true, false, cond}
 use mathlib.Core.List.{List}
 use Prim.Native.Nat.{ℕ}
 use native.Mathlib.Decide.{ℕ-discrete}
@@ -9,6 +9,7 @@ use borrow.Author.Tests.{eq-eqb, ne-eqb}
 use lib.Dec.{eqb}
 use lib.IntN.{ℤ, pos}
 use Rattle.field.specs.declared.Reading.{Reading}
+use Rattle.layout.specs.Layout.{valueIn}
 use Rattle.row.specs.Numbers.{says}
 use Rattle.grid_records.specs.declared.Frame.{Frame}
 use Rattle.grid_records.specs.declared.Grid.{Grid}
@@ -22,14 +23,15 @@ use Rattle.grid_nodes.specs.declared.Nodes.{Nodes}
 use Rattle.position.specs.Position.{located, heldPlace}
 use Rattle.position.specs.declared.Located.{Located}
 use Rattle.position.proofs.Held.{held-place}
+use Rattle.cell_counts.specs.Counts.{valuesIn, lacking, countAt, refusedWith, cellCount}
+use Rattle.cell_counts.specs.declared.Counted.{Counted}
 use Rattle.grid.specs.Shift.{outcome, shiftWith, messageShift}
 use Rattle.grid.specs.Private.{Held, cellShift, partShift}
 use Rattle.grid.proofs.Accepted.{message-passed, message-fields}
 use Rattle.grid.proofs.Parts.{call-cell, call-part}
 use Rattle.grid.proofs.Said.{frame-said, mean-said, nodes-said}
 use Rattle.grid.proofs.Sides.{message-none-given}
-use Rattle.part.specs.Part.{counted, refusedWith, keptOf, countedBy}
-use Rattle.part.specs.declared.Counted.{Counted}
+use Rattle.part.specs.Part.{counted, keptOf, countedBy}
 
 -- a refusal
 counted-refused : (number : ℤ) (c r : ℕ) → (r ≡ 0 → ⊥) → refusedWith r ≡ counted (outcome number c r (pos 0))
@@ -38,8 +40,17 @@ counted-refused number c r o = rw (ne-eqb r 0 o)
 
 -- the refusal of a place, or what is in its cell
 module _ (number : ℤ) (c r : ℕ) (m : Reading) (w : Nodes) (k : Weights) where
+  of-cell : (b : Bool) (z : ℤ) → let o : Counted = cond b (refusedWith 15) (record { refusal = 0; count = z }) in o ≡ counted (outcome number c (o .refusal) (o .count))
+  unfolding outcome
+  of-cell true z = refl
+  of-cell false z = refl
+
+  counted-cell : cellCount number c m w k ≡ counted (cellShift number c m w k)
+  unfolding cellShift cellCount
+  counted-cell = of-cell (lacking m w k) (countAt number c (valueIn m) (valuesIn w) k)
+
   abbrev given : Counted
-  given = cond (eqb r 0) (counted (cellShift number c m w k)) (refusedWith r)
+  given = cond (eqb r 0) (cellCount number c m w k) (refusedWith r)
 
   some-part : (r ≡ 0 → ⊥) → given ≡ counted (partShift number c r m w k)
   unfolding partShift
@@ -47,7 +58,7 @@ module _ (number : ℤ) (c r : ℕ) (m : Reading) (w : Nodes) (k : Weights) wher
 
   none-part : r ≡ 0 → given ≡ counted (partShift number c r m w k)
   unfolding partShift
-  none-part h = rw (eq-eqb r 0 h)
+  none-part h = rw (eq-eqb r 0 h) counted-cell
 
   counted-part : given ≡ counted (partShift number c r m w k)
   counted-part = by (ℕ-discrete r 0)

@@ -4,25 +4,21 @@ use Prim.Native.Nat.{ℕ}
 use mathlib.Core.Bool.{cond}
 use mathlib.Core.List.{List}
 use lib.Dec.{eqb}
-use lib.IntN.{ℤ, pos}
+use lib.IntN.{ℤ}
 use Rattle.grid_records.specs.Grids.{frameAt}
 use Rattle.wire.specs.Message.{kindRefusal}
 use Rattle.position.specs.Position.{heldPlace}
 use Rattle.cell.specs.Cell.{weightsIn}
 use Rattle.grid_fields.specs.Fields.{gridSays, meanSays}
 use Rattle.grid_nodes.specs.NodeFields.{cellSays}
-use Rattle.grid.specs.Private.{cellShift}
+use Rattle.cell_counts.specs.Counts.{refusedWith, cellCount}
+use Rattle.cell_counts.specs.declared.Counted.{Counted}
 use Rattle.grid.specs.declared.Shift.{Shift}
-use Rattle.part.specs.declared.Counted.{Counted}
 use Rattle.part.specs.declared.Kept.{Kept}
 
 -- the refusal and the count of a part
 abbrev pub counted : Shift → Counted
 counted p = record { refusal = p .refusal; count = p .count }
-
--- refusal r, and a count of 0
-abbrev pub refusedWith : ℕ → Counted
-refusedWith r = record { refusal = r; count = pos 0 }
 
 -- what is kept of a message: 1 to 5 and 7 KIND, or 0 with its fields besides the shifts
 unfoldable pub keptOf : List ℕ → Kept
@@ -34,6 +30,6 @@ countedBy s kept c n e =
     let p = heldPlace (kept .frame) c n e in
     cond (eqb (kept .refusal) 0)
     (cond (eqb (p .refusal) 0)
-    (counted (cellShift (kept .frame .number) c (meanSays s c) (cellSays s c (p .row) (p .column)) (weightsIn (p .height) (p .width) (p .north) (p .east))))
+    (cellCount (kept .frame .number) c (meanSays s c) (cellSays s c (p .row) (p .column)) (weightsIn (p .height) (p .width) (p .north) (p .east)))
     (refusedWith (p .refusal)))
     (refusedWith (kept .refusal))

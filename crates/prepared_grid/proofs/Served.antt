@@ -34,9 +34,8 @@ use Rattle.position.specs.declared.Located.{Located}
 use Rattle.position.proofs.Antimeridian.{turnsOf, turned-same, turned-only}
 use Rattle.position.proofs.Held.{held-fields, held-place, no-frame}
 use Rattle.position.proofs.Places.{Inside, inside, Spaced, spacings, in-cell, located-refusal, located-in, placed-passes, both-in}
-use Rattle.grid.specs.Shift.{meanFactor, nodeFactor, outcome}
-use Rattle.grid.specs.Private.{valuesIn, lacking, countAt, cellShift}
-use Rattle.part.specs.Part.{counted, countedBy}
+use Rattle.cell_counts.specs.Counts.{nodeFactor, meanFactor, valuesIn, lacking, cellCount}
+use Rattle.part.specs.Part.{countedBy}
 use Rattle.part.specs.declared.Kept.{Kept}
 use Rattle.prepared_grid.specs.declared.Prepared.{Prepared}
 use Rattle.prepared_grid.specs.Nodes.{nodeValue, nodeAvailable, nodeValues, nodesAvailable}
@@ -304,13 +303,12 @@ module _ (s : List ℕ) (c : ℕ) (all : nodesAvailable s c ≡ true) where
           lacks-not (g .ne) (4 * (2 - k) + (l + 1)) (omega arith),
         )
 
-    cell-counted : available (meanSays s c) ≡ true → (number : ℤ) (g : Weights) → counted (cellShift number c (meanSays s c) (cellSays s c k l) g)
+    cell-counted : available (meanSays s c) ≡ true → (number : ℤ) (g : Weights) → cellCount number c (meanSays s c) (cellSays s c k l) g
         ≡ record { refusal = 0; count = countBy (pos meanFactor *ℤ valueIn (meanSays s c)) (nodeFactor number c) (cornersOf (nodeValues s c) k l) g }
-    unfolding cellShift outcome
+    unfolding cellCount
     cell-counted m number g =
-        ap (λ (w : Nodes). counted (outcome number c (cond (lacking (meanSays s c) w g) 15 0) (countAt number c (valueIn (meanSays s c)) (valuesIn w) g))) cell-said
-        ∙ ap (λ (b : Bool). counted (outcome number c (cond b 15 0) (countAt number c (valueIn (meanSays s c)) (valuesIn (nodesSaid s c k l)) g))) (lacking-not m g)
-        ∙ ap (λ (v : Corners). record { refusal = 0; count = countBy (pos meanFactor *ℤ valueIn (meanSays s c)) (nodeFactor number c) v g }) corners-are
+        ap (λ (w : Nodes). cellCount number c (meanSays s c) w g) cell-said
+        ∙ rw (lacking-not m g) (ap (λ (v : Corners). record { refusal = 0; count = countBy (pos meanFactor *ℤ valueIn (meanSays s c)) (nodeFactor number c) v g }) corners-are)
 
 -- ---- the prepared numbers
 

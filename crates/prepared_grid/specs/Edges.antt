@@ -12,7 +12,7 @@ use Rattle.grid_refusals.specs.Refusals.{available, beyond}
 use Rattle.position.specs.Position.{stepsOf, heldPlace}
 use Rattle.position.specs.declared.Located.{Located}
 use Rattle.grid_fields.specs.Fields.{meanSays}
-use Rattle.grid.specs.Shift.{meanFactor, nodeFactor}
+use Rattle.cell_counts.specs.Counts.{nodeFactor, meanFactor}
 use Rattle.part.specs.declared.Kept.{Kept}
 use Rattle.prepared_grid.specs.declared.Prepared.{Prepared}
 use Rattle.prepared_grid.specs.Nodes.{nodesAvailable}

@@ -121,7 +121,7 @@ fn prepare_at(message: &[u8], kept: Kept, component: u8, north: i64, east: i64) 
     }
     let number = f.number;
     let mean = grid_fields::mean_at(message, component);
-    let factor = grid::factor_of(number, component);
+    let factor = cell_counts::factor_of(number, component);
     let p = around(q, north, east, 100 * layout::value_in(mean), factor);
     if grid_refusals::position_refusal(component, number, p.south, p.west) != 0 {
         return no_edges();

@@ -9,7 +9,7 @@ use borrow.Author.Tests.{ne-eqb, le-ltb, lt-leb, lt-ltb}
 use lib.Dec.{eqb}
 use lib.IntN.{ℤ, natAbs}
 use lib.ListN.{length, length-append}
-use Rattle.part.specs.declared.Counted.{Counted}
+use Rattle.cell_counts.specs.declared.Counted.{Counted}
 use Rattle.tally_update.specs.declared.Tally.{Tally}
 use Rattle.tally_update.specs.declared.Report.{Report}
 use Rattle.tally_update.specs.Numbers.{tallyOf, reportWith, pointsIn}

@@ -13,7 +13,7 @@ use lib.ListN.{length, getD}
 use Rattle.arith.specs.Whole.{eqZ}
 use Rattle.arith.proofs.Whole.{eqZ-refl, eqZ-true}
 use Rattle.arith.proofs.Tests.{false-ne-true, both-first, both-second}
-use Rattle.part.specs.declared.Counted.{Counted}
+use Rattle.cell_counts.specs.declared.Counted.{Counted}
 use Rattle.tally_update.specs.Numbers.{howMany, counts, extreme, below, above, ahead, placeOf, tallyOf}
 use Rattle.tally_update.proofs.Laws.{yes, no}
 use Rattle.tally_update.proofs.Behind.{counts-many, among}

@@ -6,8 +6,8 @@ use mathlib.Core.Bool.{Bool, false}
 use mathlib.Core.List.{List, [], _∷_, _++_}
 use lib.IntN.{ℤ, pos}
 use lib.ListN.{length, getD}
-use Rattle.part.specs.Part.{refusedWith}
-use Rattle.part.specs.declared.Counted.{Counted}
+use Rattle.cell_counts.specs.Counts.{refusedWith}
+use Rattle.cell_counts.specs.declared.Counted.{Counted}
 use Rattle.tally_update.specs.declared.Tally.{Tally}
 use Rattle.tally_update.specs.Numbers.{below, above, tallyOf, pointsIn}
 use Rattle.tally.specs.Next.{nextOf}

@@ -2,7 +2,6 @@
 ghost use mathlib.Core.List.{[]};
 ghost use mathlib.Core.Path.{_≡_};
 ghost use Rattle.flat_reports.specs.Flat.{flat};
-ghost use Rattle.grid.specs.Private.{lacking, valuesIn};
 ghost use Rattle.grid.specs.Shift.{messageShift};
 ghost use Rattle.part.specs.Part.{counted, countedBy, keptOf};
 ghost use Rattle.reports.specs.Reports.{listsReport};
@@ -13,18 +12,6 @@ ghost use Rattle.prepared_grid.specs.Nodes.{nodeValues};
 ghost use Rattle.prepared_grid.specs.Edges.{preparedOf};
 
 pub mod by_reference;
-
-pub fn cell_lacks(mean: field::Reading, n: grid_nodes::Nodes, k: cell::Weights) -> bool
-    ensures { λ r. ⌜ r ≡ lacking mean n k ⌝ }
-{
-    part::cell_lacks(mean, n, k)
-}
-
-pub fn values_of(n: grid_nodes::Nodes) -> cell::Corners
-    ensures { λ r. ⌜ r ≡ valuesIn n ⌝ }
-{
-    part::values_of(n)
-}
 
 pub fn keep(message: &[u8]) -> part::Kept
     ensures { λ r. ⌜ r ≡ keptOf (now (message .entry)) ⌝ }
@@ -38,13 +25,13 @@ pub fn count_at(
     component: u8,
     north: i64,
     east: i64,
-) -> part::Counted
+) -> cell_counts::Counted
     ensures { λ r. ⌜ r ≡ countedBy (now (message .entry)) kept component north east ⌝ }
 {
     part::count_at(message, kept, component, north, east)
 }
 
-pub fn part_at(message: &[u8], component: u8, north: i64, east: i64) -> part::Counted
+pub fn part_at(message: &[u8], component: u8, north: i64, east: i64) -> cell_counts::Counted
     ensures { λ r. ⌜ r ≡ counted (messageShift (now (message .entry)) component north east) ⌝ }
 {
     part::part_at(message, component, north, east)

@@ -12,7 +12,7 @@ use lib.IntN.{pos}
 use lib.ListN.{length, getD, drop, drop-of-length-le, length-append}
 use lib.Seq.{drop-cons}
 use Rattle.part.specs.Part.{keptOf, countedBy}
-use Rattle.part.specs.declared.Counted.{Counted}
+use Rattle.cell_counts.specs.declared.Counted.{Counted}
 use Rattle.part.specs.declared.Kept.{Kept}
 use Rattle.part.proofs.Counts.{counted-is}
 use Rattle.tally_update.specs.declared.Report.{Report}

@@ -7,7 +7,7 @@ use lib.Dec.{eqb, ltb}
 use lib.IntN.{ℤ}
 use lib.ListN.{length}
 use Rattle.arith.specs.First.{Test, first}
-use Rattle.part.specs.declared.Counted.{Counted}
+use Rattle.cell_counts.specs.declared.Counted.{Counted}
 use Rattle.tally_update.specs.declared.Report.{Report}
 use Rattle.tally_update.specs.Numbers.{reportWith}
 use Rattle.tally.specs.Next.{outcomeAt}

@@ -1,6 +1,6 @@
 // A count by the numbers of a message and a component that are the same at all points.
 use cell::Corners;
-use part::Counted;
+use cell_counts::Counted;
 use part::Kept;
 use prepared_grid::Prepared;
 ghost use mathlib.Core.Path.{_≡_};

@@ -16,11 +16,11 @@ use Rattle.grid_fields.specs.Fields.{meanSays}
 use Rattle.grid_nodes.specs.NodeFields.{cellSays}
 use Rattle.position.specs.Position.{heldPlace}
 use Rattle.position.specs.declared.Located.{Located}
-use Rattle.grid.specs.Shift.{meanFactor, nodeFactor, messageShift}
+use Rattle.cell_counts.specs.Counts.{nodeFactor, meanFactor, valuesIn}
+use Rattle.grid.specs.Shift.{messageShift}
 use Rattle.cell.specs.Cell.{countBy}
 use Rattle.cell.specs.Private.{Within}
 use Rattle.cell.proofs.Sum.{weighed}
-use Rattle.grid.specs.Private.{valuesIn}
 use Rattle.grid.proofs.Parts.{count-at, weightsAt, factor-most}
 use Rattle.shift_row_refusals.specs.Row.{eastAt}
 use Rattle.shift_row_refusals.specs.Private.{Ready}

@@ -14,8 +14,7 @@ ghost use Rattle.cell.specs.Private.{Within, Most};
 ghost use Rattle.layout.specs.Layout.{valueIn};
 ghost use Rattle.grid_fields.specs.Fields.{meanSays};
 ghost use Rattle.grid_nodes.specs.NodeFields.{cellSays};
-ghost use Rattle.grid.specs.Shift.{meanFactor, nodeFactor};
-ghost use Rattle.grid.specs.Private.{valuesIn};
+ghost use Rattle.cell_counts.specs.Counts.{nodeFactor, meanFactor, valuesIn};
 ghost use Rattle.shift_row_refusals.specs.Row.{shiftRowRefusal, shiftRowFilled};
 ghost use Rattle.rows.specs.Going.{Split, Run, numberOf, cellCounts};
 ghost use Rattle.rows.specs.Private.{Standing, Answered, Filled, countAt};
@@ -103,12 +102,12 @@ fn fill_run(row: &mut [i64], message: &[u8], number: i64, component: u8, p: Loca
 {
     let mean = grid_fields::mean_at(message, component);
     let n = grid_nodes::nodes_at(message, component, p.row, p.column);
-    let factor = grid::factor_of(number, component);
+    let factor = cell_counts::factor_of(number, component);
     fill_cell(
         row,
         100 * layout::value_in(mean),
         factor,
-        part::values_of(n),
+        cell_counts::values_of(n),
         p.height,
         p.width,
         p.north,

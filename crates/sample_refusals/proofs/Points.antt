@@ -15,7 +15,7 @@ use Rattle.arith.proofs.First.{not-false}
 use Rattle.arith.proofs.Order.{none-first, none-rest}
 use Rattle.arith.proofs.Tests.{both-first, both-second}
 use Rattle.wire.specs.Message.{kindRefusal}
-use Rattle.part.specs.declared.Counted.{Counted}
+use Rattle.cell_counts.specs.declared.Counted.{Counted}
 use Rattle.part.specs.Part.{counted}
 use Rattle.sample_files.specs.File.{mostPoints}
 use Rattle.sample_refusals.specs.Refusals.{Asked, answerAt, askedOf, pointTest, firstRefused, pointsRefusal}

@@ -12,7 +12,8 @@ ghost use Rattle.direction.specs.Direction.{alongOf};
 ghost use Rattle.cell.specs.Cell.{sumIn, weightsIn, countBy};
 ghost use Rattle.position.specs.Position.{heldPlace, heldSides};
 ghost use Rattle.grid_refusals.specs.Refusals.{beyond, fieldTests};
-ghost use Rattle.grid.specs.Shift.{nodeFactor, messageShifts, recordShifts};
+ghost use Rattle.cell_counts.specs.Counts.{nodeFactor, lacking, valuesIn, cellCount};
+ghost use Rattle.grid.specs.Shift.{messageShifts, recordShifts};
 ghost use Rattle.shift_row_refusals.specs.Row.{placesIn, shiftRowRefusal, shiftRowFilled};
 ghost use Rattle.arith.specs.Row.{at};
 ghost use Rattle.height_mean.specs.Means.{smallestMean};
@@ -129,7 +130,31 @@ pub fn shifts_of(g: grid_records::Grid, north: i64, east: i64) -> grid::ThreeShi
 pub fn factor_of(number: i64, component: u8) -> u64
     ensures { λ r. ⌜ r ≡ nodeFactor number component ⌝ }
 {
-    grid::factor_of(number, component)
+    cell_counts::factor_of(number, component)
+}
+
+pub fn cell_lacks(mean: field::Reading, n: grid_nodes::Nodes, k: cell::Weights) -> bool
+    ensures { λ r. ⌜ r ≡ lacking mean n k ⌝ }
+{
+    cell_counts::cell_lacks(mean, n, k)
+}
+
+pub fn values_of(n: grid_nodes::Nodes) -> cell::Corners
+    ensures { λ r. ⌜ r ≡ valuesIn n ⌝ }
+{
+    cell_counts::values_of(n)
+}
+
+pub fn cell_count(
+    number: i64,
+    component: u8,
+    mean: field::Reading,
+    n: grid_nodes::Nodes,
+    k: cell::Weights,
+) -> cell_counts::Counted
+    ensures { λ r. ⌜ r ≡ cellCount number component mean n k ⌝ }
+{
+    cell_counts::cell_count(number, component, mean, n, k)
 }
 
 pub fn places_in(left: usize, w: u64, x: u64, step: u64) -> usize

@@ -28,8 +28,9 @@ use Rattle.cell.specs.Private.{Within, Weighed}
 use Rattle.cell.specs.declared.Weights.{Weights}
 use Rattle.grid.specs.Shift.{part, outcome, shiftWith, messageShift}
 use Rattle.grid.specs.declared.Shift.{Shift}
-use Rattle.grid.specs.Private.{Held, Bounded, nodesIn, valuesIn, countAt, cellShift}
-use Rattle.grid.proofs.Parts.{refused-as, weightsAt, summed}
+use Rattle.cell_counts.specs.Counts.{valuesIn, countAt}
+use Rattle.grid.specs.Private.{Held, nodesIn, cellShift}
+use Rattle.grid.proofs.Parts.{Bounded, cell-outcome, refused-as, weightsAt, summed}
 use Rattle.grid.proofs.Accepted.{message-passed, message-fields}
 use Rattle.grid.proofs.Said.{frame-said, mean-said, nodes-said}
 use Rattle.shift_row_refusals.specs.Row.{eastAt}
@@ -98,14 +99,15 @@ module _ (s : List ℕ) (h : kindRefusal 1023 1024 s ≡ 0) {f : Frame} (frame :
     -- place j of a row from there on
     module _ (step j : ℕ) (near : beyond (f .number) n (eastAt e (pos step) j) ≡ false) (b : p .east + j * step ≤ p .width) where
       pub refusal-there : messageShift s c n (eastAt e (pos step) j) .refusal ≡ cond (lackingAt mean nodes (p .height) (p .width) (p .north) (p .east + j * step)) 15 0
-      unfolding cellShift outcome
-      refusal-there = ap (λ (q : Shift). q .refusal) (shift-there (j * step) near b)
+      unfolding outcome
+      refusal-there = ap (λ (q : Shift). q .refusal) (shift-there (j * step) near b ∙ cell-outcome (f .number) c mean nodes (weightsAt (further p (j * step))))
 
       pub count-there : messageShift s c n (eastAt e (pos step) j) .refusal ≡ 0
           → messageShift s c n (eastAt e (pos step) j) .count ≡ countAt (f .number) c (valueIn mean) (valuesIn nodes) (weightsAt (further p (j * step)))
-      unfolding cellShift outcome
+      unfolding outcome
       count-there z =
-          ap (λ (q : Shift). q .count) (shift-there (j * step) near b) ∙ rw (sym refusal-there ∙ z)
+          ap (λ (q : Shift). q .count) (shift-there (j * step) near b ∙ cell-outcome (f .number) c mean nodes (weightsAt (further p (j * step))))
+          ∙ rw (sym refusal-there ∙ z)
 
     -- so many of them
     pub run-refused : (step places : ℕ) {r : ℕ} → ((j : ℕ) → j < places → beyond (f .number) n (eastAt e (pos step) j) ≡ false) → p .east + (places - 1) * step ≤ p .width

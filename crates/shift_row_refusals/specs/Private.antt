@@ -16,7 +16,7 @@ use Rattle.grid_fields.specs.Fields.{gridSays}
 use Rattle.grid_nodes.specs.declared.Nodes.{Nodes}
 use Rattle.grid_refusals.specs.Refusals.{beyond}
 use Rattle.grid.specs.Shift.{messageShift}
-use Rattle.grid.specs.Private.{lacking}
+use Rattle.cell_counts.specs.Counts.{lacking}
 use Rattle.shift_row_refusals.specs.Row.{eastAt, refusedTest}
 use Rattle.shift_row_refusals.specs.declared.Run.{Run}
 

@@ -52,13 +52,13 @@ fn run_refusal(
     requires { ⌜ Within h w y x × (0 < places) × (x + (places - 1) * step ≤ w) ⌝ }
     ensures { λ r. ⌜ r ≡ cond (allBelow (λ j. not (lackingAt mean n h w y (x + j * step))) places) 0 15 ⌝ }
 {
-    if part::cell_lacks(mean, n, cell::weights_in(h, w, y, x)) {
+    if cell_counts::cell_lacks(mean, n, cell::weights_in(h, w, y, x)) {
         return 15;
     }
     if places < 2 {
         return 0;
     }
-    if part::cell_lacks(mean, n, cell::weights_in(h, w, y, x + step)) {
+    if cell_counts::cell_lacks(mean, n, cell::weights_in(h, w, y, x + step)) {
         return 15;
     }
     0

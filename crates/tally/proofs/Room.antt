@@ -8,7 +8,7 @@ use borrow.Author.Tests.{eqb-false, le-leb, lt-ltb}
 use lib.Dec.{eqb}
 use lib.IntN.{natAbs}
 use lib.ListN.{getD}
-use Rattle.part.specs.declared.Counted.{Counted}
+use Rattle.cell_counts.specs.declared.Counted.{Counted}
 use Rattle.tally_update.specs.declared.Tally.{Tally}
 use Rattle.tally_update.specs.Numbers.{pointsIn}
 use Rattle.tally_update.specs.Update.{asRead, withRefused, withAnswered, withOutcome, refusable, grownBy}

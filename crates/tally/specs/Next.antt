@@ -8,7 +8,7 @@ use lib.IntN.{ℤ, natAbs}
 use Rattle.arith.specs.First.{first}
 use Rattle.grid.specs.Shift.{messageShift}
 use Rattle.part.specs.Part.{counted}
-use Rattle.part.specs.declared.Counted.{Counted}
+use Rattle.cell_counts.specs.declared.Counted.{Counted}
 use Rattle.tally_update.specs.declared.Tally.{Tally}
 use Rattle.tally_update.specs.declared.Report.{Report}
 use Rattle.tally_update.specs.Numbers.{pointsIn}

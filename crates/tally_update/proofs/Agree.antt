@@ -15,7 +15,7 @@ use borrow.Author.Tests.{eqb-true, eqb-false, eq-eqb, ne-eqb, lt-ltb, le-leb}
 use Rattle.arith.specs.Row.{upTo}
 use Rattle.arith.proofs.Rows.{getD-upTo, is-upTo, upTo-same}
 use Rattle.arith.proofs.Int.{abs-add}
-use Rattle.part.specs.declared.Counted.{Counted}
+use Rattle.cell_counts.specs.declared.Counted.{Counted}
 use Rattle.tally_update.specs.declared.Tally.{Tally}
 use Rattle.tally_update.specs.Numbers.{howMany, counts, sumOf, extreme, below, above, ahead, placeOf, refusedUnder, tallyOf, total, pointsIn}
 use Rattle.tally_update.specs.Update.{asRead, withRefused, isNew, withAnswered, withOutcome, countable, refusable, grownBy}

@@ -10,7 +10,7 @@ use lib.IntN.{ℤ, _+ℤ_, +ℤ-assoc, +ℤ-idl, +ℤ-idr}
 use lib.ListN.{length}
 use Rattle.arith.specs.Whole.{eqZ}
 use Rattle.arith.proofs.Tests.{false-ne-true}
-use Rattle.part.specs.declared.Counted.{Counted}
+use Rattle.cell_counts.specs.declared.Counted.{Counted}
 use Rattle.tally_update.specs.Numbers.{howMany, counts, sumOf, ahead}
 use Rattle.tally_update.proofs.Laws.{yes, no}
 

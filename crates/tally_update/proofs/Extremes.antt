@@ -13,7 +13,7 @@ use borrow.Author.Tests.{eq-eqb, ne-eqb, le-ltb, lt-ltb, ltb-true, ltb-false}
 use Rattle.arith.specs.Whole.{eqZ}
 use Rattle.arith.proofs.Whole.{eqZ-refl, eqZ-false}
 use Rattle.arith.proofs.Tests.{false-ne-true}
-use Rattle.part.specs.declared.Counted.{Counted}
+use Rattle.cell_counts.specs.declared.Counted.{Counted}
 use Rattle.tally_update.specs.Numbers.{howMany, counts, extreme, below, above, ahead, placeOf}
 use Rattle.tally_update.proofs.Laws.{yes, no}
 use Rattle.tally_update.proofs.Behind.{one, many-more, counts-answered, counts-refused, counts-many, plus-zero, among, ahead-out, ahead-in, ahead-front, ahead-behind}

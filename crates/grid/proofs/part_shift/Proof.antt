@@ -27,4 +27,4 @@ returns-2 c =
     ∙ rw (eq-eqb (a .refusal) 0 (c .before .if1 .left))
 
 pub part-shift-spec : {M : Type 1} → statement M
-part-shift-spec = tie.close (tie.spec (λ c κs. search needs) returns (λ c κs. c .before .pre (c .if1 .left)) returns-2)
+part-shift-spec = tie.close (tie.spec (λ c κs. search needs) returns (λ c κs. search needs) returns-2)

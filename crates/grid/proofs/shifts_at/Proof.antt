@@ -9,7 +9,6 @@ use mir.Syntax.{w64}
 use mir.Val.{toZ, ofZ}
 use Rattle.arith.proofs.Back.{held}
 use Rattle.arith.proofs.Machine.{is-back}
-use Rattle.layout.specs.Layout.{valueIn}
 use Rattle.field.specs.declared.Reading.{Reading}
 use Rattle.row.specs.Numbers.{says}
 use Rattle.grid_records.specs.declared.Frame.{Frame}
@@ -26,9 +25,9 @@ use Rattle.cell.specs.declared.Weights.{Weights}
 use Rattle.position.specs.Position.{heldSides}
 use Rattle.position.specs.declared.Located.{Located}
 use Rattle.grid.specs.Shift.{shiftWith, threeOf, messageShift, messageShifts}
-use Rattle.grid.specs.Private.{Held, Bounded, valuesIn, nodesIn, partShift}
+use Rattle.grid.specs.Private.{Held, nodesIn, partShift}
 use Rattle.grid.specs.declared.Shift.{Shift}
-use Rattle.grid.proofs.Parts.{call-cell, call-summed, call-part}
+use Rattle.grid.proofs.Parts.{call-cell, call-part}
 use Rattle.grid.proofs.Accepted.{message-passed, message-fields}
 use Rattle.grid.proofs.Said.{frame-said, mean-said, nodes-said}
 use Rattle.grid.proofs.Sides.{Side, north-side, east-side, height-side, message-none-given}
@@ -107,11 +106,6 @@ module _ (q : tie.After-means-at) where
         let i = call-cell (g s) c (n s) (e s) fields (d .refusal) (d .place) z in
         nodes-said (m s) none c (t .row) (t .column) (i .0) (i .1) b
 
-    asks : r ≡ 0 → Bounded (valueIn mean) (valuesIn w) ws
-    asks =
-        call-summed (g s) c (n s) (e s) fields (d .refusal) (d .place) (a ∙ mean-said (m s) none c) said
-        (q .before .before .weights-in .ensures)
-
     gives : {x : Shift} → x ≡ partShift (toZ w64 (ofZ w64 (l .before .before .frame-at .result .number))) c r mean w ws → x ≡ messageShift (m s) c (n s) (e s)
     unfolding messageShift
     gives h =
@@ -144,15 +138,6 @@ module _ (q : tie.After-means-at) where
   nodes-of : (f : Cells → Nodes) → f (q .before .cells-at .result) ≡ f (cellsSay (m s) (t .row) (t .column))
   nodes-of f = ap f (q .before .cells-at .ensures)
 
-part-shift-requires : tie.Need-part-shift-requires
-part-shift-requires c κs = let q = c in asks q 0 _ (north q) (mean-north q) (nodes-of q (λ x. x .north))
-
-part-shift-requires-2 : tie.Need-part-shift-requires-2
-part-shift-requires-2 c κs = let q = c .before in asks q 1 _ (east q) (mean-east q) (nodes-of q (λ x. x .east))
-
-part-shift-requires-3 : tie.Need-part-shift-requires-3
-part-shift-requires-3 c κs = let q = c .before .before in asks q 2 _ (height q) (mean-height q) (nodes-of q (λ x. x .height))
-
 returns-3 : tie.Need-returns-3
 unfolding messageShifts
 returns-3 c =
@@ -178,8 +163,8 @@ shifts-at-spec =
     (λ c κs. tt)
     (λ c κs. tt)
     (λ c κs. tt)
-    part-shift-requires
-    part-shift-requires-2
-    part-shift-requires-3
+    (λ c κs. tt)
+    (λ c κs. tt)
+    (λ c κs. tt)
     (λ c κs. tt)
     returns-3)

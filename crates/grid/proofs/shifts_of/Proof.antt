@@ -10,7 +10,6 @@ use mir.Syntax.{w64}
 use mir.Val.{toZ, ofZ}
 use Rattle.arith.proofs.Back.{held}
 use Rattle.arith.proofs.Machine.{is-back}
-use Rattle.layout.specs.Layout.{valueIn}
 use Rattle.field.specs.declared.Reading.{Reading}
 use Rattle.grid_records.specs.declared.Frame.{Frame}
 use Rattle.grid_records.specs.declared.Grid.{Grid}
@@ -21,9 +20,9 @@ use Rattle.cell.specs.declared.Weights.{Weights}
 use Rattle.position.specs.Position.{heldSides}
 use Rattle.position.specs.declared.Located.{Located}
 use Rattle.grid.specs.Shift.{part, shiftWith, threeOf, recordShift, recordShifts}
-use Rattle.grid.specs.Private.{Held, Bounded, valuesIn, nodesIn, partShift}
+use Rattle.grid.specs.Private.{Held, nodesIn, partShift}
 use Rattle.grid.specs.declared.Shift.{Shift}
-use Rattle.grid.proofs.Parts.{call-summed, call-part}
+use Rattle.grid.proofs.Parts.{call-part}
 use Rattle.grid.proofs.Accepted.{record-passed, record-fields}
 use Rattle.grid.proofs.Sides.{Side, north-side, east-side, height-side, some-cell, record-none-given}
 use Rattle.grid.proofs.shifts_of.Statement.{statement}
@@ -97,9 +96,6 @@ module _ (q : tie.After-nodes-of3) where
 
   -- one part
   module _ (c r : ℕ) (d : Side (g b) c (n b) (e b) r (t l)) {mean : Reading} {w : Nodes} (a : mean ≡ part c (g b .mean)) (h : w ≡ nodesIn (g b .nodes) c (t l .row) (t l .column)) where
-    asks : r ≡ 0 → Bounded (valueIn mean) (valuesIn w) ws
-    asks = call-summed (g b) c (n b) (e b) (fields l) (d .refusal) (d .place) a (λ _. h) (q .before .before .before .before .weights-in .ensures)
-
     gives : {x : Shift} → x ≡ partShift (toZ w64 (ofZ w64 (l .before .before .frame-of .result .number))) c r mean w ws → x ≡ recordShift (g b) c (n b) (e b)
     unfolding recordShift
     gives k =
@@ -114,15 +110,6 @@ module _ (q : tie.After-nodes-of3) where
 
   height : Side (g b) 2 (n b) (e b) (l .locate-sides .result .vertical) (t l)
   height = height-side (g b) (n b) (e b) (fields l) (sides l)
-
-part-shift-requires : tie.Need-part-shift-requires
-part-shift-requires c κs = let q = c .before in asks q 0 _ (north q) (c .part-of .ensures) (q .before .before .nodes-of .ensures)
-
-part-shift-requires-2 : tie.Need-part-shift-requires-2
-part-shift-requires-2 c κs = let q = c .before .before .before in asks q 1 _ (east q) (c .part-of2 .ensures) (q .before .nodes-of2 .ensures)
-
-part-shift-requires-3 : tie.Need-part-shift-requires-3
-part-shift-requires-3 c κs = let q = c .before .before .before .before .before in asks q 2 _ (height q) (c .part-of3 .ensures) (q .nodes-of3 .ensures)
 
 returns-2 : tie.Need-returns-2
 unfolding recordShifts
@@ -149,10 +136,10 @@ shifts-of-spec =
     nodes-of-requires-2
     nodes-of-requires-3
     (λ c κs. tt)
-    part-shift-requires
     (λ c κs. tt)
-    part-shift-requires-2
     (λ c κs. tt)
-    part-shift-requires-3
+    (λ c κs. tt)
+    (λ c κs. tt)
+    (λ c κs. tt)
     (λ c κs. tt)
     returns-2)

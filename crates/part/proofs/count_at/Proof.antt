@@ -10,9 +10,8 @@ use Rattle.arith.proofs.Machine.{is-back}
 use Rattle.grid_fields.specs.Fields.{meanSays}
 use Rattle.position.specs.Position.{heldPlace}
 use Rattle.position.specs.declared.Located.{Located}
-use Rattle.grid.specs.Private.{cellShift}
-use Rattle.part.specs.Part.{counted, refusedWith, countedBy}
-use Rattle.part.proofs.Means.{mean-most}
+use Rattle.cell_counts.specs.Counts.{cellCount}
+use Rattle.part.specs.Part.{countedBy}
 use Rattle.part.proofs.count_at.Statement.{statement}
 use Rattle.part.proofs.count_at.Tie as tie
 
@@ -50,9 +49,6 @@ module _ (c : tie.After-struct-told) where
   mean : c .before .before .mean-at .result ≡ meanSays (m k) (s k .args .component)
   mean = c .before .before .mean-at .ensures
 
-cell-count-requires : tie.Need-cell-count-requires
-cell-count-requires c κs = rw (mean c) (mean-most (m (k c)) (s (k c) .args .component))
-
 returns-3 : tie.Need-returns-3
 unfolding countedBy
 returns-3 c =
@@ -62,7 +58,7 @@ returns-3 c =
     let none : p k .refusal ≡ 0 = sym (ap (λ (q : Located). q .refusal) (place k)) ∙ t .before .before .before .before .if2 .left in
     c .cell-count .ensures
     ∙ rw (eq-eqb _ 0 (kept k), eq-eqb (p k .refusal) 0 none, ← place k)
-    (λ i. counted (cellShift (held (a .kept .frame .number) (t .struct-told .given .0 .1) i) (a .component) (mean t i) (t .before .nodes-of .ensures i) (t .before .before .before .weights-in .ensures i)))
+    (λ i. cellCount (held (a .kept .frame .number) (t .struct-told .given .0 .1) i) (a .component) (mean t i) (t .before .nodes-of .ensures i) (t .before .before .before .weights-in .ensures i))
 
 pub count-at-spec : {M : Type 1} → statement M
 count-at-spec =
@@ -76,5 +72,5 @@ count-at-spec =
     (λ c κs. search needs)
     (λ c κs. search needs)
     (λ c κs. search needs)
-    cell-count-requires
+    (λ c κs. search needs)
     returns-3)

@@ -13,10 +13,10 @@ use Rattle.arith.proofs.Machine.{Num, lit, result, mul, fits, is-back}
 use Rattle.layout.specs.Layout.{valueIn}
 use Rattle.grid_records.specs.declared.Frame.{Frame}
 use Rattle.grid_fields.specs.Fields.{meanSays}
-use Rattle.grid.specs.Shift.{nodeFactor}
+use Rattle.cell_counts.specs.Counts.{nodeFactor}
 use Rattle.position.specs.Position.{heldPlace}
 use Rattle.position.specs.declared.Located.{Located}
-use Rattle.part.proofs.Means.{mean-most}
+use Rattle.prepared_grid.proofs.Means.{mean-most}
 use Rattle.prepared_grid.specs.declared.Prepared.{Prepared}
 use Rattle.prepared_grid.specs.Edges.{noEdges, aroundOf, refusalAt, edgesAt}
 use Rattle.prepared_grid.specs.Private.{Near}

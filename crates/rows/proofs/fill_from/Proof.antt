@@ -16,8 +16,7 @@ use Rattle.grid_fields.specs.Fields.{meanSays}
 use Rattle.grid_nodes.specs.NodeFields.{cellSays}
 use Rattle.position.specs.Position.{heldPlace}
 use Rattle.position.specs.declared.Located.{Located}
-use Rattle.grid.specs.Shift.{meanFactor, nodeFactor}
-use Rattle.grid.specs.Private.{valuesIn}
+use Rattle.cell_counts.specs.Counts.{nodeFactor, meanFactor, valuesIn}
 use Rattle.shift_row_refusals.specs.Row.{eastAt}
 use Rattle.shift_row_refusals.proofs.Reaches.{Reaches, reaches}
 use Rattle.shift_row_refusals.proofs.Rest.{stands, way-most}

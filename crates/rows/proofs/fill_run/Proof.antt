@@ -17,8 +17,7 @@ use Rattle.grid_fields.specs.Fields.{meanSays}
 use Rattle.grid_nodes.specs.NodeFields.{cellSays}
 use Rattle.grid_nodes.specs.declared.Nodes.{Nodes}
 use Rattle.position.specs.declared.Located.{Located}
-use Rattle.grid.specs.Shift.{nodeFactor}
-use Rattle.grid.specs.Private.{valuesIn}
+use Rattle.cell_counts.specs.Counts.{nodeFactor, valuesIn}
 use Rattle.rows.specs.Going.{cellCounts}
 use Rattle.rows.proofs.Counts.{run-of}
 use Rattle.rows.proofs.fill_run.Statement.{statement}

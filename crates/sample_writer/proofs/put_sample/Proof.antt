@@ -2,7 +2,7 @@
 -- Assumes nothing.
 use mathlib.Core.Path.{_≡_, ap, _∙_}
 use Rattle.arith.proofs.Back.{held}
-use Rattle.part.specs.declared.Counted.{Counted}
+use Rattle.cell_counts.specs.declared.Counted.{Counted}
 use Rattle.part.specs.Part.{counted, countedBy}
 use Rattle.part.proofs.Counts.{counted-is}
 use Rattle.grid.specs.Shift.{messageShift}

@@ -1,4 +1,4 @@
--- `shift_promises::factor_of` meets its contract, which is that of `grid::factor_of`.
+-- `shift_promises::factor_of` meets its contract, which is that of `cell_counts::factor_of`.
 -- Assumes nothing.
 use Rattle.field.proofs.Sign.{bits-z}
 use Rattle.shift_promises.proofs.factor_of.Statement.{statement}

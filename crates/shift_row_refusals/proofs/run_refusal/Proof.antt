@@ -9,7 +9,7 @@ use borrow.Author.Needs.{needs}
 use Rattle.cell.specs.Private.{Within}
 use Rattle.cell.specs.declared.Weights.{Weights}
 use Rattle.cell.proofs.Held.{weights-in-is}
-use Rattle.grid.specs.Private.{lacking}
+use Rattle.cell_counts.specs.Counts.{lacking}
 use Rattle.shift_row_refusals.specs.Private.{lackingAt}
 use Rattle.shift_row_refusals.proofs.Lacking.{first-lacks, second-lacks, one-has, two-have}
 use Rattle.shift_row_refusals.proofs.run_refusal.Statement.{statement}

@@ -7,7 +7,7 @@ use borrow.Author.Tests.{lt-ltb, le-ltb, le-leb, lt-leb}
 use lib.IntN.{ℤ, natAbs}
 use Rattle.arith.proofs.Back.{held}
 use Rattle.arith.proofs.Machine.{is-back}
-use Rattle.part.specs.declared.Counted.{Counted}
+use Rattle.cell_counts.specs.declared.Counted.{Counted}
 use Rattle.tally_update.specs.declared.Tally.{Tally}
 use Rattle.tally_update.specs.Numbers.{pointsIn}
 use Rattle.tally_update.specs.Update.{grownBy}

@@ -4,7 +4,7 @@ use mathlib.Core.Path.{_≡_, refl, _∙_}
 use mathlib.Core.Bool.{Bool, true, false, cond}
 use mathlib.Core.List.{List, []}
 use lib.Dec.{eqb}
-use Rattle.part.specs.declared.Counted.{Counted}
+use Rattle.cell_counts.specs.declared.Counted.{Counted}
 use Rattle.tally_update.specs.Numbers.{tallyOf}
 use Rattle.tally_update.proofs.empty.Statement.{statement}
 use Rattle.tally_update.proofs.empty.Tie as tie

@@ -1,12 +1,12 @@
--- `part::cell_lacks` meets its contract: the mean, then one node after the other.
+-- `cell_counts::cell_lacks` meets its contract: the mean, then one node after the other.
 -- Assumes nothing.
 use mathlib.Core.Path.{_≡_, sym, ap, _∙_}
 use mathlib.Core.Bool.{Bool, true}
 use borrow.Author.Needs.{needs}
 use Rattle.grid_refusals.specs.Refusals.{available}
 use Rattle.bilinear.specs.Bilinear.{lacks}
-use Rattle.part.proofs.cell_lacks.Statement.{statement}
-use Rattle.part.proofs.cell_lacks.Tie as tie
+use Rattle.cell_counts.proofs.cell_lacks.Statement.{statement}
+use Rattle.cell_counts.proofs.cell_lacks.Tie as tie
 
 returns : tie.Need-returns
 returns c = rw (ap available (c .enum-told2 .given .1))

@@ -1,12 +1,12 @@
--- `part::node_lacks` meets its contract.
+-- `cell_counts::node_lacks` meets its contract.
 -- Assumes nothing.
 use mathlib.Core.Path.{ap}
 use borrow.Author.Needs.{needs}
 use borrow.Author.Tests.{eq-eqb, ne-eqb}
 use Rattle.grid_refusals.specs.Refusals.{available}
 use Rattle.bilinear.specs.Bilinear.{lacks}
-use Rattle.part.proofs.node_lacks.Statement.{statement}
-use Rattle.part.proofs.node_lacks.Tie as tie
+use Rattle.cell_counts.proofs.node_lacks.Statement.{statement}
+use Rattle.cell_counts.proofs.node_lacks.Tie as tie
 
 returns : tie.Need-returns
 unfolding lacks

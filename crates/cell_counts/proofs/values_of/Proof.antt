@@ -1,10 +1,10 @@
--- `part::values_of` meets its contract.
+-- `cell_counts::values_of` meets its contract.
 -- Assumes nothing.
 use mathlib.Core.Path.{_∙_}
 use borrow.Author.Needs.{needs}
 use Rattle.arith.proofs.Back.{held}
-use Rattle.part.proofs.values_of.Statement.{statement}
-use Rattle.part.proofs.values_of.Tie as tie
+use Rattle.cell_counts.proofs.values_of.Statement.{statement}
+use Rattle.cell_counts.proofs.values_of.Tie as tie
 
 returns : tie.Need-returns
 returns c i =
