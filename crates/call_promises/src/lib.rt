@@ -1,4 +1,4 @@
-// Every function of the exported interface, called once with its promise restated: a promise that is weakened there is missed here.
+// Every function of the exported interface but those on many points, called once with its promise restated: a promise that is weakened there is missed here.
 ghost use mathlib.Core.Path.{_≡_};
 ghost use lib.ListN.{length};
 ghost use Rattle.wire.specs.Message.{header, rowRefusal, valuesRead, presentRead, writeRow};
@@ -11,11 +11,6 @@ ghost use Rattle.indexed_table.specs.Find.{foundBy};
 ghost use Rattle.capi.specs.Exported.{exportedShifts};
 ghost use Rattle.datum.specs.Step.{Stepped};
 ghost use Rattle.heights.specs.Heights.{writeHeights};
-ghost use Rattle.sample_checks.specs.Check.{checked};
-ghost use Rattle.sample_refusals.specs.Refusals.{askedOf};
-ghost use Rattle.sample_writer.specs.Write as samples;
-ghost use Rattle.reports.specs.Reports.{listsReport};
-ghost use Rattle.flat_reports.specs.Flat.{flat};
 
 pub fn tarnoklej_read(s: &[u8]) -> wire::Header
     ensures { λ r. ⌜ r ≡ header (now (s .entry)) ⌝ }
@@ -123,34 +118,4 @@ pub fn tarnoklej_write_heights(
     ensures output { λ r. ⌜ now (out .exit) ≡ writeHeights (now (values .entry)) (now (present .entry)) (now (wanted .entry)) (now (out .entry)) .output ⌝ }
 {
     capi::tarnoklej_write_heights(values, present, wanted, out)
-}
-
-pub fn tarnoklej_write_samples(
-    message: &[u8],
-    components: &[u8],
-    north: &[i64],
-    east: &[i64],
-    out: &mut [u8],
-) -> layout::Written
-    ensures answer { λ r. ⌜ r ≡ answered (samples.writeRefusal (now (message .entry)) (now (components .entry)) (now (north .entry)) (now (east .entry)) (length (now (out .entry)))) (samples.samplesFile (now (message .entry)) (askedOf (now (components .entry)) (now (north .entry)) (now (east .entry)))) ⌝ }
-    ensures output { λ r. ⌜ now (out .exit) ≡ stored (samples.writeRefusal (now (message .entry)) (now (components .entry)) (now (north .entry)) (now (east .entry)) (length (now (out .entry)))) (samples.samplesFile (now (message .entry)) (askedOf (now (components .entry)) (now (north .entry)) (now (east .entry)))) (now (out .entry)) ⌝ }
-{
-    capi::tarnoklej_write_samples(message, components, north, east, out)
-}
-
-pub fn tarnoklej_check_samples(file: &[u8]) -> sample_checks::Checked
-    ensures { λ r. ⌜ r ≡ checked (now (file .entry)) ⌝ }
-{
-    capi::tarnoklej_check_samples(file)
-}
-
-pub fn tarnoklej_report_points(
-    s: &[u8],
-    component: u8,
-    north: &[i64],
-    east: &[i64],
-) -> flat_reports::FlatReport
-    ensures { λ r. ⌜ r ≡ flat (listsReport (now (s .entry)) component (now (north .entry)) (now (east .entry))) ⌝ }
-{
-    capi::tarnoklej_report_points(s, component, north, east)
 }
