@@ -1,4 +1,4 @@
--- When a message has no frame, or its frame no room.
+-- When a message has no frame, or its frame no room: request A1, 3 LENGTH above 1,023 bytes, then 6 ROOM.
 -- Assumes nothing.
 use Prim.Native.Nat.{ℕ, _+_}
 use mathlib.Core.List.{List, [], _∷_}

@@ -1,4 +1,4 @@
--- What is looked for in a row of marks: the place of a mark, a flaw, and the place for a key.
+-- What is looked for in a row of marks: the place of a mark, a flaw ("No key stands twice"), and the place for a key: document 01, "The table", with request A7.
 -- Assumes nothing.
 use Prim.Native.Nat.{ℕ}
 use mathlib.Core.List.{List}

@@ -1,4 +1,4 @@
--- The edges of a grid and the other numbers that are the same at all positions, made once for a message and a component.
+-- The edges of a grid and the other numbers that are the same at all positions, made once for a message and a component, for request A10 (D90).
 -- Assumes nothing.
 use mathlib.Core.Bool.{cond, _&&_}
 use mathlib.Core.List.{List, [], _∷_}
