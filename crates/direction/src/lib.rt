@@ -23,15 +23,17 @@ fn outer() -> Place
     }
 }
 
-// The cell of a place t steps from the edge.
-fn cell_of(d: u64, t: u64) -> u64
-    requires { ⌜ (0 < d) × (d ≤ 40950000) ⌝ }
+// The cell of a place t steps from the edge, of any spacing d.
+pub fn cell_of(d: u64, t: u64) -> u64
     ensures { λ r. ⌜ r ≡ cell d t ⌝ }
 {
+    if d == 0 {
+        return 0;
+    }
     if t < d {
         return 0;
     }
-    if t < 2 * d {
+    if t - d < d {
         return 1;
     }
     2

@@ -6,30 +6,15 @@ use prepared_grid::Prepared;
 ghost use mathlib.Core.Path.{_≡_};
 ghost use Prim.Native.Nat.{_≤_, _<_};
 ghost use Rattle.part.specs.Part.{countedBy};
-ghost use Rattle.bilinear.specs.Bilinear.{cell};
 ghost use Rattle.prepared_grid.specs.Private.{countIn, Serves};
-
-// The cell of a place t steps from the edge.
-fn cell_of(d: u64, t: u64) -> u64
-    requires { ⌜ (0 < d) × (d ≤ 40950000) ⌝ }
-    ensures { λ r. ⌜ r ≡ cell d t ⌝ }
-{
-    if t < d {
-        return 0;
-    }
-    if t < 2 * d {
-        return 1;
-    }
-    2
-}
 
 // The count at a place y and x steps from the southern and the western edge of the grid.
 fn count_in(p: Prepared, nodes: &[i64; 16], y: u64, x: u64) -> i64
     requires { ⌜ (0 < p .height) × (p .height ≤ 40950000) × (0 < p .width) × (p .width ≤ 40950000) ⌝ }
     ensures { λ r. ⌜ r ≡ countIn p (now (nodes .entry)) y x ⌝ }
 {
-    let row = cell_of(p.height, y);
-    let column = cell_of(p.width, x);
+    let row = direction::cell_of(p.height, y);
+    let column = direction::cell_of(p.width, x);
     let south = 4 * (3 - row);
     let north = 4 * (2 - row);
     let n = Corners {

@@ -8,6 +8,7 @@ ghost use Rattle.field.specs.Field.{fieldAt, signedAt};
 ghost use Rattle.grid_records.specs.Grids.{frameAt, shiftsAt};
 ghost use Rattle.grid_fields.specs.Fields.{gridSays, meanSays};
 ghost use Rattle.grid_nodes.specs.NodeFields.{nodeSays, cellSays, cellsSay};
+ghost use Rattle.bilinear.specs.Bilinear.{cell};
 ghost use Rattle.direction.specs.Direction.{alongOf};
 ghost use Rattle.cell.specs.Cell.{sumIn, weightsIn, countBy};
 ghost use Rattle.position.specs.Position.{heldPlace, heldSides};
@@ -18,6 +19,12 @@ ghost use Rattle.shift_row_refusals.specs.Row.{placesIn, shiftRowRefusal, shift
 ghost use Rattle.arith.specs.Row.{at};
 ghost use Rattle.height_mean.specs.Means.{smallestMean};
 ghost use Rattle.heights.specs.Heights.{writeHeights};
+
+pub fn cell_of(d: u64, t: u64) -> u64
+    ensures { λ r. ⌜ r ≡ cell d t ⌝ }
+{
+    direction::cell_of(d, t)
+}
 
 pub fn along(difference: i64, spacing: u64) -> direction::Place
     ensures { λ r. ⌜ r ≡ alongOf spacing difference ⌝ }
