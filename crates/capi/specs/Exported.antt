@@ -3,8 +3,8 @@
 use Prim.Native.Nat.{ℕ}
 use mathlib.Core.List.{List}
 use lib.IntN.{ℤ}
-use Rattle.grid.specs.Shift.{messageShifts}
-use Rattle.grid.specs.declared.ThreeShifts.{ThreeShifts}
+use Rattle.grid_shifts.specs.Shift.{messageShifts}
+use Rattle.grid_shifts.specs.declared.ThreeShifts.{ThreeShifts}
 use Rattle.capi.specs.declared.Shifts.{Shifts}
 
 -- "a record of the three shifts as floats, with their three counts and three numbers"

@@ -1,10 +1,10 @@
 // Reads cases from standard input, one to a line, and prints the answer to each, one to a line: second/VECTORS.md has the forms.
 // At most 40,000 lines are read, of at most 900 bytes each. A line that is no case is answered by its name and `?`.
-use lines::input;
-use lines::input::Chunk;
-use lines::input::Line;
-use lines::output;
-use lines::output::Out;
+use text_lines::input;
+use text_lines::input::Chunk;
+use text_lines::input::Line;
+use text_lines::output;
+use text_lines::output::Out;
 
 const LINES: usize = 40000;
 
@@ -80,11 +80,11 @@ fn answer_line(
     at: usize,
 ) -> usize {
     if 900 < length {
-        let to = output::put_name(out, at, words::word(line));
+        let to = output::put_name(out, at, text_words::word(line));
         return output::put(out, to, b'?');
     }
     answer_case(
-        words::before(line, length),
+        text_words::before(line, length),
         held,
         size,
         listed,
@@ -104,15 +104,15 @@ fn answer_case(
     out: &mut Out,
     at: usize,
 ) -> usize {
-    let name = words::word(s);
+    let name = text_words::word(s);
     if name.len() == 0 {
         return output::put(out, at, b'?');
     }
     let to = output::put_name(out, at, name);
-    let rest = words::rest(s);
+    let rest = text_words::rest(s);
     answer_command(
-        words::word(rest),
-        words::rest(rest),
+        text_words::word(rest),
+        text_words::rest(rest),
         held,
         size,
         listed,
@@ -133,7 +133,7 @@ fn answer_command(
     out: &mut Out,
     at: usize,
 ) -> usize {
-    match words::place(command, b"read write shift shiftof table index") {
+    match text_words::place(command, b"read write shift shiftof table index") {
         0 => read_cases::answer(given, out, at),
         1 => write_cases::answer(given, out, at),
         2 => shift_cases::answer(given, out, at),
@@ -155,7 +155,7 @@ fn answer_record(
     out: &mut Out,
     at: usize,
 ) -> usize {
-    match words::place(command, b"record remake rename heights") {
+    match text_words::place(command, b"record remake rename heights") {
         0 => field_cases::answer(given, out, at),
         1 => remake_cases::answer(given, out, at),
         2 => rename_cases::answer(given, out, at),
@@ -175,7 +175,7 @@ fn answer_frame(
     out: &mut Out,
     at: usize,
 ) -> usize {
-    match words::place(command, b"frame enframe longframe") {
+    match text_words::place(command, b"frame enframe longframe") {
         0 => frame_cases::find(given, out, at),
         1 => frame_cases::write(given, out, at),
         2 => frame_cases::write_long(given, out, at),
@@ -194,7 +194,7 @@ fn answer_row(
     out: &mut Out,
     at: usize,
 ) -> usize {
-    match words::place(command, b"row longrow") {
+    match text_words::place(command, b"row longrow") {
         0 => shift_row_cases::answer(given, out, at),
         1 => shift_row_cases::answer_long(given, out, at),
         _ => answer_held(command, given, held, n, listed, m, out, at),

@@ -9,12 +9,12 @@ use Rattle.arith.specs.Whole.{sameZ}
 use Rattle.field.specs.declared.Reading.{Reading}
 use Rattle.field.specs.declared.Reading.the-variants.{Value, Absent}
 use Rattle.layout.specs.Layout.{valueIn}
-use Rattle.transformation_records.specs.declared.Parameters.{Parameters}
-use Rattle.wire.specs.Message.{kindTests}
-use Rattle.message.specs.Kinds.{readHelmert}
-use Rattle.seven_parameters.specs.declared.Values.{Values}
-use Rattle.seven_parameters.specs.declared.Position.{Position}
-use Rattle.seven_parameters.specs.Formula.{beyondAny, Answered}
+use Rattle.record_transformations.specs.declared.Parameters.{Parameters}
+use Rattle.message_rows.specs.Message.{kindTests}
+use Rattle.message_records.specs.Kinds.{readHelmert}
+use Rattle.datum_formula.specs.declared.Values.{Values}
+use Rattle.datum_formula.specs.declared.Position.{Position}
+use Rattle.datum_formula.specs.Formula.{beyondAny, Answered}
 
 -- ---- the seven parameters, DF156 to DF162
 

@@ -1,15 +1,15 @@
 // `NAME record KIND HEX`: each field of the record that a kind's reader gives, by its DF number.
-use lines::output;
-use lines::output::Out;
-use numerals::Bytes;
-use numerals::Count;
+use text_lines::output;
+use text_lines::output::Out;
+use text_numerals::Bytes;
+use text_numerals::Count;
 
 pub fn answer(given: &[u8], out: &mut Out, at: usize) -> usize {
-    let Count::Is(kind) = numerals::natural(words::word(given)) else {
+    let Count::Is(kind) = text_numerals::natural(text_words::word(given)) else {
         return output::put(out, at, b'?');
     };
     let mut bytes = [0u8; 400];
-    let Count::Is(n) = numerals::hex(words::rest(given), &mut bytes) else {
+    let Count::Is(n) = text_numerals::hex(text_words::rest(given), &mut bytes) else {
         return output::put(out, at, b'?');
     };
     put_message(kind, &bytes, n, out, at)
@@ -17,7 +17,7 @@ pub fn answer(given: &[u8], out: &mut Out, at: usize) -> usize {
 
 // The record that a kind's reader gives of the message in the first `n` bytes.
 fn put_message(kind: usize, bytes: &Bytes, n: usize, out: &mut Out, at: usize) -> usize {
-    put_record(kind, words::before(bytes, n), out, at)
+    put_record(kind, text_words::before(bytes, n), out, at)
 }
 
 fn put_record(kind: usize, s: &[u8], out: &mut Out, at: usize) -> usize {

@@ -1,8 +1,8 @@
 // One field behind its text, which is a space, the DF number and `=`.
 use field::Reading;
-use lines::output;
-use lines::output::Out;
-use row::Pair;
+use record_rows::Pair;
+use text_lines::output;
+use text_lines::output::Out;
 
 pub fn put_number(df: &[u8], n: i64, out: &mut Out, at: usize) -> usize {
     let to = output::put_all(out, at, df);

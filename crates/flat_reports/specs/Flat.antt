@@ -1,6 +1,6 @@
 -- A report as one struct, as the exported call answers it: request A10.
 -- Assumes nothing.
-use Rattle.tally_update.specs.declared.Report.{Report}
+use Rattle.report_update.specs.declared.Report.{Report}
 use Rattle.flat_reports.specs.declared.FlatReport.{FlatReport}
 
 -- the numbers in the request's order

@@ -1,7 +1,7 @@
 // The report of the points of two lists, as the exported call answers it.
-use tally_update::Report;
+use report_update::Report;
 ghost use mathlib.Core.Path.{_≡_};
-ghost use Rattle.reports.specs.Reports.{listsReport};
+ghost use Rattle.report_points.specs.Reports.{listsReport};
 ghost use Rattle.flat_reports.specs.Flat.{flat};
 
 // A refusal number, or 0, and the numbers of a tally.
@@ -39,5 +39,5 @@ fn flat_of(r: Report) -> FlatReport
 pub fn report_lists(message: &[u8], component: u8, north: &[i64], east: &[i64]) -> FlatReport
     ensures { λ r. ⌜ r ≡ flat (listsReport (now (message .entry)) component (now (north .entry)) (now (east .entry))) ⌝ }
 {
-    flat_of(reports::report_lists(message, component, north, east))
+    flat_of(report_points::report_lists(message, component, north, east))
 }

@@ -6,7 +6,7 @@ use mathlib.Core.List.{List, [], _∷_, _++_}
 use lib.ListN.{length, getD, take, drop}
 use lib.Dec.{ltb, leb, eqb}
 use Rattle.arith.specs.Places.{firstOf}
-use Rattle.crc.specs.Crc.{crc}
+use Rattle.frame_crc.specs.Crc.{crc}
 use Rattle.frame.specs.declared.Frame.{Frame}
 
 -- ---- the frame of a message

@@ -93,7 +93,7 @@ fn right_crc(t: &[u8], n: usize) -> bool
     ensures { λ r. ⌜ r ≡ rightCrc (now (t .entry)) ⌝ }
 {
     let e = n + 3;
-    crc::crc_of(&t[..e]) == three_at(t, e)
+    frame_crc::crc_of(&t[..e]) == three_at(t, e)
 }
 
 // What stands at the start of t, whose place is at.

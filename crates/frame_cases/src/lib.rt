@@ -1,16 +1,16 @@
 // `NAME frame FROM HEX`: the first frame in bytes; `NAME enframe ROOM HEX` and `NAME longframe COUNT ROOM`: the frame of a message written into ROOM bytes of a5.
-use lines::output;
-use lines::output::Out;
-use numerals::Bytes;
-use numerals::Count;
+use text_lines::output;
+use text_lines::output::Out;
+use text_numerals::Bytes;
+use text_numerals::Count;
 
 // REFUSAL AT LENGTH
 pub fn find(given: &[u8], out: &mut Out, at: usize) -> usize {
-    let Count::Is(from) = numerals::natural(words::word(given)) else {
+    let Count::Is(from) = text_numerals::natural(text_words::word(given)) else {
         return output::put(out, at, b'?');
     };
     let mut bytes = [0u8; 400];
-    let Count::Is(n) = numerals::hex(words::rest(given), &mut bytes) else {
+    let Count::Is(n) = text_numerals::hex(text_words::rest(given), &mut bytes) else {
         return output::put(out, at, b'?');
     };
     put_found(&bytes, n, from, out, at)
@@ -18,7 +18,7 @@ pub fn find(given: &[u8], out: &mut Out, at: usize) -> usize {
 
 // What is found in the first `n` bytes.
 fn put_found(bytes: &Bytes, n: usize, from: usize, out: &mut Out, at: usize) -> usize {
-    let f = frame::find_frame(words::before(bytes, n), from);
+    let f = frame::find_frame(text_words::before(bytes, n), from);
     let to = output::put_field(out, at, f.refusal as u64);
     let to = output::put_field(out, to, f.at as u64);
     output::put_count(out, to, f.length)
@@ -26,11 +26,11 @@ fn put_found(bytes: &Bytes, n: usize, from: usize, out: &mut Out, at: usize) -> 
 
 // REFUSAL LENGTH : BUFFER
 pub fn write(given: &[u8], out: &mut Out, at: usize) -> usize {
-    let Count::Is(room) = numerals::natural(words::word(given)) else {
+    let Count::Is(room) = text_numerals::natural(text_words::word(given)) else {
         return output::put(out, at, b'?');
     };
     let mut bytes = [0u8; 400];
-    let Count::Is(n) = numerals::hex(words::rest(given), &mut bytes) else {
+    let Count::Is(n) = text_numerals::hex(text_words::rest(given), &mut bytes) else {
         return output::put(out, at, b'?');
     };
     put_framed(&bytes, n, room, out, at)
@@ -42,7 +42,7 @@ fn put_framed(bytes: &Bytes, n: usize, room: usize, out: &mut Out, at: usize) ->
         return output::put(out, at, b'?');
     }
     let mut buffer = [0xa5u8; 160];
-    put_written(words::before(bytes, n), &mut buffer[0..room], out, at)
+    put_written(text_words::before(bytes, n), &mut buffer[0..room], out, at)
 }
 
 fn put_written(message: &[u8], buffer: &mut [u8], out: &mut Out, at: usize) -> usize {
@@ -52,10 +52,10 @@ fn put_written(message: &[u8], buffer: &mut [u8], out: &mut Out, at: usize) -> u
 
 // REFUSAL LENGTH A B
 pub fn write_long(given: &[u8], out: &mut Out, at: usize) -> usize {
-    let Count::Is(count) = numerals::natural(words::word(given)) else {
+    let Count::Is(count) = text_numerals::natural(text_words::word(given)) else {
         return output::put(out, at, b'?');
     };
-    let Count::Is(room) = numerals::natural(words::rest(given)) else {
+    let Count::Is(room) = text_numerals::natural(text_words::rest(given)) else {
         return output::put(out, at, b'?');
     };
     put_long(count, room, out, at)

@@ -65,7 +65,7 @@ fn put_frame(m: &[u8], out: &mut [u8])
 {
     put_headed(m, out);
     let e = m.len() + 3;
-    let c = crc::crc_of(&out[..e]);
+    let c = frame_crc::crc_of(&out[..e]);
     put_crc(&mut out[e..], c);
 }
 

@@ -3,8 +3,8 @@
 // refusal number. The last line says how many frames there were, and how many bytes outside them. Places and counts are modulo 2^64.
 use frame_search::Step;
 use libc::STDIN_FILENO;
-use lines::output;
-use lines::output::Out;
+use text_lines::output;
+use text_lines::output::Out;
 
 // More turns than any recording asks for: each finds a frame, passes a byte or reads on.
 const TURNS: usize = 1099511627776;
@@ -59,7 +59,11 @@ fn start() -> State {
 
 // One step of the search, and what it asks for.
 fn turn(window: &mut [u8], out: &mut Out, state: State) -> State {
-    let s = frame_search::next_step(words::before(window, state.held), state.from, state.ended);
+    let s = frame_search::next_step(
+        text_words::before(window, state.held),
+        state.from,
+        state.ended,
+    );
     if s.found {
         return report(window, out, state, s);
     }
@@ -71,8 +75,8 @@ fn turn(window: &mut [u8], out: &mut Out, state: State) -> State {
 
 // The line of a frame that was found; the search goes on behind it.
 fn report(window: &[u8], out: &mut Out, state: State, s: Step) -> State {
-    let message = words::before(
-        words::behind(window, std::num::wrapping_add_usize(s.at, 3)),
+    let message = text_words::before(
+        text_words::behind(window, std::num::wrapping_add_usize(s.at, 3)),
         s.length,
     );
     let to = put_frame(out, state.out, later(state.base, s.at), message);
@@ -177,7 +181,7 @@ fn put_number(out: &mut Out, at: usize, message: &[u8]) -> usize {
 
 // What one of 1021 to 1027 answers to the look at its header.
 fn put_header(out: &mut Out, at: usize, message: &[u8]) -> usize {
-    let h = wire::read_header(message);
+    let h = message_rows::read_header(message);
     if h.refusal != 0 {
         let to = output::put_all(out, at, b" refused ");
         return output::put_small(out, to, h.refusal);

@@ -1,10 +1,10 @@
 // The fields of a 1023 and of a 1024, which have DF numbers of their own between DF191 and DF212.
-use grid_records::Grid;
-use grid_records::Origin;
-use grid_records::Shifts;
-use grid_records::Spacing;
-use lines::output::Out;
-use row::Pair;
+use record_grids::Grid;
+use record_grids::Origin;
+use record_grids::Shifts;
+use record_grids::Spacing;
+use record_rows::Pair;
+use text_lines::output::Out;
 
 fn put_origin(north: &[u8], east: &[u8], r: Origin, out: &mut Out, at: usize) -> usize {
     let n = r.north;
@@ -99,7 +99,7 @@ fn put_grid_fields(r: Grid, out: &mut Out, at: usize) -> usize {
 
 // REFUSAL : FIELDS of the record that the reader of 1023 and 1024 gives.
 pub fn put_grid(s: &[u8], out: &mut Out, at: usize) -> usize {
-    let r = message::read_grid(s);
+    let r = message_records::read_grid(s);
     let to = field_texts::put_refusal(r.refusal, out, at);
     put_grid_fields(r.value, out, to)
 }

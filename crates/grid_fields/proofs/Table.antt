@@ -6,7 +6,7 @@ use mathlib.Core.Bool.{true, false}
 use mathlib.Core.List.{List}
 use lib.Dec.{eqb}
 use Rattle.field.specs.Field.{fieldAt}
-use Rattle.layouts.specs.Layouts.{layout1023, layout1024}
+use Rattle.layout_tables.specs.Layouts.{layout1023, layout1024}
 use Rattle.grid_fields.specs.Fields.{gridLayout, gridSays}
 use Rattle.grid_fields.specs.Private.{fieldSays}
 

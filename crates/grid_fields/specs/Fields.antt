@@ -8,7 +8,7 @@ use lib.ListN.{getD, take}
 use Rattle.field.specs.Field.{fieldAt}
 use Rattle.field.specs.declared.Reading.{Reading}
 use Rattle.layout.specs.Layout.{width, total, readingOf}
-use Rattle.layouts.specs.Layouts.{layout1023, layout1024}
+use Rattle.layout_tables.specs.Layouts.{layout1023, layout1024}
 
 -- the layout by the number DF002: that of 1024 for any other number than 1023
 unfoldable pub gridLayout : List ℕ → List ℕ

@@ -9,9 +9,9 @@ use Rattle.arith.specs.First.{Test}
 use Rattle.arith.specs.Whole.{sameZ}
 use Rattle.field.specs.declared.Reading.{Reading}
 use Rattle.field.specs.declared.Reading.the-variants.{Value, Absent}
-use Rattle.grid_records.specs.declared.Origin.{Origin}
-use Rattle.grid_records.specs.declared.Frame.{Frame}
-use Rattle.row.specs.declared.Pair.{Pair}
+use Rattle.record_grids.specs.declared.Origin.{Origin}
+use Rattle.record_grids.specs.declared.Frame.{Frame}
+use Rattle.record_rows.specs.declared.Pair.{Pair}
 
 -- by the message number: 1023 gives angles, 1024 metres
 abbrev pub ellipsoidal : ℤ → Bool

@@ -1,7 +1,7 @@
 // The refusals of the shift that a grid without its shifts, a component and a position give before the place in the grid is looked for: COMPONENT to SPACING.
 use field::Reading;
-use grid_records::Frame;
-use row::Pair;
+use record_grids::Frame;
+use record_rows::Pair;
 ghost use mathlib.Core.Path.{_≡_};
 ghost use mathlib.Core.Bool.{not, _&&_, _||_};
 ghost use mathlib.Core.List.{[], _∷_};

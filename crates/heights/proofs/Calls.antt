@@ -12,10 +12,10 @@ use Rattle.arith.specs.First.{Test, first}
 use Rattle.arith.proofs.First.{stops, goes-on}
 use Rattle.layout.specs.declared.Written.{Written}
 use Rattle.layout.specs.Layout.{rowOf, answered, stored}
-use Rattle.wire.specs.Message.{message, kindWriteRefusal}
-use Rattle.height_mean.specs.Means.{smallestMean}
-use Rattle.height_mean.specs.declared.Mean.{Mean}
-use Rattle.height_mean.specs.declared.Mean.the-variants.{Found, Missing}
+use Rattle.message_rows.specs.Message.{message, kindWriteRefusal}
+use Rattle.heights_mean.specs.Means.{smallestMean}
+use Rattle.heights_mean.specs.declared.Mean.{Mean}
+use Rattle.heights_mean.specs.declared.Mean.the-variants.{Found, Missing}
 use Rattle.heights.specs.Heights.{heightValues, heightPresent, countTests, recordTests, meanTests, heightsRefusal, heightsMessage}
 
 module _ (z : List ℤ) (b : List ℕ) (wanted : List ℤ) (n : ℕ) where

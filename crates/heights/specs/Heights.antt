@@ -11,10 +11,10 @@ use Rattle.arith.specs.First.{Test, first}
 use Rattle.arith.specs.Row.{at, upTo}
 use Rattle.arith.specs.Whole.{sameZ}
 use Rattle.layout.specs.Layout.{rowOf}
-use Rattle.wire.specs.Message.{rowTests, ofKind, message, Outcome, outcomeOf}
-use Rattle.height_mean.specs.Means.{less, smallestMean}
-use Rattle.height_mean.specs.declared.Mean.{Mean}
-use Rattle.height_mean.specs.declared.Mean.the-variants.{Found, Missing}
+use Rattle.message_rows.specs.Message.{rowTests, ofKind, message, Outcome, outcomeOf}
+use Rattle.heights_mean.specs.Means.{less, smallestMean}
+use Rattle.heights_mean.specs.declared.Mean.{Mean}
+use Rattle.heights_mean.specs.declared.Mean.the-variants.{Found, Missing}
 
 -- ---- the row with a mean and the wanted heights
 

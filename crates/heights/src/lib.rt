@@ -1,5 +1,5 @@
 // Making a height grid: a 1023 message from sixteen wanted heights in millimetres and the rest of its row.
-use height_mean::Mean;
+use heights_mean::Mean;
 use layout::Written;
 ghost use mathlib.Core.Path.{_≡_};
 ghost use mathlib.Core.Bool.{true};
@@ -7,7 +7,7 @@ ghost use Prim.Native.Nat.{_≤_, _<_};
 ghost use lib.ListN.{length};
 ghost use lib.IntN.{natAbs};
 ghost use Rattle.arith.specs.First.{first};
-ghost use Rattle.height_mean.specs.Means.{less, near, fits};
+ghost use Rattle.heights_mean.specs.Means.{less, near, fits};
 ghost use Rattle.heights.specs.Heights.{valueWith, presentWith, heightValues, heightPresent, zeroBeside, saysOther, recordTests, writeHeights};
 
 // Whether place k of a row holds the value 0 beside the presence byte `mark`.
@@ -89,7 +89,7 @@ fn value_with(values: &[i64], wanted: &[i64], mean: i64, k: usize) -> i64
     if k == 10 {
         return mean;
     }
-    height_less(height_mean::height_at(wanted, (k - 13) / 3), mean)
+    height_less(heights_mean::height_at(wanted, (k - 13) / 3), mean)
 }
 
 // The presence byte at place k of that row.
@@ -164,7 +164,7 @@ pub fn write_heights(values: &[i64], present: &[u8], wanted: &[i64], out: &mut [
             length: 0,
         };
     }
-    let chosen = height_mean::smallest_mean(wanted);
+    let chosen = heights_mean::smallest_mean(wanted);
     let Mean::Found(mean) = chosen else {
         return Written {
             refusal: 23,
@@ -173,5 +173,5 @@ pub fn write_heights(values: &[i64], present: &[u8], wanted: &[i64], out: &mut [
     };
     let v = values_with(values, wanted, mean);
     let p = bytes_with(present);
-    wire_writer::write_kind(true, &v, &p, 1023, 1023, out)
+    message_rows::write_kind(true, &v, &p, 1023, 1023, out)
 }

@@ -1,29 +1,29 @@
 // `NAME heights ROOM COUNT PRESENT V1 .. Vn`: a 1023 of wanted heights, the first COUNT of the values, with the row of the other values, written into ROOM bytes of a5.
-use lines::output;
-use lines::output::Out;
-use numerals::Bytes;
-use numerals::Count;
-use numerals::Numbers;
+use text_lines::output;
+use text_lines::output::Out;
+use text_numerals::Bytes;
+use text_numerals::Count;
+use text_numerals::Numbers;
 
 pub fn answer(given: &[u8], out: &mut Out, at: usize) -> usize {
-    let Count::Is(room) = numerals::natural(words::word(given)) else {
+    let Count::Is(room) = text_numerals::natural(text_words::word(given)) else {
         return output::put(out, at, b'?');
     };
-    let rest = words::rest(given);
-    let Count::Is(count) = numerals::natural(words::word(rest)) else {
+    let rest = text_words::rest(given);
+    let Count::Is(count) = text_numerals::natural(text_words::word(rest)) else {
         return output::put(out, at, b'?');
     };
-    put_row(room, count, words::rest(rest), out, at)
+    put_row(room, count, text_words::rest(rest), out, at)
 }
 
 // The heights and the row that are given, written into `room` bytes.
 fn put_row(room: usize, count: usize, given: &[u8], out: &mut Out, at: usize) -> usize {
     let mut bytes = [0u8; 400];
-    let Count::Is(n) = numerals::hex(words::word(given), &mut bytes) else {
+    let Count::Is(n) = text_numerals::hex(text_words::word(given), &mut bytes) else {
         return output::put(out, at, b'?');
     };
     let mut numbers = [0i64; 100];
-    let Count::Is(m) = numerals::row(words::rest(given), &mut numbers) else {
+    let Count::Is(m) = text_numerals::row(text_words::rest(given), &mut numbers) else {
         return output::put(out, at, b'?');
     };
     put_places(room, count, &numbers, m, &bytes, n, out, at)
@@ -46,8 +46,8 @@ fn put_places(
     let mut buffer = [0xa5u8; 160];
     put_parts(
         count,
-        numerals::first(numbers, m),
-        words::before(bytes, n),
+        text_numerals::first(numbers, m),
+        text_words::before(bytes, n),
         &mut buffer[0..room],
         out,
         at,

@@ -1,8 +1,8 @@
 // The fields of a 1025, of a 1026 and of a 1027.
-use lines::output::Out;
-use projection_records::Lambert;
-use projection_records::ObliqueMercator;
-use projection_records::Projection;
+use record_projections::Lambert;
+use record_projections::ObliqueMercator;
+use record_projections::Projection;
+use text_lines::output::Out;
 
 // The three fields with which each begins.
 fn put_start(number: i64, sin: i64, projection: i64, out: &mut Out, at: usize) -> usize {
@@ -49,21 +49,21 @@ fn put_oblique_mercator_fields(r: ObliqueMercator, out: &mut Out, at: usize) -> 
 
 // REFUSAL : FIELDS of the record that the reader of 1025 gives.
 pub fn put_projection(s: &[u8], out: &mut Out, at: usize) -> usize {
-    let r = message::read_projection(s);
+    let r = message_records::read_projection(s);
     let to = field_texts::put_refusal(r.refusal, out, at);
     put_projection_fields(r.value, out, to)
 }
 
 // The same of 1026.
 pub fn put_lambert(s: &[u8], out: &mut Out, at: usize) -> usize {
-    let r = message::read_lambert(s);
+    let r = message_records::read_lambert(s);
     let to = field_texts::put_refusal(r.refusal, out, at);
     put_lambert_fields(r.value, out, to)
 }
 
 // The same of 1027.
 pub fn put_oblique_mercator(s: &[u8], out: &mut Out, at: usize) -> usize {
-    let r = message::read_oblique_mercator(s);
+    let r = message_records::read_oblique_mercator(s);
     let to = field_texts::put_refusal(r.refusal, out, at);
     put_oblique_mercator_fields(r.value, out, to)
 }

@@ -1,12 +1,12 @@
 // `NAME read HEX`: the header, the refusals of the six readers of records, the row, and the bytes written from the row and from the record.
-use lines::output;
-use lines::output::Out;
-use numerals::Bytes;
-use numerals::Count;
+use text_lines::output;
+use text_lines::output::Out;
+use text_numerals::Bytes;
+use text_numerals::Count;
 
 pub fn answer(given: &[u8], out: &mut Out, at: usize) -> usize {
     let mut bytes = [0u8; 400];
-    let Count::Is(n) = numerals::hex(given, &mut bytes) else {
+    let Count::Is(n) = text_numerals::hex(given, &mut bytes) else {
         return output::put(out, at, b'?');
     };
     put_message(&bytes, n, out, at)
@@ -14,7 +14,7 @@ pub fn answer(given: &[u8], out: &mut Out, at: usize) -> usize {
 
 // All that is printed of the message in the first `n` bytes.
 fn put_message(bytes: &Bytes, n: usize, out: &mut Out, at: usize) -> usize {
-    let s = words::before(bytes, n);
+    let s = text_words::before(bytes, n);
     let to = put_header(s, out, at);
     let to = put_refusals(s, out, to);
     row_cases::put_parts(s, out, to)
@@ -22,7 +22,7 @@ fn put_message(bytes: &Bytes, n: usize, out: &mut Out, at: usize) -> usize {
 
 // REFUSAL NUMBER LENGTH SIN
 fn put_header(s: &[u8], out: &mut Out, at: usize) -> usize {
-    let h = wire::read_header(s);
+    let h = message_rows::read_header(s);
     put_numbers(h.refusal, h.number, h.length, h.sin, out, at)
 }
 

@@ -3,18 +3,18 @@
 // The refusal that the reader of a kind answers.
 pub fn refusal(s: &[u8], kind: usize) -> u8 {
     match kind {
-        1 => message::read_helmert(s).refusal,
-        2 => message::read_molodenski_badekas(s).refusal,
-        3 => message::read_grid(s).refusal,
+        1 => message_records::read_helmert(s).refusal,
+        2 => message_records::read_molodenski_badekas(s).refusal,
+        3 => message_records::read_grid(s).refusal,
         _ => projection_refusal(s, kind),
     }
 }
 
 fn projection_refusal(s: &[u8], kind: usize) -> u8 {
     match kind {
-        4 => message::read_projection(s).refusal,
-        5 => message::read_lambert(s).refusal,
-        _ => message::read_oblique_mercator(s).refusal,
+        4 => message_records::read_projection(s).refusal,
+        5 => message_records::read_lambert(s).refusal,
+        _ => message_records::read_oblique_mercator(s).refusal,
     }
 }
 
@@ -49,25 +49,31 @@ fn rewrite_projected(s: &[u8], kind: usize, buffer: &mut [u8]) -> usize {
 }
 
 fn rewrite_helmert(s: &[u8], buffer: &mut [u8]) -> usize {
-    message::write_helmert(message::read_helmert(s).value, buffer).length
+    message_records::write_helmert(message_records::read_helmert(s).value, buffer).length
 }
 
 fn rewrite_molodenski_badekas(s: &[u8], buffer: &mut [u8]) -> usize {
-    message::write_molodenski_badekas(message::read_molodenski_badekas(s).value, buffer).length
+    message_records::write_molodenski_badekas(
+        message_records::read_molodenski_badekas(s).value,
+        buffer,
+    ).length
 }
 
 fn rewrite_grid(s: &[u8], buffer: &mut [u8]) -> usize {
-    message::write_grid(message::read_grid(s).value, buffer).length
+    message_records::write_grid(message_records::read_grid(s).value, buffer).length
 }
 
 fn rewrite_projection(s: &[u8], buffer: &mut [u8]) -> usize {
-    message::write_projection(message::read_projection(s).value, buffer).length
+    message_records::write_projection(message_records::read_projection(s).value, buffer).length
 }
 
 fn rewrite_lambert(s: &[u8], buffer: &mut [u8]) -> usize {
-    message::write_lambert(message::read_lambert(s).value, buffer).length
+    message_records::write_lambert(message_records::read_lambert(s).value, buffer).length
 }
 
 fn rewrite_oblique_mercator(s: &[u8], buffer: &mut [u8]) -> usize {
-    message::write_oblique_mercator(message::read_oblique_mercator(s).value, buffer).length
+    message_records::write_oblique_mercator(
+        message_records::read_oblique_mercator(s).value,
+        buffer,
+    ).length
 }

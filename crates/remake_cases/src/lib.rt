@@ -1,13 +1,13 @@
 // `NAME remake KIND ROOM PRESENT V1 .. Vn`: a record made from a row, written into ROOM bytes of a5.
 use layout::Written;
-use lines::output;
-use lines::output::Out;
-use numerals::Count;
-use numerals::Present;
-use numerals::Values;
+use text_lines::output;
+use text_lines::output::Out;
+use text_numerals::Count;
+use text_numerals::Present;
+use text_numerals::Values;
 
 pub fn answer(given: &[u8], out: &mut Out, at: usize) -> usize {
-    let Count::Is(kind) = numerals::natural(words::word(given)) else {
+    let Count::Is(kind) = text_numerals::natural(text_words::word(given)) else {
         return output::put(out, at, b'?');
     };
     if 6 < kind {
@@ -16,17 +16,18 @@ pub fn answer(given: &[u8], out: &mut Out, at: usize) -> usize {
     if kind == 0 {
         return output::put(out, at, b'?');
     }
-    put_record(kind, words::rest(given), out, at)
+    put_record(kind, text_words::rest(given), out, at)
 }
 
 // A record of the kind from the row that is given behind the room.
 fn put_record(kind: usize, given: &[u8], out: &mut Out, at: usize) -> usize {
-    let Count::Is(room) = numerals::natural(words::word(given)) else {
+    let Count::Is(room) = text_numerals::natural(text_words::word(given)) else {
         return output::put(out, at, b'?');
     };
     let mut values = [0i64; 96];
     let mut present = [1u8; 96];
-    let Count::Is(_) = numerals::places(words::rest(given), &mut values, &mut present) else {
+    let Count::Is(_) = text_numerals::places(text_words::rest(given), &mut values, &mut present)
+    else {
         return output::put(out, at, b'?');
     };
     put_made(kind, room, &values, &present, out, at)
@@ -78,31 +79,31 @@ fn write_projected(kind: usize, values: &Values, present: &Present, buffer: &mut
 }
 
 fn write_helmert(values: &Values, present: &Present, buffer: &mut [u8]) -> Written {
-    message::write_helmert(transformation_records::helmert_of(values, present), buffer)
+    message_records::write_helmert(record_transformations::helmert_of(values, present), buffer)
 }
 
 fn write_molodenski_badekas(values: &Values, present: &Present, buffer: &mut [u8]) -> Written {
-    message::write_molodenski_badekas(
-        transformation_records::molodenski_badekas_of(values, present),
+    message_records::write_molodenski_badekas(
+        record_transformations::molodenski_badekas_of(values, present),
         buffer,
     )
 }
 
 fn write_grid(values: &Values, present: &Present, buffer: &mut [u8]) -> Written {
-    message::write_grid(grid_records::grid_of(values, present), buffer)
+    message_records::write_grid(record_grids::grid_of(values, present), buffer)
 }
 
 fn write_projection(values: &Values, present: &Present, buffer: &mut [u8]) -> Written {
-    message::write_projection(projection_records::projection_of(values, present), buffer)
+    message_records::write_projection(record_projections::projection_of(values, present), buffer)
 }
 
 fn write_lambert(values: &Values, present: &Present, buffer: &mut [u8]) -> Written {
-    message::write_lambert(projection_records::lambert_of(values, present), buffer)
+    message_records::write_lambert(record_projections::lambert_of(values, present), buffer)
 }
 
 fn write_oblique_mercator(values: &Values, present: &Present, buffer: &mut [u8]) -> Written {
-    message::write_oblique_mercator(
-        projection_records::oblique_mercator_of(values, present),
+    message_records::write_oblique_mercator(
+        record_projections::oblique_mercator_of(values, present),
         buffer,
     )
 }

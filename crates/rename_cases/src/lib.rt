@@ -1,11 +1,11 @@
 // `NAME rename KIND ROOM SIDE LENGTH PLACE CHAR HEX`: a message's record with another name, written into ROOM bytes of a5.
 use layout::Written;
-use lines::output;
-use lines::output::Out;
-use numerals::Byte;
-use numerals::Bytes;
-use numerals::Count;
 use renamed_records::Change;
+use text_lines::output;
+use text_lines::output::Out;
+use text_numerals::Byte;
+use text_numerals::Bytes;
+use text_numerals::Count;
 
 enum Asked {
     Is(Change),
@@ -13,7 +13,7 @@ enum Asked {
 }
 
 pub fn answer(given: &[u8], out: &mut Out, at: usize) -> usize {
-    let Count::Is(kind) = numerals::natural(words::word(given)) else {
+    let Count::Is(kind) = text_numerals::natural(text_words::word(given)) else {
         return output::put(out, at, b'?');
     };
     if 2 < kind {
@@ -22,22 +22,22 @@ pub fn answer(given: &[u8], out: &mut Out, at: usize) -> usize {
     if kind == 0 {
         return output::put(out, at, b'?');
     }
-    put_record(kind, words::rest(given), out, at)
+    put_record(kind, text_words::rest(given), out, at)
 }
 
 // The record of the kind, by what is given behind it.
 fn put_record(kind: usize, given: &[u8], out: &mut Out, at: usize) -> usize {
-    let Count::Is(room) = numerals::natural(words::word(given)) else {
+    let Count::Is(room) = text_numerals::natural(text_words::word(given)) else {
         return output::put(out, at, b'?');
     };
-    let rest = words::rest(given);
-    let Count::Is(side) = numerals::natural(words::word(rest)) else {
+    let rest = text_words::rest(given);
+    let Count::Is(side) = text_numerals::natural(text_words::word(rest)) else {
         return output::put(out, at, b'?');
     };
     if 1 < side {
         return output::put(out, at, b'?');
     }
-    put_change(kind, room, side, words::rest(rest), out, at)
+    put_change(kind, room, side, text_words::rest(rest), out, at)
 }
 
 // The change that is given, and the message behind it.
@@ -49,32 +49,36 @@ fn put_change(
     out: &mut Out,
     at: usize,
 ) -> usize {
-    let rest = words::rest(given);
-    let behind = words::rest(rest);
-    let Asked::Is(c) = change_of(words::word(given), words::word(rest), words::word(behind)) else {
+    let rest = text_words::rest(given);
+    let behind = text_words::rest(rest);
+    let Asked::Is(c) = change_of(
+        text_words::word(given),
+        text_words::word(rest),
+        text_words::word(behind),
+    ) else {
         return output::put(out, at, b'?');
     };
     let mut bytes = [0u8; 400];
-    let Count::Is(n) = numerals::hex(words::rest(behind), &mut bytes) else {
+    let Count::Is(n) = text_numerals::hex(text_words::rest(behind), &mut bytes) else {
         return output::put(out, at, b'?');
     };
     put_message(kind, room, side, c, &bytes, n, out, at)
 }
 
 fn change_of(length: &[u8], place: &[u8], character: &[u8]) -> Asked {
-    let Count::Is(n) = numerals::natural(length) else {
+    let Count::Is(n) = text_numerals::natural(length) else {
         return Asked::Bad;
     };
     if 200 < n {
         return Asked::Bad;
     }
-    let Count::Is(k) = numerals::natural(place) else {
+    let Count::Is(k) = text_numerals::natural(place) else {
         return Asked::Bad;
     };
     if 200 < k {
         return Asked::Bad;
     }
-    let Byte::Is(b) = numerals::small(character) else {
+    let Byte::Is(b) = text_numerals::small(character) else {
         return Asked::Bad;
     };
     Asked::Is(Change {
@@ -103,7 +107,7 @@ fn put_message(
         kind,
         side,
         c,
-        words::before(bytes, n),
+        text_words::before(bytes, n),
         &mut buffer[0..room],
         out,
         at,
@@ -132,15 +136,15 @@ fn write(kind: usize, side: usize, c: Change, s: &[u8], buffer: &mut [u8]) -> Wr
 }
 
 fn write_helmert(side: usize, c: Change, s: &[u8], buffer: &mut [u8]) -> Written {
-    let r = message::read_helmert(s);
+    let r = message_records::read_helmert(s);
     let value = r.value;
-    message::write_helmert(renamed_records::helmert_with(value, side, c), buffer)
+    message_records::write_helmert(renamed_records::helmert_with(value, side, c), buffer)
 }
 
 fn write_molodenski_badekas(side: usize, c: Change, s: &[u8], buffer: &mut [u8]) -> Written {
-    let r = message::read_molodenski_badekas(s);
+    let r = message_records::read_molodenski_badekas(s);
     let value = r.value;
-    message::write_molodenski_badekas(
+    message_records::write_molodenski_badekas(
         renamed_records::molodenski_badekas_with(value, side, c),
         buffer,
     )

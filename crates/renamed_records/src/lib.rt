@@ -1,7 +1,7 @@
 // Records of a 1021 or a 1022 with another name.
-use transformation_records::Helmert;
-use transformation_records::MolodenskiBadekas;
-use transformation_records::Name;
+use record_transformations::Helmert;
+use record_transformations::MolodenskiBadekas;
+use record_transformations::Name;
 
 // What a name gets: a length, and a character at a place where the name has that place.
 pub struct Change {

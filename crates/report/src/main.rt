@@ -2,18 +2,18 @@
 // under 1 to 15, the smallest and the greatest count, their first places, and the sum of counts; or `refused` and the refusal number.
 // The first line has the message in hexadecimal digits, `-` for none, the second the component, each further line a point: north and east in whole steps.
 // Empty lines at the end are ignored; any other bad line is answered by `bad input: line` and its number alone.
-use lines::input;
-use lines::input::Chunk;
-use lines::input::Got;
-use lines::input::Line;
-use lines::input::Place;
-use lines::output;
-use lines::output::Out;
-use numerals::Byte;
-use numerals::Bytes;
-use numerals::Count;
-use numerals::Integer;
-use tally_update::Tally;
+use report_update::Tally;
+use text_lines::input;
+use text_lines::input::Chunk;
+use text_lines::input::Got;
+use text_lines::input::Line;
+use text_lines::input::Place;
+use text_lines::output;
+use text_lines::output::Out;
+use text_numerals::Byte;
+use text_numerals::Bytes;
+use text_numerals::Count;
+use text_numerals::Integer;
 
 // More lines than any list of points has.
 const TURNS: usize = 1099511627776;
@@ -51,7 +51,7 @@ fn answer(chunk: &mut Chunk, line: &mut Line, message: &mut Bytes, out: &mut Out
         chunk,
         line,
         second.place,
-        words::before(message, n),
+        text_words::before(message, n),
         component,
     );
     put_end(out, state);
@@ -65,7 +65,7 @@ fn message_of(line: &Line, got: Got, message: &mut Bytes) -> Count {
     if 900 < got.length {
         return Count::Bad;
     }
-    numerals::hex(words::before(line, got.length), message)
+    text_numerals::hex(text_words::before(line, got.length), message)
 }
 
 // The number that the second line spells.
@@ -76,7 +76,7 @@ fn component_of(line: &Line, got: Got) -> Byte {
     if 900 < got.length {
         return Byte::Bad;
     }
-    numerals::small(words::before(line, got.length))
+    text_numerals::small(text_words::before(line, got.length))
 }
 
 // The points of all further lines, up to a bad one.
@@ -107,7 +107,7 @@ fn add_points(
 
 // Two lines are read, and no point: COMPONENT is refused without one.
 fn start(component: u8) -> State {
-    let zeros = tally_update::empty(0);
+    let zeros = report_update::empty(0);
     let tally = zeros.tally;
     State {
         tally,
@@ -140,7 +140,7 @@ fn add_line(state: State, line: &Line, length: usize, message: &[u8], component:
     add_point(
         state,
         number,
-        words::before(line, length),
+        text_words::before(line, length),
         message,
         component,
     )
@@ -148,10 +148,10 @@ fn add_line(state: State, line: &Line, length: usize, message: &[u8], component:
 
 // A line with two whole numbers and one space between them.
 fn add_point(state: State, number: usize, s: &[u8], message: &[u8], component: u8) -> State {
-    let Integer::Is(north) = numerals::whole(words::word(s)) else {
+    let Integer::Is(north) = text_numerals::whole(text_words::word(s)) else {
         return with_bad(state, number);
     };
-    let Integer::Is(east) = numerals::whole(words::rest(s)) else {
+    let Integer::Is(east) = text_numerals::whole(text_words::rest(s)) else {
         return with_bad(state, number);
     };
     with_point(state, number, message, component, north, east)
@@ -176,7 +176,7 @@ fn with_point(
             bad: 0,
         };
     }
-    let r = tally::tally_next(tally, message, component, north, east);
+    let r = report_tally::tally_next(tally, message, component, north, east);
     let next = r.tally;
     State {
         tally: next,

@@ -1,14 +1,14 @@
 // The row of a message, and the bytes written from the row and from the record.
-use lines::output;
-use lines::output::Out;
-use numerals::Present;
-use numerals::Values;
+use text_lines::output;
+use text_lines::output::Out;
+use text_numerals::Present;
+use text_numerals::Values;
 
 // : VALUES : PRESENT : BYTES : BYTES
 pub fn put_parts(s: &[u8], out: &mut Out, at: usize) -> usize {
     let mut values = [0i64; 96];
     let mut present = [255u8; 96];
-    let refusal = wire::read_row(s, &mut values, &mut present);
+    let refusal = message_rows::read_row(s, &mut values, &mut present);
     if refusal != 0 {
         return output::put_all(out, at, b" : - : - : - : -");
     }
@@ -19,8 +19,8 @@ pub fn put_parts(s: &[u8], out: &mut Out, at: usize) -> usize {
 fn put_both(s: &[u8], values: &Values, present: &Present, out: &mut Out, at: usize) -> usize {
     let n = known(present);
     let to = put_row(
-        numerals::first(values, n),
-        words::before(present, n),
+        text_numerals::first(values, n),
+        text_words::before(present, n),
         out,
         at,
     );
@@ -53,8 +53,8 @@ fn known(present: &Present) -> usize {
 // The bytes written from a row.
 fn put_written(values: &[i64], present: &[u8], out: &mut Out, at: usize) -> usize {
     let mut buffer = [0u8; 160];
-    let w = wire_writer::write_row(values, present, &mut buffer);
-    output::put_hex(out, at, words::before(&buffer, w.length))
+    let w = message_rows::write_row(values, present, &mut buffer);
+    output::put_hex(out, at, text_words::before(&buffer, w.length))
 }
 
 // The bytes written from the record of the one kind that can be read.
@@ -65,5 +65,5 @@ fn put_record(s: &[u8], out: &mut Out, at: usize) -> usize {
     }
     let mut buffer = [0u8; 160];
     let n = record_cases::rewrite(s, kind, &mut buffer);
-    output::put_hex(out, at, words::before(&buffer, n))
+    output::put_hex(out, at, text_words::before(&buffer, n))
 }

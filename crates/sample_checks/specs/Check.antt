@@ -7,8 +7,8 @@ use lib.Dec.{eqb, ltb}
 use lib.ListN.{length, getD}
 use Rattle.arith.specs.Places.{firstOf}
 use Rattle.arith.specs.Whole.{sameZ}
-use Rattle.wire.specs.Message.{kindRefusal}
-use Rattle.grid.specs.Shift.{messageShift}
+use Rattle.message_rows.specs.Message.{kindRefusal}
+use Rattle.grid_shifts.specs.Shift.{messageShift}
 use Rattle.sample_files.specs.declared.Point.{Point}
 use Rattle.sample_files.specs.File.{messageOf, pointsOf, shape, noPoint}
 use Rattle.sample_checks.specs.declared.Checked.{Checked}

@@ -1,8 +1,8 @@
 // Checking a vendor's sample answers against the shifts of their message. The functions with a requires are private.
-use part::Kept;
+use grid_component::Kept;
 use sample_files::Point;
 ghost use mathlib.Core.Path.{_≡_};
-ghost use Rattle.part.specs.Part.{keptOf};
+ghost use Rattle.grid_component.specs.Part.{keptOf};
 ghost use Rattle.sample_files.specs.File.{pointsOf};
 ghost use Rattle.sample_checks.specs.Check.{right, firstBad, checked};
 
@@ -23,7 +23,7 @@ fn right_point(message: &[u8], kept: Kept, p: Point) -> bool
     requires { ⌜ kept ≡ keptOf (now message) ⌝ }
     ensures { λ r. ⌜ r ≡ right (now (message .entry)) p ⌝ }
 {
-    let answer = part::count_at(message, kept, p.component, p.north, p.east);
+    let answer = grid_component::count_at(message, kept, p.component, p.north, p.east);
     if answer.refusal != 0 {
         return false;
     }
@@ -58,7 +58,7 @@ pub fn check_samples(file: &[u8]) -> Checked
     }
     let e = sample_files::message_end(file);
     let message = &file[3..e];
-    let kept = part::keep(message);
+    let kept = grid_component::keep(message);
     if kept.refusal != 0 {
         return Checked {
             refusal: kept.refusal,

@@ -9,13 +9,13 @@ use borrow.Author.Tests.{le-leb, eq-eqb}
 use lib.Dec.{eqb}
 use lib.ListN.{length, getD, take, drop}
 use lib.Seq.{take-at, drop-at, drop-drop}
-use Rattle.byte_numbers.specs.Number.{number, bytesOf, whole, wholeBytes}
+use Rattle.sample_numbers.specs.Number.{number, bytesOf, whole, wholeBytes}
 use Rattle.sample_files.specs.declared.Point.{Point}
-use Rattle.words.specs.Words.{same}
+use Rattle.text_words.specs.Words.{same}
 use Rattle.sample_files.specs.File.{field, pointField, pointFields, fileOf, pointSize, mostPoints, messageOf, restOf, pointOf, pointsIn, pointsOf, shape}
 use Rattle.sample_files.specs.Private.{messageFirst, pointHead, pointHeads, onlyPoints, tested}
 use Rattle.sample_files.specs.Held.{Held, AllHeld, more}
-use Rattle.byte_numbers.proofs.Number.{length-bytesOf, length-whole, number-bytesOf, whole-back}
+use Rattle.sample_numbers.proofs.Number.{length-bytesOf, length-whole, number-bytesOf, whole-back}
 use Rattle.sample_files.proofs.Bytes.{length-contents, length-point, length-points, length-file}
 
 pub same-refl : (a : List ℕ) → same a a ≡ true

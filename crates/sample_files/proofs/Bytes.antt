@@ -5,10 +5,10 @@ use mathlib.Core.List.{List, [], _∷_, _++_}
 use Prim.Native.Nat.{ℕ, suc, _+_, _*_}
 use native.Mathlib.Omega.{arith}
 use lib.ListN.{length, length-append}
-use Rattle.byte_numbers.specs.Number.{bytesOf, wholeBytes}
+use Rattle.sample_numbers.specs.Number.{bytesOf, wholeBytes}
 use Rattle.sample_files.specs.declared.Point.{Point}
 use Rattle.sample_files.specs.File.{field, pointSize, pointField, pointFields, fileOf}
-use Rattle.byte_numbers.proofs.Number.{length-bytesOf, length-whole}
+use Rattle.sample_numbers.proofs.Number.{length-bytesOf, length-whole}
 
 -- the contents of a point's field
 abbrev pub contents : Point → List ℕ

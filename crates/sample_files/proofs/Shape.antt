@@ -13,9 +13,9 @@ use lib.Signed.{mag}
 use lib.Seq.{length-take-le, take-add, take-suc, drop-drop, getD-drop}
 use Rattle.arith.proofs.Tests.{false-ne-true, both-first, both-second}
 use Rattle.field.proofs.Bit.{Bytes}
-use Rattle.words.specs.Words.{same}
-use Rattle.byte_numbers.specs.Number.{number, bytesOf, whole, wholeBytes}
-use Rattle.byte_numbers.proofs.Number.{number-lt, bytesOf-number, bytes-back, whole-held}
+use Rattle.text_words.specs.Words.{same}
+use Rattle.sample_numbers.specs.Number.{number, bytesOf, whole, wholeBytes}
+use Rattle.sample_numbers.proofs.Number.{number-lt, bytesOf-number, bytes-back, whole-held}
 use Rattle.sample_files.specs.declared.Point.{Point}
 use Rattle.sample_files.specs.File.{field, pointField, pointFields, fileOf, pointSize, mostPoints, messageEnd, messageOf, restOf, pointOf, pointsIn, pointsOf, shape}
 use Rattle.sample_files.specs.Private.{messageFirst, pointHead, pointHeads, onlyPoints, tested}

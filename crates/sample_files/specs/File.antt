@@ -6,8 +6,8 @@ use mathlib.Core.List.{List, [], _∷_, _++_}
 use lib.Dec.{leb}
 use lib.IntN.{pos}
 use lib.ListN.{length, getD, take, drop}
-use Rattle.words.specs.Words.{same}
-use Rattle.byte_numbers.specs.Number.{number, bytesOf, whole, wholeBytes}
+use Rattle.text_words.specs.Words.{same}
+use Rattle.sample_numbers.specs.Number.{number, bytesOf, whole, wholeBytes}
 use Rattle.sample_files.specs.declared.Point.{Point}
 
 -- ---- the bytes of a message and points

@@ -27,7 +27,7 @@ fn message_first(file: &[u8]) -> bool
     if file[0] != 1 {
         return false;
     }
-    let n = byte_numbers::number_at(file, 1, 2) as usize;
+    let n = sample_numbers::number_at(file, 1, 2) as usize;
     if file.len() - 3 < n {
         return false;
     }
@@ -42,7 +42,7 @@ pub fn message_end(file: &[u8]) -> usize
     if length < 3 {
         return length;
     }
-    let n = byte_numbers::number_at(file, 1, 2) as usize;
+    let n = sample_numbers::number_at(file, 1, 2) as usize;
     if length - 3 < n {
         return length;
     }
@@ -57,7 +57,7 @@ fn point_head(s: &[u8]) -> bool
     if s[0] != 2 {
         return false;
     }
-    byte_numbers::number_at(s, 1, 2) == 25
+    sample_numbers::number_at(s, 1, 2) == 25
 }
 
 // Whether each of the n fields of s has the tag and the length of a point.
@@ -116,9 +116,9 @@ fn point_in(s: &[u8], a: usize) -> Point
 {
     Point {
         component: s[a + 3],
-        north: byte_numbers::whole_at(s, a + 4),
-        east: byte_numbers::whole_at(s, a + 12),
-        claim: byte_numbers::whole_at(s, a + 20),
+        north: sample_numbers::whole_at(s, a + 4),
+        east: sample_numbers::whole_at(s, a + 12),
+        claim: sample_numbers::whole_at(s, a + 20),
     }
 }
 

@@ -1,6 +1,6 @@
 // The points that lines of a text spell, `COMPONENT NORTH EAST`: the first 1,001 are held.
-use numerals::Byte;
-use numerals::Integer;
+use text_numerals::Byte;
+use text_numerals::Integer;
 
 pub type Components = [u8; 1001];
 
@@ -17,14 +17,14 @@ pub fn take_point(
     count: &mut usize,
     later: &mut u8,
 ) -> bool {
-    let Byte::Is(c) = numerals::small(words::word(s)) else {
+    let Byte::Is(c) = text_numerals::small(text_words::word(s)) else {
         return false;
     };
-    let rest = words::rest(s);
-    let Integer::Is(n) = numerals::whole(words::word(rest)) else {
+    let rest = text_words::rest(s);
+    let Integer::Is(n) = text_numerals::whole(text_words::word(rest)) else {
         return false;
     };
-    let Integer::Is(e) = numerals::whole(words::rest(rest)) else {
+    let Integer::Is(e) = text_numerals::whole(text_words::rest(rest)) else {
         return false;
     };
     let k = *count;
@@ -42,6 +42,6 @@ pub fn take_point(
 // The refusal of a point, where none is kept.
 fn look(message: &[u8], c: u8, n: i64, e: i64, later: &mut u8) {
     if *later == 0 {
-        *later = part::part_at(message, c, n, e).refusal;
+        *later = grid_component::part_at(message, c, n, e).refusal;
     }
 }

@@ -8,8 +8,8 @@ use borrow.Rule.Slice.PartMut.{putMid, post-is}
 use lib.IntN.{ℤ}
 use lib.ListN.{length, take, drop, length-append, length-drop, drop-of-length-le}
 use lib.Seq.{take-at, drop-at, drop-drop, length-take-le}
-use Rattle.byte_numbers.specs.Number.{bytesOf, wholeBytes, putBytes}
-use Rattle.byte_numbers.proofs.Number.{length-bytesOf, length-whole, put-within}
+use Rattle.sample_numbers.specs.Number.{bytesOf, wholeBytes, putBytes}
+use Rattle.sample_numbers.proofs.Number.{length-bytesOf, length-whole, put-within}
 use Rattle.sample_files.specs.declared.Point.{Point}
 use Rattle.sample_files.specs.File.{field, pointField, pointFields, fileOf}
 use Rattle.sample_files.proofs.Bytes.{length-contents}

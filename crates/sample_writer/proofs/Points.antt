@@ -10,7 +10,7 @@ use lib.ListN.{length, take, drop, length-append}
 use lib.Seq.{take-at, take-all, length-take-le}
 use Rattle.sample_files.specs.File.{pointSize, pointField, pointFields}
 use Rattle.sample_files.proofs.Bytes.{length-point}
-use Rattle.sample_refusals.proofs.Points.{from, point, from-end, from-point}
+use Rattle.sample_writer.proofs.Asked.{from, point, from-end, from-point}
 use Rattle.sample_writer.specs.Write.{sample}
 
 pub size-put : (out z : List ℕ) (i : ℕ) → length z ≡ length (take (pointSize * i + pointSize - pointSize * i) (drop (pointSize * i) out)) → length (putMid (pointSize * i) (pointSize * i + pointSize - pointSize * i) out z) ≡ length out

@@ -8,7 +8,7 @@ use lib.IntN.{ℤ}
 use Rattle.arith.specs.First.{first}
 use Rattle.sample_files.specs.declared.Point.{Point}
 use Rattle.sample_files.specs.File.{fileOf}
-use Rattle.sample_refusals.specs.Refusals.{Asked, askedOf, answerAt, given, pointsRefusal}
+use Rattle.sample_writer.specs.Refusals.{Asked, askedOf, answerAt, given, pointsRefusal}
 
 -- a point with the message's answer there as its claim
 unfoldable pub sample : List ℕ → Asked → Point

@@ -1,10 +1,10 @@
 // `NAME row ROOM COMPONENT NORTH EAST STEP COUNT HEX`: a row of shifts from a grid message, in ROOM places that hold -7777777 before; `NAME longrow ..`: sums of the same.
-use lines::output;
-use lines::output::Out;
-use numerals::Byte;
-use numerals::Bytes;
-use numerals::Count;
-use numerals::Integer;
+use text_lines::output;
+use text_lines::output::Out;
+use text_numerals::Byte;
+use text_numerals::Bytes;
+use text_numerals::Count;
+use text_numerals::Integer;
 
 // The row that a line asks for.
 struct Row {
@@ -22,10 +22,10 @@ enum Asked {
 
 // REFUSAL : V1 .. VROOM
 pub fn answer(given: &[u8], out: &mut Out, at: usize) -> usize {
-    let Count::Is(room) = numerals::natural(words::word(given)) else {
+    let Count::Is(room) = text_numerals::natural(text_words::word(given)) else {
         return output::put(out, at, b'?');
     };
-    put_places(room, words::rest(given), out, at)
+    put_places(room, text_words::rest(given), out, at)
 }
 
 fn put_places(room: usize, given: &[u8], out: &mut Out, at: usize) -> usize {
@@ -47,10 +47,10 @@ fn put_row(given: &[u8], row: &mut [i64], out: &mut Out, at: usize) -> usize {
 
 // REFUSAL A B
 pub fn answer_long(given: &[u8], out: &mut Out, at: usize) -> usize {
-    let Count::Is(room) = numerals::natural(words::word(given)) else {
+    let Count::Is(room) = text_numerals::natural(text_words::word(given)) else {
         return output::put(out, at, b'?');
     };
-    put_long(room, words::rest(given), out, at)
+    put_long(room, text_words::rest(given), out, at)
 }
 
 fn put_long(room: usize, given: &[u8], out: &mut Out, at: usize) -> usize {
@@ -75,7 +75,7 @@ fn fill(given: &[u8], row: &mut [i64]) -> Byte {
         return Byte::Bad;
     };
     let mut bytes = [0u8; 400];
-    let Count::Is(n) = numerals::hex(message_of(given), &mut bytes) else {
+    let Count::Is(n) = text_numerals::hex(message_of(given), &mut bytes) else {
         return Byte::Bad;
     };
     Byte::Is(number_of(&bytes, n, a, row))
@@ -83,28 +83,28 @@ fn fill(given: &[u8], row: &mut [i64]) -> Byte {
 
 // The same of the message in the first `n` bytes.
 fn number_of(bytes: &Bytes, n: usize, a: Row, row: &mut [i64]) -> u8 {
-    let s = words::before(bytes, n);
-    rows::shift_row(s, a.component, a.north, a.east, a.step, a.count, row)
+    let s = text_words::before(bytes, n);
+    grid_rows::shift_row(s, a.component, a.north, a.east, a.step, a.count, row)
 }
 
 // The five words before the message.
 fn row_of(given: &[u8]) -> Asked {
-    let Byte::Is(component) = numerals::small(words::word(given)) else {
+    let Byte::Is(component) = text_numerals::small(text_words::word(given)) else {
         return Asked::Bad;
     };
-    let second = words::rest(given);
-    let Integer::Is(north) = numerals::whole(words::word(second)) else {
+    let second = text_words::rest(given);
+    let Integer::Is(north) = text_numerals::whole(text_words::word(second)) else {
         return Asked::Bad;
     };
-    let third = words::rest(second);
-    let Integer::Is(east) = numerals::whole(words::word(third)) else {
+    let third = text_words::rest(second);
+    let Integer::Is(east) = text_numerals::whole(text_words::word(third)) else {
         return Asked::Bad;
     };
-    let fourth = words::rest(third);
-    let Integer::Is(step) = numerals::whole(words::word(fourth)) else {
+    let fourth = text_words::rest(third);
+    let Integer::Is(step) = text_numerals::whole(text_words::word(fourth)) else {
         return Asked::Bad;
     };
-    let Count::Is(count) = numerals::natural(words::word(words::rest(fourth))) else {
+    let Count::Is(count) = text_numerals::natural(text_words::word(text_words::rest(fourth))) else {
         return Asked::Bad;
     };
     Asked::Is(Row {
@@ -118,6 +118,6 @@ fn row_of(given: &[u8]) -> Asked {
 
 // The word behind them.
 fn message_of(given: &[u8]) -> &[u8] {
-    let third = words::rest(words::rest(given));
-    words::rest(words::rest(words::rest(third)))
+    let third = text_words::rest(text_words::rest(given));
+    text_words::rest(text_words::rest(text_words::rest(third)))
 }

@@ -1,10 +1,10 @@
 // The position that a line asks for, and the three shifts that are printed.
-use grid::Answer;
-use grid::Shift;
-use grid::ThreeShifts;
-use lines::output;
-use lines::output::Out;
-use numerals::Integer;
+use grid_shifts::Answer;
+use grid_shifts::Shift;
+use grid_shifts::ThreeShifts;
+use text_lines::output;
+use text_lines::output::Out;
+use text_numerals::Integer;
 
 pub struct Place {
     pub north: i64,
@@ -18,10 +18,10 @@ pub enum Asked {
 
 // A position in words.
 pub fn place_of(north: &[u8], east: &[u8]) -> Asked {
-    let Integer::Is(n) = numerals::whole(north) else {
+    let Integer::Is(n) = text_numerals::whole(north) else {
         return Asked::Bad;
     };
-    let Integer::Is(e) = numerals::whole(east) else {
+    let Integer::Is(e) = text_numerals::whole(east) else {
         return Asked::Bad;
     };
     Asked::Is(Place { north: n, east: e })

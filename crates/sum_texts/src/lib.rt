@@ -1,6 +1,6 @@
 // A B: two sums that tell of every value of a buffer.
-use lines::output;
-use lines::output::Out;
+use text_lines::output;
+use text_lines::output::Out;
 
 // The sum of the values and the sum of its values so far, modulo 65521.
 struct Sums {

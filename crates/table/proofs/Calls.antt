@@ -12,13 +12,13 @@ use borrow.Author.Tests.{ltb-true, eq-eqb, ne-eqb, lt-ltb, le-ltb}
 use native.Mathlib.Decide.{decLt}
 use Rattle.arith.specs.First.{Test, first}
 use Rattle.arith.proofs.First.{passed, not-false}
-use Rattle.wire.specs.Message.{tests, refusal}
+use Rattle.message_rows.specs.Message.{tests, refusal}
 use Rattle.table.specs.declared.Found.{Found}
-use Rattle.slots.specs.Slots.{slots, most, slotSize, isOwner, key, keyOf, joined, slot}
+use Rattle.table_slots.specs.Slots.{slots, most, slotSize, isOwner, key, keyOf, joined, slot}
 use Rattle.table.specs.Table.{foundOf, place, holding, wellFormed, put, storePlace, storeRefusal, storeTable, keyPlace, findRefusal, foundAt, foundLength, removeTable}
-use Rattle.wire.proofs.Limits.{first-behind}
+use Rattle.message_rows.proofs.Limits.{first-behind}
 use Rattle.table.proofs.Whole.{formed}
-use Rattle.slots.proofs.Slot.{size-byte}
+use Rattle.table_slots.proofs.Slot.{size-byte}
 
 -- a test that refuses where b does not hold
 turned : (b : Bool) (n x : ℕ) → cond (not b) n x ≡ cond b x n

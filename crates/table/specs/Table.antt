@@ -7,8 +7,8 @@ use lib.ListN.{length, getD, take, drop}
 use lib.Dec.{ltb, leb, eqb}
 use Rattle.arith.specs.Places.{firstOf}
 use Rattle.arith.specs.First.{first}
-use Rattle.wire.specs.Message.{tests}
-use Rattle.slots.specs.Slots.{slots, slotSize, tableSize, most, isOwner, key, keyOf, joined, slot, ownerAt, wellSlot, tag, slotOf}
+use Rattle.message_rows.specs.Message.{tests}
+use Rattle.table_slots.specs.Slots.{slots, slotSize, tableSize, most, isOwner, key, keyOf, joined, slot, ownerAt, wellSlot, tag, slotOf}
 use Rattle.table.specs.declared.Found.{Found}
 
 -- ---- where a key stands, and the well-formed table

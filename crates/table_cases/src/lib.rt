@@ -1,8 +1,8 @@
 // The lines on the one table and its index that the program holds: those of `table_changes`, and `find`, `sum`, `agrees` and `indexsum`.
-use lines::output;
-use lines::output::Out;
 use table_changes::Change;
 use table_keys::Asked;
+use text_lines::output;
+use text_lines::output::Out;
 
 // `NAME table SIZE` and `NAME index SIZE`
 pub fn fresh(given: &[u8], held: &mut [u8], size: &mut usize, out: &mut Out, at: usize) -> usize {
@@ -18,7 +18,7 @@ pub fn answer(
     out: &mut Out,
     at: usize,
 ) -> usize {
-    let n = words::place(
+    let n = text_words::place(
         command,
         b"poke pokeindex rebuild store remove find sum indexsum agrees",
     );
@@ -52,7 +52,7 @@ fn agrees(given: &[u8], table: &[u8], index: &[u8], out: &mut Out, at: usize) ->
     if given.len() != 0 {
         return output::put(out, at, b'?');
     }
-    output::put_small(out, at, indexed_table::agrees(table, index))
+    output::put_small(out, at, table_indexed::agrees(table, index))
 }
 
 // `NAME find OWNER SIN GROUP`
@@ -73,7 +73,7 @@ fn put_found(
     out: &mut Out,
     at: usize,
 ) -> usize {
-    let f = indexed_table::find(table, index, owner, sin, group);
+    let f = table_indexed::find(table, index, owner, sin, group);
     let to = output::put_field(out, at, f.refusal as u64);
     let to = output::put_field(out, to, f.at as u64);
     let to = output::put_field(out, to, f.length as u64);
@@ -81,7 +81,7 @@ fn put_found(
     output::put_hex(
         out,
         to,
-        indexed_table::shown(table, index, owner, sin, group),
+        table_indexed::shown(table, index, owner, sin, group),
     )
 }
 

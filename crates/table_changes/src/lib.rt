@@ -1,8 +1,8 @@
 // The lines that change the one table or its index that the program holds: `table`, `index`, `poke`, `pokeindex`, `rebuild`, `store` and `remove`.
-use numerals::Byte;
-use numerals::Bytes;
-use numerals::Count;
 use table_keys::Asked;
+use text_numerals::Byte;
+use text_numerals::Bytes;
+use text_numerals::Count;
 
 // What a line that changes the table answers.
 pub enum Change {
@@ -13,7 +13,7 @@ pub enum Change {
 
 // `NAME table SIZE` and `NAME index SIZE`: SIZE zero bytes, the first of those held.
 pub fn renew(given: &[u8], held: &mut [u8], size: &mut usize) -> Change {
-    let Count::Is(n) = numerals::natural(given) else {
+    let Count::Is(n) = text_numerals::natural(given) else {
         return Change::Bad;
     };
     if held.len() < n {
@@ -48,15 +48,15 @@ fn rebuild(given: &[u8], table: &[u8], index: &mut [u8]) -> Change {
     if given.len() != 0 {
         return Change::Bad;
     }
-    Change::Refusal(indexed_table::write_index(table, index))
+    Change::Refusal(table_indexed::write_index(table, index))
 }
 
 // `NAME poke AT VALUE` and `NAME pokeindex AT VALUE`: one byte of the table, or of the index.
 fn poke(given: &[u8], bytes: &mut [u8]) -> Change {
-    let Count::Is(k) = numerals::natural(words::word(given)) else {
+    let Count::Is(k) = text_numerals::natural(text_words::word(given)) else {
         return Change::Bad;
     };
-    let Byte::Is(b) = numerals::small(words::rest(given)) else {
+    let Byte::Is(b) = text_numerals::small(text_words::rest(given)) else {
         return Change::Bad;
     };
     if bytes.len() <= k {
@@ -68,11 +68,11 @@ fn poke(given: &[u8], bytes: &mut [u8]) -> Change {
 
 // `NAME store OWNER HEX`
 fn store(given: &[u8], table: &mut [u8], index: &mut [u8]) -> Change {
-    let Byte::Is(owner) = numerals::small(words::word(given)) else {
+    let Byte::Is(owner) = text_numerals::small(text_words::word(given)) else {
         return Change::Bad;
     };
     let mut bytes = [0u8; 400];
-    let Count::Is(n) = numerals::hex(words::rest(given), &mut bytes) else {
+    let Count::Is(n) = text_numerals::hex(text_words::rest(given), &mut bytes) else {
         return Change::Bad;
     };
     Change::Refusal(store_first(&bytes, n, owner, table, index))
@@ -80,7 +80,7 @@ fn store(given: &[u8], table: &mut [u8], index: &mut [u8]) -> Change {
 
 // What storing the first `n` bytes answers.
 fn store_first(bytes: &Bytes, n: usize, owner: u8, table: &mut [u8], index: &mut [u8]) -> u8 {
-    indexed_table::store(table, index, owner, words::before(bytes, n))
+    table_indexed::store(table, index, owner, text_words::before(bytes, n))
 }
 
 // `NAME remove OWNER SIN GROUP`
@@ -88,5 +88,5 @@ fn remove(given: &[u8], table: &mut [u8], index: &mut [u8]) -> Change {
     let Asked::Is(key) = table_keys::key_of(given) else {
         return Change::Bad;
     };
-    Change::Refusal(indexed_table::remove(table, index, key.owner, key.sin, key.group))
+    Change::Refusal(table_indexed::remove(table, index, key.owner, key.sin, key.group))
 }

@@ -1,12 +1,12 @@
 // The parts of a 1021 and of a 1022, by the DF numbers of their fields.
-use lines::output;
-use lines::output::Out;
-use transformation_records::Area;
-use transformation_records::Ellipsoids;
-use transformation_records::Name;
-use transformation_records::Parameters;
-use transformation_records::Point;
-use transformation_records::System;
+use record_transformations::Area;
+use record_transformations::Ellipsoids;
+use record_transformations::Name;
+use record_transformations::Parameters;
+use record_transformations::Point;
+use record_transformations::System;
+use text_lines::output;
+use text_lines::output::Out;
 
 // A name: its length and its characters in use.
 fn put_name(length: &[u8], chars: &[u8], r: Name, out: &mut Out, at: usize) -> usize {
@@ -15,7 +15,7 @@ fn put_name(length: &[u8], chars: &[u8], r: Name, out: &mut Out, at: usize) -> u
     let to = output::put_all(out, at, length);
     let to = output::put_count(out, to, n);
     let to = output::put_all(out, to, chars);
-    output::put_hex(out, to, words::before(&c, n))
+    output::put_hex(out, to, text_words::before(&c, n))
 }
 
 // The number of the message and both names.

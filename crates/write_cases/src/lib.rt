@@ -1,25 +1,25 @@
 // `NAME write ROOM PRESENT V1 .. Vn`: a row written into ROOM bytes of a5. The presence bytes and the values may differ in number.
-use lines::output;
-use lines::output::Out;
-use numerals::Bytes;
-use numerals::Count;
-use numerals::Numbers;
+use text_lines::output;
+use text_lines::output::Out;
+use text_numerals::Bytes;
+use text_numerals::Count;
+use text_numerals::Numbers;
 
 pub fn answer(given: &[u8], out: &mut Out, at: usize) -> usize {
-    let Count::Is(room) = numerals::natural(words::word(given)) else {
+    let Count::Is(room) = text_numerals::natural(text_words::word(given)) else {
         return output::put(out, at, b'?');
     };
-    put_row(room, words::rest(given), out, at)
+    put_row(room, text_words::rest(given), out, at)
 }
 
 // The row that is given, written into `room` bytes.
 fn put_row(room: usize, given: &[u8], out: &mut Out, at: usize) -> usize {
     let mut bytes = [0u8; 400];
-    let Count::Is(n) = numerals::hex(words::word(given), &mut bytes) else {
+    let Count::Is(n) = text_numerals::hex(text_words::word(given), &mut bytes) else {
         return output::put(out, at, b'?');
     };
     let mut numbers = [0i64; 100];
-    let Count::Is(m) = numerals::row(words::rest(given), &mut numbers) else {
+    let Count::Is(m) = text_numerals::row(text_words::rest(given), &mut numbers) else {
         return output::put(out, at, b'?');
     };
     put_places(room, &numbers, m, &bytes, n, out, at)
@@ -40,8 +40,8 @@ fn put_places(
     }
     let mut buffer = [0xa5u8; 160];
     put_written(
-        numerals::first(numbers, m),
-        words::before(bytes, n),
+        text_numerals::first(numbers, m),
+        text_words::before(bytes, n),
         &mut buffer[0..room],
         out,
         at,
@@ -56,6 +56,6 @@ fn put_written(
     out: &mut Out,
     at: usize,
 ) -> usize {
-    let w = wire_writer::write_row(values, present, buffer);
+    let w = message_rows::write_row(values, present, buffer);
     output::put_written(out, at, w.refusal, w.length, buffer)
 }

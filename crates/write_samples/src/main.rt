@@ -3,14 +3,14 @@
 // refusal number, or, where a line is no such line, `bad input: line` and its number from 1.
 use libc::STDERR_FILENO;
 use libc::STDOUT_FILENO;
-use lines::input;
-use lines::input::Chunk;
-use lines::input::Line;
-use lines::input::Place;
-use numerals::Bytes;
-use numerals::Count;
 use sample_texts::Components;
 use sample_texts::Positions;
+use text_lines::input;
+use text_lines::input::Chunk;
+use text_lines::input::Line;
+use text_lines::input::Place;
+use text_numerals::Bytes;
+use text_numerals::Count;
 
 // 3 bytes, 127 of an accepted message and 28,000 of points.
 type Out = [u8; 28130];
@@ -51,11 +51,11 @@ fn answer(
     out: &mut Out,
 ) {
     let got = input::read_line(chunk, line, input::start());
-    let Count::Is(n) = numerals::hex(words::before(line, got.length), bytes) else {
+    let Count::Is(n) = text_numerals::hex(text_words::before(line, got.length), bytes) else {
         bad_input(1);
         return;
     };
-    let message = words::before(bytes, n);
+    let message = text_words::before(bytes, n);
     let mut count: usize = 0;
     let mut later: u8 = 0;
     let bad = read_points(
@@ -143,9 +143,9 @@ fn only_empty(chunk: &mut Chunk, line: &mut Line, first: Place) -> bool {
 // The bytes of a line, none of one that is too long to be held.
 fn text_of(line: &Line, length: usize) -> &[u8] {
     if 900 < length {
-        return words::before(line, 0);
+        return text_words::before(line, 0);
     }
-    words::before(line, length)
+    text_words::before(line, length)
 }
 
 // The file, or the refusal.
@@ -160,13 +160,13 @@ fn write(
 ) {
     let w = sample_writer::write_samples(
         message,
-        words::before(components, n),
-        numerals::first(north, n),
-        numerals::first(east, n),
+        text_words::before(components, n),
+        text_numerals::first(north, n),
+        text_numerals::first(east, n),
         out,
     );
     if w.refusal == 0 {
-        io::write_all(STDOUT_FILENO, words::before(out, w.length));
+        io::write_all(STDOUT_FILENO, text_words::before(out, w.length));
         return;
     }
     refused(refusal_of(w.refusal, later));

@@ -1,11 +1,11 @@
--- `capi::tarnoklej_shifts_at` meets its contract: floats, counts and refusals of `grid::shifts_at`.
+-- `capi::tarnoklej_shifts_at` meets its contract: floats, counts and refusals of `grid_shifts::shifts_at`.
 -- Assumes nothing.
 use mathlib.Core.Path.{_≡_, ap, _∙_}
 use borrow.Author.Needs.{needs}
 use Rattle.arith.proofs.Back.{held}
 use Rattle.arith.proofs.Machine.{is-back}
-use Rattle.grid.specs.Shift.{messageShifts}
-use Rattle.grid.specs.declared.ThreeShifts.{ThreeShifts}
+use Rattle.grid_shifts.specs.Shift.{messageShifts}
+use Rattle.grid_shifts.specs.declared.ThreeShifts.{ThreeShifts}
 use Rattle.capi.specs.Exported.{exported, exportedShifts}
 use Rattle.capi.proofs.tarnoklej_shifts_at.Statement.{statement}
 use Rattle.capi.proofs.tarnoklej_shifts_at.Tie as tie

@@ -15,10 +15,10 @@ use Rattle.arith.proofs.Machine.{is-back}
 use Rattle.field.specs.declared.Reading.{Reading}
 use Rattle.field.specs.declared.Reading.the-variants.{Value}
 use Rattle.layout.specs.Layout.{valueIn}
-use Rattle.transformation_records.specs.declared.Parameters.{Parameters}
-use Rattle.seven_parameters.specs.declared.Values.{Values}
-use Rattle.seven_parameters.specs.Formula.{formulaTests, Answered}
-use Rattle.seven_parameters.proofs.Refusals.{refuses, numbered}
+use Rattle.record_transformations.specs.declared.Parameters.{Parameters}
+use Rattle.datum_formula.specs.declared.Values.{Values}
+use Rattle.datum_formula.specs.Formula.{formulaTests, Answered}
+use Rattle.datum_formula.proofs.Refusals.{refuses, numbered}
 use Rattle.datum.specs.Step.{lacks, valuesIn}
 use Rattle.datum.proofs.by_values.Statement.{statement}
 use Rattle.datum.proofs.by_values.Tie as tie

@@ -12,10 +12,10 @@ use mir.Syntax.{w64}
 use mir.Val.{toZ, ofZ}
 use Rattle.arith.specs.First.{first}
 use Rattle.arith.proofs.Back.{held}
-use Rattle.wire.specs.Message.{kindWriteRefusal}
-use Rattle.height_mean.specs.Means.{smallestMean}
-use Rattle.height_mean.specs.declared.Mean.the-variants.{Found, Missing}
-use Rattle.height_mean.proofs.Choice.{smallest}
+use Rattle.message_rows.specs.Message.{kindWriteRefusal}
+use Rattle.heights_mean.specs.Means.{smallestMean}
+use Rattle.heights_mean.specs.declared.Mean.the-variants.{Found, Missing}
+use Rattle.heights_mean.proofs.Choice.{smallest}
 use Rattle.heights.specs.Heights.{heightValues, heightPresent, recordTests, heightsRefusal, heightsMessage}
 use Rattle.heights.proofs.Calls.{refused, values-out, present-out, wanted-out, record-out, mean-out, written-out, message-is}
 use Rattle.heights.proofs.write_heights.Statement.{statement}

@@ -10,8 +10,8 @@ use lib.ListN.{length, getD, take}
 use Rattle.arith.proofs.Back.{held}
 use Rattle.sample_files.specs.File.{pointSize, pointField, pointFields}
 use Rattle.sample_writer.specs.Write.{sample}
-use Rattle.sample_refusals.specs.Refusals.{askedOf}
-use Rattle.sample_refusals.proofs.Points.{from, point}
+use Rattle.sample_writer.specs.Refusals.{askedOf}
+use Rattle.sample_writer.proofs.Asked.{from, point}
 use Rattle.sample_writer.proofs.Points.{size-put, turn-fields, end-fields}
 use Rattle.sample_writer.proofs.put_samples.Statement.{statement}
 use Rattle.sample_writer.proofs.put_samples.Tie as tie

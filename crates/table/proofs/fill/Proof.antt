@@ -7,8 +7,8 @@ use mathlib.Core.List.{_++_}
 use lib.ListN.{length, getD, drop, length-set}
 use Rattle.arith.specs.Row.{upTo}
 use Rattle.arith.proofs.Rows.{fill-turn, fill-done}
-use Rattle.slots.specs.Slots.{slotSize, slotOf}
-use Rattle.slots.proofs.Slot.{slot-bytes}
+use Rattle.table_slots.specs.Slots.{slotSize, slotOf}
+use Rattle.table_slots.proofs.Slot.{slot-bytes}
 use Rattle.table.proofs.fill.Statement.{statement}
 use Rattle.table.proofs.fill.Tie as tie
 

@@ -1,0 +1,53 @@
+-- With thirteen keys the replies differ: by computation on the dictionaries, which reply as the table does.
+-- Assumes nothing.
+use Prim.Native.Nat.{ℕ}
+use mathlib.Core.Bool.{true}
+use mathlib.Core.List.{List, [], _∷_}
+use mathlib.Core.Path.{_≡_, refl, sym, ap, _∙_}
+use native.Mathlib.Omega.{arith}
+use lib.ListN.{getD}
+use Rattle.field.specs.Field.{bitAt, field, twos, signedOf}
+use Rattle.layout.specs.Layout.{allTake, decodeAll, zeroFrom}
+use Rattle.layout.specs.Layout as layouts
+use Rattle.layout_tables.specs.Layouts.{layoutOf, layout1025}
+use Rattle.message_rows.specs.Message.{layout, refusal}
+use Rattle.table_slots.specs.Slots.{isOwner, keyOf}
+use Rattle.table_history.specs.History.{fresh, Call, callsOf}
+use Rattle.table_history.specs.Dict.{storedUnder, without, isNew, freeNumber, freeShown, changed, freeAfter, total, full, dictNumber, dictShown, changedFor, dictAfter, Reply, dictReplies}
+use Rattle.table_history.specs.Neighbour.{ofOwner, repliesTo, atMost, none}
+use Rattle.demands_tables.specs.Neighbours.{projection, stores, quiet, crowded, ThirteenFail}
+use Rattle.table_history.proofs.Replies.{same-replies}
+use Rattle.table_history.proofs.Neighbour.{fresh-same}
+
+answers : List Reply → List ℕ
+answers [] = []
+answers (r ∷ rs) = r .answer ∷ answers rs
+
+-- the thirteenth number that owner 1 is told, by the table and by the dictionaries
+last : List Call → ℕ
+last cs = getD (answers (ofOwner 1 cs (dictReplies none cs))) 12 0
+
+last-is : (cs : List Call) → getD (answers (repliesTo 1 fresh cs)) 12 0 ≡ last cs
+unfolding repliesTo last answers
+last-is cs = ap (λ (rs : List Reply). getD (answers (ofOwner 1 cs rs)) 12 0) (same-replies cs fresh none fresh-same)
+
+quiet-last : last quiet ≡ 0
+unfolding refusal layout layoutOf layout1025 layouts.total zeroFrom decodeAll allTake field bitAt twos signedOf keyOf storedUnder without isNew freeNumber freeShown changed freeAfter isOwner total full dictNumber dictShown changedFor dictAfter dictReplies ofOwner last answers quiet crowded stores projection
+quiet-last = refl
+
+crowded-last : last crowded ≡ 16
+unfolding refusal layout layoutOf layout1025 layouts.total zeroFrom decodeAll allTake field bitAt twos signedOf keyOf storedUnder without isNew freeNumber freeShown changed freeAfter isOwner total full dictNumber dictShown changedFor dictAfter dictReplies ofOwner last answers quiet crowded stores projection
+crowded-last = refl
+
+asked : atMost 13 [] (callsOf 1 quiet) ≡ true
+unfolding refusal layout layoutOf layout1025 layouts.total zeroFrom decodeAll allTake field bitAt twos signedOf keyOf storedUnder without isNew freeNumber freeShown changed freeAfter callsOf atMost quiet stores projection
+asked = refl
+
+pub thirteen-fail : ThirteenFail
+unfolding callsOf quiet crowded stores
+thirteen-fail =
+    record {
+      calls = refl;
+      asked = asked;
+      differ = λ e. (let z : _≡_ {A = ℕ} 0 16 = sym (last-is quiet ∙ quiet-last) ∙ ap (λ (rs : List Reply). getD (answers rs) 12 0) e ∙ last-is crowded ∙ crowded-last in omega arith);
+    }
