@@ -10,7 +10,8 @@ use lib.ListN.{length, getD, set, drop, replicate, length-append, List·getD-app
 use lib.Seq.{set-at, getD-at, drop-cons, ext-getD}
 use lib.IntN.{ℤ, pos}
 use mathlib.Core.Bool.{Bool, true}
-use Rattle.arith.specs.Row.{upTo, allBelow, at, padded}
+use Rattle.arith.specs.Row.{upTo, allBelow, at}
+use Rattle.arith.specs.Inner.{padded}
 
 module _ {A : Type 0} (f : ℕ → A) where
   pub length-upTo : (k : ℕ) → length (upTo f k) ≡ k

@@ -8,7 +8,7 @@ use native.Mathlib.Omega.{arith}
 use lib.IntN.{ℤ, pos}
 use lib.ListN.{length, take, drop, getD, set, replicate, length-append}
 use lib.Seq.{paste, paste-suc, take-paste, drop-paste, take-length, drop-drop}
-use Rattle.arith.specs.Row.{padded}
+use Rattle.arith.specs.Inner.{padded}
 use Rattle.arith.proofs.Rows.{drop-replicate}
 
 module _ {A : Type 0} (d : List A) (at : ℕ) (s : List A) where

@@ -2,3 +2,4 @@ pub mod Row
 pub mod Whole
 pub mod First
 pub mod Places
+pub mod Inner

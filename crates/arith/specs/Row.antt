@@ -1,9 +1,9 @@
 -- A list given by what stands at each place.
 -- Assumes nothing.
-use Prim.Native.Nat.{ℕ, zero, suc, _-_}
+use Prim.Native.Nat.{ℕ, zero, suc}
 use mathlib.Core.Bool.{Bool, true, _&&_}
 use mathlib.Core.List.{List, [], _∷_, _++_}
-use lib.ListN.{length, getD, replicate}
+use lib.ListN.{getD}
 use lib.IntN.{ℤ, pos}
 
 -- f 0, f 1, .. up to f (k - 1)
@@ -19,7 +19,3 @@ allBelow f (suc k) = allBelow f k && f k
 -- number k of a row, 0 behind its end
 abbrev pub at : List ℤ → ℕ → ℤ
 at v k = getD v k (pos 0)
-
--- a row, and zeros up to 96 numbers: no message has more
-unfoldable pub padded : List ℤ → List ℤ
-padded v = v ++ replicate (96 - length v) (pos 0)

@@ -9,6 +9,7 @@ use lib.IntN.{ℤ, pos, natAbs, _+ℤ_, _-ℤ_, _*ℤ_}
 use Rattle.arith.specs.First.{Test}
 use Rattle.datum_formula.specs.declared.Values.{Values}
 use Rattle.datum_formula.specs.declared.Position.{Position}
+use Rattle.datum_formula.specs.Private.{rotated}
 
 -- ---- the exact target, a fraction of whole numbers over 10^35
 

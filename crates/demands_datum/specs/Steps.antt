@@ -19,6 +19,7 @@ use Rattle.message_records.specs.Kinds.{readHelmert}
 use Rattle.datum_formula.specs.declared.Values.{Values}
 use Rattle.datum_formula.specs.declared.Position.{Position}
 use Rattle.datum.specs.Step.{absent}
+use Rattle.demands_datum.specs.Worked.{near}
 
 -- ---- formula 3.5-1: M times the matrix times the position, plus the translation
 

@@ -37,6 +37,7 @@ NeedNotEarlier =
     (s more : List ℕ) (from u : ℕ) → findFrame s from ≡ need u → (findFrame (s ++ more) from .refusal ≡ 20 → ⊥) → u ≤ findFrame (s ++ more) from .at
 
 -- ---- "the first place at or after it where a whole frame with a right CRC stands, with its message's length, unless an earlier D3 with six zero
+
 -- bits calls for bytes that have not arrived; then, and where no such frame stands, it names the first such D3"
 
 -- neither stands at place i

@@ -17,7 +17,8 @@ use Rattle.arith.proofs.First.{passed, passes}
 use Rattle.field.specs.Field.{signedOf, twos}
 use Rattle.field.specs.declared.Reading.{Reading}
 use Rattle.field.specs.declared.Reading.the-variants.{Value, Absent}
-use Rattle.layout.specs.Layout.{width, signed, limit, takes, readingIn, placeTakes, rowTakes, rowOf, encodeRefusal}
+use Rattle.layout.specs.Layout.{width, signed, limit, takes, readingIn, placeTakes, rowTakes, rowOf}
+use Rattle.layout.specs.Inner.{encodeRefusal}
 use Rattle.layout.proofs.Round.{unsigned-value}
 use Rattle.layout_writer.proofs.Answer.{write-range}
 use Rattle.layout_tables.specs.Layouts.{known}

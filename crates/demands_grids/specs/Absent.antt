@@ -1,6 +1,6 @@
 -- "Not available is not a number" (request A5), as statements.
 -- Assumes nothing.
-use Prim.Native.Nat.{ℕ, _+_, _-_, _*_, _/_, _^_, _<_}
+use Prim.Native.Nat.{ℕ, _/_, _^_, _<_}
 use mathlib.Core.Path.{_≡_}
 use mathlib.Core.Bool.{true, false}
 use mathlib.Core.List.{List}
@@ -17,7 +17,7 @@ use Rattle.record_projections.specs.Projections.{projectionOf, lambertOf, obliq
 use Rattle.message_rows.specs.Message.{refusal, row, layout, rowLayout, writeRefusal}
 use Rattle.message_records.specs.Kinds.{readHelmert, readMolodenskiBadekas, readGrid, readProjection, readLambert, readObliqueMercator}
 use Rattle.record_rows.specs.Numbers.{says}
-use Rattle.grid_bilinear.specs.Bilinear.{lacks, absent}
+use Rattle.grid_bilinear.specs.Bilinear.{absent}
 use Rattle.grid_shifts.specs.Shift.{northOf, eastOf}
 use Rattle.demands_grids.specs.Grids.{AnsweredAt, gridAt, surfaceAt}
 

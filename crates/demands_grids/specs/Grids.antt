@@ -15,8 +15,7 @@ use Rattle.record_grids.specs.declared.Shifts.{Shifts}
 use Rattle.record_grids.specs.Grids.{gridOf, gridRow, frameOf}
 use Rattle.record_rows.specs.Numbers.{says, valuesOf, presentOf}
 use Rattle.layout.specs.Layout.{valueIn}
-use Rattle.message_rows.specs.Message.{numberOf, refusal, row}
-use Rattle.message_rows.specs.Message.{kindWriteRefusal}
+use Rattle.message_rows.specs.Message.{numberOf, refusal, row, kindWriteRefusal}
 use Rattle.message_records.specs.Kinds.{readGrid, gridHeld}
 use Rattle.grid_bilinear.specs.Bilinear.{Surface, gap, fromEdge, outside, cell, exact, LipschitzBound}
 use Rattle.grid_shifts.specs.Shift.{nodeOf, surface, northOf, eastOf, inCellShift, recordShift, messageShift, messageShifts}

@@ -13,13 +13,13 @@ use Rattle.table_history.specs.History.{fresh, Ask, Call, callsOf, lastOf}
 use Rattle.table_history.specs.Dict.{entries, total, dictReplies}
 use Rattle.table_history.specs.Neighbour.{ofOwner, atMost, keptAfter, none, noKeyTwice}
 use Rattle.table_index_search.specs.Index.{keyAt, slotAt}
-use Rattle.table_index_search.specs.Index as index
 use Rattle.table_index_search.specs.Search.{searched}
 use Rattle.table_index_search.specs.Means.{markIn, Agrees}
 use Rattle.table_indexed.specs.Indexed.{entryKey, slotKey, slotKeys, agreesRefusal, writeRefusal, writeIndex}
 use Rattle.table_indexed.specs.Find.{findNumber, foundBy, part, partAt, partLength}
 use Rattle.table_index_history.specs.Named.{named, entriesAt}
 use Rattle.table_index_history.specs.Calls.{freshIndex, Both, number, after, afterAll, replies, logOf, byteCalls}
+use Rattle.table_index_search.specs.Index as index
 
 -- table and index agree
 abbrev pub Agreed : Both → Type 0

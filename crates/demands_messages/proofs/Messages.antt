@@ -15,7 +15,8 @@ use Rattle.field.specs.declared.Reading.{Reading}
 use Rattle.field.specs.declared.Reading.the-variants.{Value}
 use Rattle.record_rows.specs.Numbers.{says, valuesOf, presentOf}
 use Rattle.field.specs.Field.{field}
-use Rattle.layout.specs.Layout.{uint, total, size, zeroFrom, allTake, decodeAll, refusalOf, answered}
+use Rattle.layout.specs.Layout.{uint, total, size, zeroFrom, allTake, decodeAll, answered}
+use Rattle.layout.specs.Inner.{refusalOf}
 use Rattle.layout.proofs.Round.{accepted, refused-none, value-at}
 use Rattle.layout.proofs.Answer.{fill-set, out-of-range}
 use Rattle.record_transformations.specs.Transformations.{goodName, helmertOf, helmertRow, molodenskiBadekasOf, molodenskiBadekasRow}

@@ -21,8 +21,7 @@ use Rattle.record_projections.specs.declared.ObliqueMercator.{ObliqueMercator}
 use Rattle.record_transformations.specs.Transformations.{goodName, helmertRow, molodenskiBadekasRow}
 use Rattle.record_grids.specs.Grids.{gridRow}
 use Rattle.record_projections.specs.Projections.{projectionRow, lambertRow, obliqueMercatorRow}
-use Rattle.message_rows.specs.Message.{numberOf, sourceCount, targetCount, sinOf, layout, refusal, row, rowLayout, writeRefusal, message}
-use Rattle.message_rows.specs.Message.{kindWriteRefusal}
+use Rattle.message_rows.specs.Message.{numberOf, sourceCount, targetCount, sinOf, layout, refusal, row, rowLayout, writeRefusal, message, kindWriteRefusal}
 use Rattle.message_records.specs.Kinds.{readHelmert, readMolodenskiBadekas, readGrid, readProjection, readLambert, readObliqueMercator}
 
 -- a list of bytes

@@ -12,7 +12,7 @@ use Rattle.report_update.specs.declared.Tally.{Tally}
 use Rattle.report_update.specs.Numbers.{below, above, tallyOf, pointsIn}
 use Rattle.report_tally.specs.Next.{nextOf}
 use Rattle.report_points.specs.declared.Point.{Point}
-use Rattle.report_points.specs.Reports.{outcomes, reportOf, pointsOf, listsReport}
+use Rattle.report_points.specs.Reports.{reportOf, pointsOf, listsReport}
 
 -- ---- "A running tally record .. updated point by point, from all zeros and with one message and component"
 

@@ -11,7 +11,8 @@ use lib.Seq.{take-all}
 use borrow.Author.Tests.{lt-ltb, le-ltb, le-leb, lt-leb, ltb-true}
 use Rattle.arith.proofs.Places.{turn-hit, turn-on, turn-end, From, from}
 use Rattle.arith.proofs.Tests.{both-first, both-second}
-use Rattle.frame.specs.Frames.{candidate, lengthOf, rightCrc, unfinished, whole, standsAt, firstPlace, found, need, noFrame, answerOf, findFrame, frameAt}
+use Rattle.frame.specs.Frames.{candidate, lengthOf, rightCrc, unfinished, whole, standsAt, firstPlace, found, need, noFrame, answerOf, findFrame}
+use Rattle.frame.specs.Private.{frameAt}
 
 -- ---- the branches at one place
 

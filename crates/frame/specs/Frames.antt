@@ -76,7 +76,3 @@ answerOf s u f = cond (ltb u f) (need u) (cond (ltb f (length s)) (found f (leng
 
 unfoldable pub findFrame : List ℕ → ℕ → Frame
 findFrame s from = answerOf s (firstPlace unfinished s from) (firstPlace whole s from)
-
--- what the code finds at one place
-unfoldable pub frameAt : List ℕ → ℕ → Frame
-frameAt t at = cond (unfinished t) (need at) (cond (whole t) (found at (lengthOf t)) noFrame)

@@ -2,7 +2,8 @@
 ghost use mathlib.Core.Path.{_≡_};
 ghost use Prim.Native.Nat.{_+_, _≤_};
 ghost use lib.ListN.{length, getD};
-ghost use Rattle.frame.specs.Frames.{candidate, lengthOf, threeAt, rightCrc, found, need, noFrame, frameAt, findFrame};
+ghost use Rattle.frame.specs.Frames.{candidate, lengthOf, threeAt, rightCrc, found, need, noFrame, findFrame};
+ghost use Rattle.frame.specs.Private.{frameAt};
 
 // Refusal numbers.
 const NEED: u8 = 19;

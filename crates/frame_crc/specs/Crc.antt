@@ -5,7 +5,6 @@ use mathlib.Core.Bool.{cond}
 use mathlib.Core.List.{List, [], _∷_}
 use lib.Dec.{ltb}
 use lib.Bits.{bitXor}
-use Rattle.arith.specs.Row.{upTo}
 
 -- the polynomial, a bit for each coefficient from that of x^24 down
 abbrev pub polynomial : ℕ
@@ -35,10 +34,3 @@ crcFrom c (x ∷ s) = crcFrom (crcByte c x) s
 -- the division starts at 0
 unfoldable pub crc : List ℕ → ℕ
 crc s = crcFrom 0 s
-
--- the table by which the code goes: what each four bits leave of the division from 0, 16 numbers for each of the eight places in 32 bits
-unfoldable pub part : ℕ → ℕ
-part j = crcBits 32 0 (j % 16 * 2 ^ (4 * (j / 16)))
-
-unfoldable pub parts : List ℕ
-parts = upTo part 128

@@ -3,7 +3,7 @@ ghost use Prim.Native.Nat.{_+_, _≤_};
 ghost use mathlib.Core.Path.{_≡_};
 ghost use mathlib.Core.List.{_++_};
 ghost use lib.ListN.{length, take, drop};
-ghost use Rattle.frame_search.specs.Search.{stepOf, kept, slid};
+ghost use Rattle.frame_search.specs.Inner.{stepOf, kept, slid};
 
 // What is found at a place, or nothing; the search goes on from `next`, and with `more` where it needs bytes that are not there.
 pub struct Step {

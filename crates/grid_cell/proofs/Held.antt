@@ -11,8 +11,8 @@ use lib.Signed.{_≤ℤ_, _<ℤ_}
 use Rattle.arith.proofs.Int.{at, nat, _⊟_, known, known-lt, abs-parts, abs-within}
 use Rattle.arith.proofs.Tests.{both-first, both-second}
 use Rattle.grid_bilinear.specs.Bilinear.{nearestWhole, weighted}
-use Rattle.grid_direction.specs.Direction.{greatestSpacing}
-use Rattle.grid_cell.specs.Cell.{weightsOf, weightsIn, areaOf, sumBy, sumOf, spaced, placeHeld, nodesHeld, sumHeld, sumIn, weightsHeld, inBounds, countBy}
+use Rattle.grid_direction.specs.Inner.{greatestSpacing}
+use Rattle.grid_cell.specs.Inner.{weightsOf, weightsIn, areaOf, sumBy, sumOf, spaced, placeHeld, nodesHeld, sumHeld, sumIn, weightsHeld, inBounds, countBy}
 use Rattle.grid_cell.specs.Private.{Within, Weighed, Most}
 use Rattle.grid_cell.specs.declared.Corners.{Corners}
 use Rattle.grid_cell.specs.declared.Weights.{Weights}

@@ -11,7 +11,7 @@ use mir.Syntax.{w64}
 use mir.Val.{Fits}
 use Rattle.grid_bilinear.specs.Bilinear.{nearestWhole}
 use Rattle.grid_bilinear.proofs.Bounds.{weighted-bound, nearest-bound}
-use Rattle.grid_cell.specs.Cell.{weightsOf, areaOf, sumBy, sumOf}
+use Rattle.grid_cell.specs.Inner.{weightsOf, areaOf, sumBy, sumOf}
 use Rattle.grid_cell.specs.Private.{Within, Weighed, Most, withSign}
 use Rattle.grid_cell.specs.declared.Corners.{Corners}
 use Rattle.grid_cell.specs.declared.Weights.{Weights}

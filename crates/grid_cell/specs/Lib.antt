@@ -1,2 +1,2 @@
-pub mod Cell
 pub mod Private
+pub mod Inner

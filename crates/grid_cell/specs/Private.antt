@@ -4,7 +4,7 @@ use Prim.Native.Nat.{ℕ, _≤_, _<_}
 use mathlib.Core.Bool.{cond}
 use lib.IntN.{ℤ, pos, negℤ, natAbs}
 use lib.Signed.{ltZ}
-use Rattle.grid_cell.specs.Cell.{areaOf}
+use Rattle.grid_cell.specs.Inner.{areaOf}
 use Rattle.grid_cell.specs.declared.Corners.{Corners}
 use Rattle.grid_cell.specs.declared.Weights.{Weights}
 

@@ -5,7 +5,7 @@ ghost use Prim.Native.Nat.{_+_, _*_, _/_, _≤_, _<_};
 ghost use lib.Dec.{leb};
 ghost use lib.IntN.{pos, natAbs, _+ℤ_};
 ghost use Rattle.grid_bilinear.specs.Bilinear.{nearestWhole};
-ghost use Rattle.grid_cell.specs.Cell.{weightsOf, weightsIn, areaOf, weightedBy, sumBy, sumOf, placeHeld, nodesHeld, sumHeld, sumIn, weightsHeld, countBy};
+ghost use Rattle.grid_cell.specs.Inner.{weightsOf, weightsIn, areaOf, weightedBy, sumBy, sumOf, placeHeld, nodesHeld, sumHeld, sumIn, weightsHeld, countBy};
 ghost use Rattle.grid_cell.specs.Private.{Within, Weighed, Most, withSign};
 
 // The raw nodes of a cell.

@@ -13,17 +13,18 @@ use Rattle.layout.specs.Layout.{valueIn}
 use Rattle.record_rows.specs.Numbers.{says}
 use Rattle.record_grids.specs.declared.Frame.{Frame}
 use Rattle.record_grids.specs.declared.Grid.{Grid}
-use Rattle.record_grids.specs.Grids.{gridOf, frameOf, frameAt}
+use Rattle.record_grids.specs.Grids.{gridOf, frameOf}
+use Rattle.record_grids.specs.Inner.{frameAt}
 use Rattle.message_rows.specs.Message.{row, kindRefusal}
-use Rattle.grid_cell.specs.Cell.{weightsIn}
+use Rattle.grid_cell.specs.Inner.{weightsIn}
 use Rattle.grid_cell.specs.declared.Weights.{Weights}
-use Rattle.grid_fields.specs.Fields.{gridSays, meanSays}
-use Rattle.grid_fields.specs.NodeFields.{cellSays}
+use Rattle.grid_fields.specs.Inner.{gridSays, meanSays, cellSays}
 use Rattle.grid_fields.specs.declared.Nodes.{Nodes}
-use Rattle.grid_place.specs.Position.{located, heldPlace}
+use Rattle.grid_place.specs.Inner.{located, heldPlace}
 use Rattle.grid_place.specs.declared.Located.{Located}
 use Rattle.grid_place.proofs.Held.{held-place}
-use Rattle.grid_counts.specs.Counts.{valuesIn, lacking, countAt, refusedWith, cellCount}
+use Rattle.grid_counts.specs.Inner.{valuesIn, lacking, countAt, cellCount}
+use Rattle.grid_counts.specs.Counts.{refusedWith}
 use Rattle.grid_counts.specs.declared.Counted.{Counted}
 use Rattle.grid_shifts.specs.Shift.{outcome, shiftWith, messageShift}
 use Rattle.grid_shifts.specs.Private.{Held, cellShift, partShift}
@@ -31,7 +32,8 @@ use Rattle.grid_shifts.proofs.Accepted.{message-passed, message-fields}
 use Rattle.grid_shifts.proofs.Parts.{call-cell, call-part}
 use Rattle.grid_shifts.proofs.Said.{frame-said, mean-said, nodes-said}
 use Rattle.grid_shifts.proofs.Sides.{message-none-given}
-use Rattle.grid_component.specs.Part.{counted, keptOf, countedBy}
+use Rattle.grid_component.specs.Part.{counted}
+use Rattle.grid_component.specs.Inner.{keptOf, countedBy}
 
 -- a refusal
 counted-refused : (number : ℤ) (c r : ℕ) → (r ≡ 0 → ⊥) → refusedWith r ≡ counted (outcome number c r (pos 0))

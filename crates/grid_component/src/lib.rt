@@ -3,10 +3,11 @@ use grid_counts::Counted;
 use grid_fields::Nodes;
 use record_grids::Frame;
 ghost use mathlib.Core.Path.{_≡_};
-ghost use Rattle.grid_fields.specs.NodeFields.{cellSays};
+ghost use Rattle.grid_fields.specs.Inner.{cellSays};
 ghost use Rattle.grid_counts.specs.Counts.{refusedWith};
 ghost use Rattle.grid_shifts.specs.Shift.{messageShift};
-ghost use Rattle.grid_component.specs.Part.{counted, keptOf, countedBy};
+ghost use Rattle.grid_component.specs.Part.{counted};
+ghost use Rattle.grid_component.specs.Inner.{keptOf, countedBy};
 
 // What is kept of a message: why it is no grid message, or 0 with its fields besides the shifts.
 pub struct Kept {

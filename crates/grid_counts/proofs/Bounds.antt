@@ -11,13 +11,14 @@ use Rattle.arith.proofs.Int.{abs-add}
 use Rattle.field.specs.declared.Reading.{Reading}
 use Rattle.layout.specs.Layout.{valueIn}
 use Rattle.grid_bilinear.specs.Bilinear.{nearestWhole}
-use Rattle.grid_cell.specs.Cell.{areaOf, sumBy, weightsHeld, nodesHeld, inBounds, countBy}
+use Rattle.grid_cell.specs.Inner.{areaOf, sumBy, weightsHeld, nodesHeld, inBounds, countBy}
 use Rattle.grid_cell.specs.declared.Corners.{Corners}
 use Rattle.grid_cell.specs.declared.Weights.{Weights}
 use Rattle.grid_cell.proofs.Held.{four, most-of, weighed-of, count-none}
 use Rattle.grid_cell.proofs.Sum.{near-by-most}
 use Rattle.grid_fields.specs.declared.Nodes.{Nodes}
-use Rattle.grid_counts.specs.Counts.{nodeFactor, meanFactor, valuesIn, lacking, refusedWith, cellCount}
+use Rattle.grid_counts.specs.Counts.{nodeFactor, meanFactor, refusedWith}
+use Rattle.grid_counts.specs.Inner.{valuesIn, lacking, cellCount}
 
 module _ (mean : ℤ) (f : ℕ) (n : Corners) (k : Weights) where
   within-most : inBounds mean f n k ≡ true → natAbs (mean +ℤ nearestWhole (sumBy f k n) (areaOf k)) ≤ 10000000

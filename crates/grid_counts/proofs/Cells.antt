@@ -14,7 +14,8 @@ use Rattle.grid_bilinear.specs.Bilinear.{lacks}
 use Rattle.grid_cell.specs.declared.Corners.{Corners}
 use Rattle.grid_cell.specs.declared.Weights.{Weights}
 use Rattle.grid_fields.specs.declared.Nodes.{Nodes}
-use Rattle.grid_counts.specs.Counts.{valuesIn, lacking, countAt, refusedWith, cellCount}
+use Rattle.grid_counts.specs.Inner.{valuesIn, lacking, countAt, cellCount}
+use Rattle.grid_counts.specs.Counts.{refusedWith}
 use Rattle.grid_counts.specs.Private.{asked}
 use Rattle.grid_counts.specs.declared.Counted.{Counted}
 

@@ -6,7 +6,8 @@ use grid_fields::Nodes;
 ghost use mathlib.Core.Path.{_≡_};
 ghost use Rattle.grid_refusals.specs.Refusals.{available};
 ghost use Rattle.grid_bilinear.specs.Bilinear.{lacks};
-ghost use Rattle.grid_counts.specs.Counts.{nodeFactor, valuesIn, lacking, countAt, refusedWith, cellCount};
+ghost use Rattle.grid_counts.specs.Counts.{nodeFactor, refusedWith};
+ghost use Rattle.grid_counts.specs.Inner.{valuesIn, lacking, countAt, cellCount};
 ghost use Rattle.grid_counts.specs.Private.{asked};
 
 // A refusal number, or 0 with the shift in counts.

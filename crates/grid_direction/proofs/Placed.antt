@@ -10,7 +10,7 @@ use lib.IntN.{ℤ, pos, negsuc, natAbs, _+ℤ_}
 use lib.Signed.{ltZ, _<ℤ_}
 use Rattle.arith.proofs.Int.{at, nat, _⊞_, order-lt}
 use Rattle.grid_bilinear.specs.Bilinear.{fromEdge, outside, cell}
-use Rattle.grid_direction.specs.Direction.{greatestSpacing, alongOf}
+use Rattle.grid_direction.specs.Inner.{greatestSpacing, alongOf}
 use Rattle.grid_direction.specs.declared.Place.{Place}
 
 is-true : (t : Bool) → T t → t ≡ true

@@ -1,1 +1,1 @@
-pub mod Direction
+pub mod Inner

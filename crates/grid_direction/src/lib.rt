@@ -3,7 +3,7 @@ ghost use mathlib.Core.Path.{_≡_};
 ghost use Prim.Native.Nat.{_≤_, _<_};
 ghost use lib.IntN.{natAbs};
 ghost use Rattle.grid_bilinear.specs.Bilinear.{cell};
-ghost use Rattle.grid_direction.specs.Direction.{alongOf};
+ghost use Rattle.grid_direction.specs.Inner.{alongOf};
 
 // Where a position stands along one direction: OUTSIDE, or 0 with the steps from the southern or western edge and the cell, 0 to 2 from there.
 pub struct Place {

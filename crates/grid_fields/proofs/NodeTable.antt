@@ -11,7 +11,7 @@ use lib.ListN.{getD, take}
 use borrow.Author.Tests.{eqb-true}
 use Rattle.arith.specs.Row.{allBelow}
 use Rattle.arith.proofs.Tests.{both-first, both-second, all-at}
-use Rattle.field.specs.Field.{signedAt}
+use Rattle.field.specs.Inner.{signedAt}
 use Rattle.layout.specs.Layout.{int, total}
 use Rattle.layout_tables.specs.Layouts.{layout1023, layout1024}
 use Rattle.grid_fields.specs.Private.{fieldSays}

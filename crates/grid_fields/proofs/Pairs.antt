@@ -8,12 +8,12 @@ use mathlib.Core.List.{List}
 use lib.Dec.{eqb}
 use lib.ListN.{length}
 use borrow.Author.Tests.{lt-ltb, le-ltb}
-use Rattle.field.specs.Field.{field, fieldAt, signedAt, signedOf}
+use Rattle.field.specs.Field.{field, signedOf}
+use Rattle.field.specs.Inner.{fieldAt, signedAt}
 use Rattle.field.proofs.Bit.{field-part}
 use Rattle.field.proofs.Place.{field-inside}
-use Rattle.grid_fields.specs.Fields.{gridSays}
+use Rattle.grid_fields.specs.Inner.{gridSays, nodeSays, cellSays}
 use Rattle.grid_fields.proofs.Table.{grid-1023, grid-1024}
-use Rattle.grid_fields.specs.NodeFields.{nodeSays, cellSays}
 use Rattle.grid_fields.specs.Private.{firstBit, componentOf}
 use Rattle.grid_fields.proofs.NodeTable.{node-1023, node-1024}
 

@@ -1,3 +1,2 @@
-pub mod Fields
 pub mod Private
-pub mod NodeFields
+pub mod Inner

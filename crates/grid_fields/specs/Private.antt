@@ -3,7 +3,8 @@
 use Prim.Native.Nat.{ℕ, _/_, _%_}
 use mathlib.Core.List.{List}
 use lib.ListN.{getD, take}
-use Rattle.field.specs.Field.{fieldAt, signedOf}
+use Rattle.field.specs.Inner.{fieldAt}
+use Rattle.field.specs.Field.{signedOf}
 use Rattle.field.specs.declared.Reading.{Reading}
 use Rattle.layout.specs.Layout.{width, total, readingOf}
 use mathlib.Core.Bool.{cond}

@@ -13,7 +13,7 @@ use Rattle.arith.proofs.Tests.{false-ne-true, both-first, both-second}
 use Rattle.layout.specs.Layout.{valueIn}
 use Rattle.record_grids.specs.declared.Frame.{Frame}
 use Rattle.grid_refusals.specs.Refusals.{ellipsoidal, fieldTests}
-use Rattle.grid_place.specs.Position.{spacingHeld, frameHeld, noPlace, located, heldPlace, heldSides}
+use Rattle.grid_place.specs.Inner.{spacingHeld, frameHeld, noPlace, located, heldPlace, heldSides}
 use Rattle.grid_place.specs.Private.{Fields}
 use Rattle.grid_place.specs.declared.Located.{Located}
 use Rattle.grid_place.specs.declared.Sides.{Sides}

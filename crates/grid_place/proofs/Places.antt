@@ -18,12 +18,12 @@ use Rattle.record_grids.specs.declared.Frame.{Frame}
 use Rattle.grid_refusals.specs.Refusals.{ellipsoidal, side, originAvailable, beyond, fieldTests}
 use Rattle.grid_bilinear.specs.Bilinear.{fromEdge, outside}
 use Rattle.grid_bilinear.proofs.Place.{steps-most, cell-le, cell-from, cell-upto}
-use Rattle.grid_direction.specs.Direction.{alongOf}
+use Rattle.grid_direction.specs.Inner.{alongOf}
 use Rattle.grid_cell.specs.Private.{Within}
 use Rattle.grid_direction.specs.declared.Place.{Place}
 use Rattle.grid_direction.proofs.Placed.{along-steps, along-cell}
 use Rattle.grid_place.specs.Position.{stepsOf}
-use Rattle.grid_place.specs.Position.{heightOf, widthOf, northFrom, eastFrom, placeTests, noPlace, placeOf, located}
+use Rattle.grid_place.specs.Inner.{heightOf, widthOf, northFrom, eastFrom, placeTests, noPlace, placeOf, located}
 use Rattle.grid_place.specs.Private.{Fields}
 use Rattle.grid_place.specs.declared.Located.{Located}
 

@@ -10,7 +10,8 @@ ghost use Rattle.arith.specs.First.{first};
 ghost use Rattle.arith.specs.Whole.{natural};
 ghost use Rattle.layout.specs.Layout.{valueIn};
 ghost use Rattle.grid_refusals.specs.Refusals.{ellipsoidal, fieldTests};
-ghost use Rattle.grid_place.specs.Position.{stepsOf, byTurns, eastBy, noPlace, placeOf, located, spacingHeld, frameHeld, heldPlace, sidesOf, heldSides};
+ghost use Rattle.grid_place.specs.Position.{stepsOf, byTurns, eastBy};
+ghost use Rattle.grid_place.specs.Inner.{noPlace, placeOf, located, spacingHeld, frameHeld, heldPlace, sidesOf, heldSides};
 ghost use Rattle.grid_place.specs.Private.{Fields};
 
 // A place in a grid: a refusal number, or 0 with its cell, the steps from the cell's southern and western edge, and the cell's height and width.

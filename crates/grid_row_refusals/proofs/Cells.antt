@@ -24,7 +24,8 @@ use Rattle.grid_refusals.specs.Refusals.{beyond, ellipsoidal, fieldTests}
 use Rattle.grid_bilinear.specs.Bilinear.{fromEdge, outside, cell}
 use Rattle.grid_bilinear.proofs.Place.{steps-are, steps-most, cell-le, cell-from, cell-upto}
 use Rattle.grid_cell.specs.Private.{Within}
-use Rattle.grid_place.specs.Position.{turn, halfTurn, byTurns, eastBy, stepsOf, heightOf, widthOf, northFrom, eastFrom, placeTests, located}
+use Rattle.grid_place.specs.Position.{turn, halfTurn, byTurns, eastBy, stepsOf}
+use Rattle.grid_place.specs.Inner.{heightOf, widthOf, northFrom, eastFrom, placeTests, located}
 use Rattle.grid_place.specs.declared.Located.{Located}
 use Rattle.grid_place.proofs.Antimeridian.{turnsOf, turned-same, turned-low, turned-only}
 use Rattle.grid_place.proofs.Places.{inside, spacings}

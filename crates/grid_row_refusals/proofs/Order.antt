@@ -16,9 +16,10 @@ use Rattle.arith.proofs.Tests.{all-at, false-ne-true}
 use Rattle.record_rows.specs.Numbers.{says}
 use Rattle.record_grids.specs.declared.Grid.{Grid}
 use Rattle.record_grids.specs.declared.Frame.{Frame}
-use Rattle.record_grids.specs.Grids.{gridOf, frameOf, frameAt}
+use Rattle.record_grids.specs.Grids.{gridOf, frameOf}
+use Rattle.record_grids.specs.Inner.{frameAt}
 use Rattle.message_rows.specs.Message.{tests, numberOf, row, kindRefusal}
-use Rattle.grid_fields.specs.Fields.{gridSays}
+use Rattle.grid_fields.specs.Inner.{gridSays}
 use Rattle.grid_refusals.specs.Refusals.{beyond}
 use Rattle.grid_shifts.specs.Shift.{messageShift}
 use Rattle.grid_shifts.proofs.Said.{frame-said}

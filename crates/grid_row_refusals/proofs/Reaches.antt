@@ -6,7 +6,7 @@ use native.Mathlib.Nat.{div-mul-le-self, mul-le-mul-right}
 use native.Mathlib.Omega.{arith}
 use borrow.Author.Tests.{le-ltb, eq-eqb, ne-eqb}
 use lib.Dec.{eqb·suc-zero}
-use Rattle.grid_row_refusals.specs.Row.{placesIn}
+use Rattle.grid_row_refusals.specs.Inner.{placesIn}
 
 pub record Reaches (left w x step n : ℕ) : Type 0 where
   pub some : 0 < n

@@ -14,13 +14,13 @@ use Rattle.layout.specs.Layout.{valueIn}
 use Rattle.record_rows.specs.Numbers.{says}
 use Rattle.record_grids.specs.declared.Frame.{Frame}
 use Rattle.record_grids.specs.declared.Grid.{Grid}
-use Rattle.record_grids.specs.Grids.{gridOf, frameOf, frameAt}
+use Rattle.record_grids.specs.Grids.{gridOf, frameOf}
+use Rattle.record_grids.specs.Inner.{frameAt}
 use Rattle.message_rows.specs.Message.{row, kindRefusal}
 use Rattle.grid_refusals.specs.Refusals.{beyond}
-use Rattle.grid_fields.specs.Fields.{gridSays, meanSays}
-use Rattle.grid_fields.specs.NodeFields.{cellSays}
+use Rattle.grid_fields.specs.Inner.{gridSays, meanSays, cellSays}
 use Rattle.grid_fields.specs.declared.Nodes.{Nodes}
-use Rattle.grid_place.specs.Position.{placeTests, located, heldPlace}
+use Rattle.grid_place.specs.Inner.{placeTests, located, heldPlace}
 use Rattle.grid_place.specs.declared.Located.{Located}
 use Rattle.grid_place.proofs.Held.{held-place}
 use Rattle.grid_place.proofs.Places.{located-refusal, within, in-grid}
@@ -28,7 +28,7 @@ use Rattle.grid_cell.specs.Private.{Within, Weighed}
 use Rattle.grid_cell.specs.declared.Weights.{Weights}
 use Rattle.grid_shifts.specs.Shift.{part, outcome, shiftWith, messageShift}
 use Rattle.grid_shifts.specs.declared.Shift.{Shift}
-use Rattle.grid_counts.specs.Counts.{valuesIn, countAt}
+use Rattle.grid_counts.specs.Inner.{valuesIn, countAt}
 use Rattle.grid_shifts.specs.Private.{Held, nodesIn, cellShift}
 use Rattle.grid_shifts.proofs.Parts.{Bounded, cell-outcome, refused-as, weightsAt, summed}
 use Rattle.grid_shifts.proofs.Accepted.{message-passed, message-fields}

@@ -9,14 +9,14 @@ use Rattle.arith.specs.First.{first}
 use Rattle.arith.specs.Row.{upTo}
 use Rattle.field.specs.declared.Reading.{Reading}
 use Rattle.record_grids.specs.declared.Frame.{Frame}
-use Rattle.record_grids.specs.Grids.{frameAt}
+use Rattle.record_grids.specs.Inner.{frameAt}
 use Rattle.message_rows.specs.Message.{kindRefusal}
-use Rattle.grid_cell.specs.Cell.{weightsOf}
-use Rattle.grid_fields.specs.Fields.{gridSays}
+use Rattle.grid_cell.specs.Inner.{weightsOf}
+use Rattle.grid_fields.specs.Inner.{gridSays}
 use Rattle.grid_fields.specs.declared.Nodes.{Nodes}
 use Rattle.grid_refusals.specs.Refusals.{beyond}
 use Rattle.grid_shifts.specs.Shift.{messageShift}
-use Rattle.grid_counts.specs.Counts.{lacking}
+use Rattle.grid_counts.specs.Inner.{lacking}
 use Rattle.grid_row_refusals.specs.Row.{eastAt, refusedTest}
 use Rattle.grid_row_refusals.specs.declared.Run.{Run}
 

@@ -1,6 +1,6 @@
 -- A row of shifts at equal steps east: request A6 of the change requests, whose words are quoted.
 -- Assumes nothing.
-use Prim.Native.Nat.{ℕ, _+_, _-_, _/_, min}
+use Prim.Native.Nat.{ℕ}
 use mathlib.Core.Bool.{Bool, not, cond, _&&_, _||_}
 use mathlib.Core.List.{List, [], _∷_, _++_}
 use lib.Dec.{eqb, leb, ltb}
@@ -50,7 +50,3 @@ shiftRowFilled s c n e step count buffer =
     cond (eqb (shiftRowRefusal s c n e step count (length buffer)) 0)
     (upTo (λ k. messageShift s c n (eastAt e step k) .count) count ++ drop count buffer)
     buffer
-
--- how many of `left` places stand in a cell of width w, the first x steps from its western edge, and each a step further
-unfoldable pub placesIn : (left w x step : ℕ) → ℕ
-placesIn left w x step = cond (ltb w x) 0 (cond (eqb step 0) left (min left ((w - x) / step + 1)))

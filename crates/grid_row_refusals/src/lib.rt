@@ -12,7 +12,8 @@ ghost use lib.Signed.{_≤ℤ_};
 ghost use Rattle.arith.specs.First.{first};
 ghost use Rattle.arith.specs.Row.{allBelow};
 ghost use Rattle.grid_cell.specs.Private.{Within};
-ghost use Rattle.grid_row_refusals.specs.Row.{eastAt, anyBeyond, misplaced, shiftRowRefusal, placesIn};
+ghost use Rattle.grid_row_refusals.specs.Row.{eastAt, anyBeyond, misplaced, shiftRowRefusal};
+ghost use Rattle.grid_row_refusals.specs.Inner.{placesIn};
 ghost use Rattle.grid_row_refusals.specs.Private.{lackingAt, Ready, Looked, firstRefused};
 
 // Places of a row that stand in one cell, or one place outside: the refusal of the first of them refused, and how many they are.

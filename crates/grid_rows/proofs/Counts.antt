@@ -12,13 +12,13 @@ use Rattle.arith.proofs.Rows.{upTo-same}
 use Rattle.layout.specs.Layout.{valueIn}
 use Rattle.record_grids.specs.declared.Frame.{Frame}
 use Rattle.grid_cell.specs.declared.Corners.{Corners}
-use Rattle.grid_fields.specs.Fields.{meanSays}
-use Rattle.grid_fields.specs.NodeFields.{cellSays}
-use Rattle.grid_place.specs.Position.{heldPlace}
+use Rattle.grid_fields.specs.Inner.{meanSays, cellSays}
+use Rattle.grid_place.specs.Inner.{heldPlace}
 use Rattle.grid_place.specs.declared.Located.{Located}
-use Rattle.grid_counts.specs.Counts.{nodeFactor, meanFactor, valuesIn}
+use Rattle.grid_counts.specs.Counts.{nodeFactor, meanFactor}
+use Rattle.grid_counts.specs.Inner.{valuesIn}
 use Rattle.grid_shifts.specs.Shift.{messageShift}
-use Rattle.grid_cell.specs.Cell.{countBy}
+use Rattle.grid_cell.specs.Inner.{countBy}
 use Rattle.grid_cell.specs.Private.{Within}
 use Rattle.grid_cell.proofs.Sum.{weighed}
 use Rattle.grid_shifts.proofs.Parts.{count-at, weightsAt, factor-most}
@@ -28,8 +28,7 @@ use Rattle.grid_row_refusals.proofs.Cells.{further}
 use Rattle.grid_row_refusals.proofs.Runs.{refused-there, in-cell, bounded, count-there}
 use Rattle.grid_row_refusals.proofs.Reaches.{in-run}
 use Rattle.grid_row_refusals.proofs.Rest.{twice, ready-rest}
-use Rattle.grid_rows.specs.Going.{Run, cellCounts}
-use Rattle.grid_rows.specs.Private.{Standing, Answered, countAt}
+use Rattle.grid_rows.specs.Private.{Run, cellCounts, Standing, Answered, countAt}
 
 -- what is asked of a run
 module _ {m : ℤ} {n : Corners} {p : Located} (b : Standing m n p) where

@@ -11,7 +11,7 @@ use Rattle.arith.proofs.Int.{Ex, at, nat, _⊞_, _⊟_, _⊠_, abs-within, abs-
 use Rattle.grid_bilinear.specs.Bilinear.{nearestWhole}
 use Rattle.grid_bilinear.proofs.Nearest.{nearest-only}
 use Rattle.grid_bilinear.proofs.Bounds.{nearest-bound}
-use Rattle.grid_rows.specs.Going.{numberOf}
+use Rattle.grid_rows.specs.Private.{numberOf}
 
 -- twice the distance of z from the number, times the area
 abbrev apart : ℕ → ℤ → ℕ → Ex → Ex

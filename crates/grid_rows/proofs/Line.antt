@@ -12,9 +12,9 @@ use Rattle.arith.proofs.Int.{ring, at, nat, _⊞_, _⊟_, _⊠_}
 use Rattle.grid_bilinear.specs.Bilinear.{nearestWhole, weighted}
 use Rattle.grid_bilinear.proofs.Line.{mix}
 use Rattle.grid_bilinear.proofs.Cells.{weighted-mix}
-use Rattle.grid_cell.specs.Cell.{sumOf}
+use Rattle.grid_cell.specs.Inner.{sumOf}
 use Rattle.grid_cell.specs.declared.Corners.{Corners}
-use Rattle.grid_rows.specs.Going.{Run, countsFrom, cellCounts}
+use Rattle.grid_rows.specs.Private.{Run, countsFrom, cellCounts}
 
 -- the sum at the western edge, and what it grows by with one step east
 base : (H W y : ℕ) (sw nw : ℤ) → ℤ

@@ -9,7 +9,7 @@ use lib.IntN.{ℤ, pos, negsuc, negℤ, natAbs, _+ℤ_, _-ℤ_, _*ℤ_}
 use lib.Signed.{ltZ, _≤ℤ_}
 use borrow.Author.Tests.{le-ltb}
 use Rattle.arith.proofs.Int.{ring, order, at, nat, _⊞_, _⊟_, _⊠_, abs-add, abs-neg, abs-parts, abs-within}
-use Rattle.grid_rows.specs.Going.{numberOf, Next, Split}
+use Rattle.grid_rows.specs.Private.{numberOf, Next, Split}
 use Rattle.grid_rows.specs.declared.going.Part.{Part}
 
 module _ (d : ℕ) (p by : Part) (w : ℤ) where

@@ -10,7 +10,7 @@ use Rattle.arith.specs.Row.{upTo}
 use Rattle.arith.proofs.Rows.{fill-turn, fill-done}
 use Rattle.arith.proofs.Int.{ring, at, nat, _⊞_, _⊠_}
 use Rattle.grid_bilinear.specs.Bilinear.{nearestWhole}
-use Rattle.grid_rows.specs.Going.{Goes, Next, numberOf, countsFrom}
+use Rattle.grid_rows.specs.Private.{Goes, Next, numberOf, countsFrom}
 use Rattle.grid_rows.specs.declared.going.Part.{Part}
 
 -- the sum that a part stands for

@@ -5,7 +5,7 @@ ghost use lib.IntN.{natAbs, _+ℤ_};
 ghost use lib.ListN.{length};
 ghost use Rattle.arith.specs.Row.{upTo};
 ghost use Rattle.grid_bilinear.specs.Bilinear.{nearestWhole};
-ghost use Rattle.grid_rows.specs.Going.{Goes, Next, numberOf, countsFrom};
+ghost use Rattle.grid_rows.specs.Private.{Goes, Next, numberOf, countsFrom};
 
 // A whole number of areas and the rest of a sum.
 pub struct Part {

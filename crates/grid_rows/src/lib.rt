@@ -9,15 +9,14 @@ ghost use Prim.Native.Nat.{_+_, _*_, _-_, _≤_, _<_};
 ghost use lib.IntN.{pos, natAbs, _+ℤ_, _-ℤ_, _*ℤ_};
 ghost use lib.ListN.{length, drop};
 ghost use Rattle.arith.specs.Row.{upTo};
-ghost use Rattle.grid_cell.specs.Cell.{sumOf};
+ghost use Rattle.grid_cell.specs.Inner.{sumOf};
 ghost use Rattle.grid_cell.specs.Private.{Within, Most};
 ghost use Rattle.layout.specs.Layout.{valueIn};
-ghost use Rattle.grid_fields.specs.Fields.{meanSays};
-ghost use Rattle.grid_fields.specs.NodeFields.{cellSays};
-ghost use Rattle.grid_counts.specs.Counts.{nodeFactor, meanFactor, valuesIn};
+ghost use Rattle.grid_fields.specs.Inner.{meanSays, cellSays};
+ghost use Rattle.grid_counts.specs.Counts.{nodeFactor, meanFactor};
+ghost use Rattle.grid_counts.specs.Inner.{valuesIn};
 ghost use Rattle.grid_row_refusals.specs.Row.{shiftRowRefusal, shiftRowFilled};
-ghost use Rattle.grid_rows.specs.Going.{Split, Run, numberOf, cellCounts};
-ghost use Rattle.grid_rows.specs.Private.{Standing, Answered, Filled, countAt};
+ghost use Rattle.grid_rows.specs.Private.{Split, Run, numberOf, cellCounts, Standing, Answered, Filled, countAt};
 
 mod going;
 

@@ -18,17 +18,18 @@ use Rattle.layout.specs.Layout.{valueIn}
 use Rattle.record_grids.specs.declared.Grid.{Grid}
 use Rattle.record_grids.specs.Grids.{frameOf}
 use Rattle.grid_bilinear.specs.Bilinear.{nearestWhole, fromEdge, outside, cell, inCell, exact, interpolated, absentIn, absent}
-use Rattle.grid_cell.specs.Cell.{weightsOf, weightsIn, sumOf}
+use Rattle.grid_cell.specs.Inner.{weightsOf, weightsIn, sumOf}
 use Rattle.grid_cell.specs.Private.{Within, Weighed, Most}
 use Rattle.grid_cell.specs.declared.Corners.{Corners}
 use Rattle.grid_cell.specs.declared.Weights.{Weights}
 use Rattle.grid_cell.proofs.Sum.{area-most, sum-most, weighed}
 use Rattle.grid_direction.proofs.Placed.{along-steps, along-cell}
 use Rattle.grid_cell.proofs.Held.{count-at-is, weights-in-is}
-use Rattle.grid_counts.specs.Counts.{nodeFactor, meanFactor, valuesIn, lacking, countAt, refusedWith, cellCount}
+use Rattle.grid_counts.specs.Counts.{nodeFactor, meanFactor, refusedWith}
+use Rattle.grid_counts.specs.Inner.{valuesIn, lacking, countAt, cellCount}
 use Rattle.grid_counts.specs.declared.Counted.{Counted}
 use Rattle.grid_counts.proofs.Bounds.{count-most}
-use Rattle.grid_place.specs.Position.{heightOf, widthOf, northFrom, eastFrom, placeTests, located}
+use Rattle.grid_place.specs.Inner.{heightOf, widthOf, northFrom, eastFrom, placeTests, located}
 use Rattle.grid_shifts.specs.Shift.{part, surface, northOf, eastOf, gridTests, answerOf, outcome, inCellShift, shiftWith}
 use Rattle.grid_shifts.specs.Private.{Held, nodesIn, cellShift, partShift}
 use Rattle.grid_shifts.specs.declared.Answer.the-variants.{Refused}

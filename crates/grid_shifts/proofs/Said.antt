@@ -14,11 +14,11 @@ use Rattle.layout.specs.Layout.{valueIn}
 use Rattle.record_rows.specs.Numbers.{says, pairAt}
 use Rattle.record_grids.specs.declared.Grid.{Grid}
 use Rattle.record_grids.specs.declared.Shifts.{Shifts}
-use Rattle.record_grids.specs.Grids.{originAt, spacingAt, shiftsAt, nodesAt, gridOf, frameAt, frameOf}
+use Rattle.record_grids.specs.Grids.{originAt, spacingAt, shiftsAt, nodesAt, gridOf, frameOf}
+use Rattle.record_grids.specs.Inner.{frameAt}
 use Rattle.record_grids.proofs.Inverse.{frame-of-grid}
 use Rattle.message_rows.specs.Message.{row, kindRefusal}
-use Rattle.grid_fields.specs.Fields.{gridSays, meanSays}
-use Rattle.grid_fields.specs.NodeFields.{nodeSays, cellSays}
+use Rattle.grid_fields.specs.Inner.{gridSays, meanSays, nodeSays, cellSays}
 use Rattle.grid_fields.proofs.Says.{grid-says}
 use Rattle.grid_shifts.specs.Shift.{part, nodeOf}
 use Rattle.grid_shifts.specs.Private.{nodesIn}

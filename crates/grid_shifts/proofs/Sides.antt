@@ -12,7 +12,7 @@ use Rattle.record_rows.specs.Numbers.{says}
 use Rattle.message_rows.specs.Message.{row, kindRefusal}
 use Rattle.message_records.specs.Kinds.{gridHeld}
 use Rattle.grid_bilinear.specs.Bilinear.{interpolated}
-use Rattle.grid_place.specs.Position.{located, heldSides}
+use Rattle.grid_place.specs.Inner.{located, heldSides}
 use Rattle.grid_place.specs.declared.Located.{Located}
 use Rattle.grid_place.specs.declared.Sides.{Sides}
 use Rattle.grid_place.proofs.Held.{horizontal-refusal, vertical-refusal, horizontal-place, vertical-place, sides-cell}

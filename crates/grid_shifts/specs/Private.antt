@@ -13,7 +13,7 @@ use Rattle.record_grids.specs.Grids.{frameOf}
 use Rattle.grid_fields.specs.declared.Nodes.{Nodes}
 use Rattle.grid_place.specs.Private.{Fields}
 use Rattle.grid_cell.specs.declared.Weights.{Weights}
-use Rattle.grid_counts.specs.Counts.{cellCount}
+use Rattle.grid_counts.specs.Inner.{cellCount}
 use Rattle.grid_shifts.specs.Shift.{part, nodeOf, outcome}
 use Rattle.grid_shifts.specs.declared.Shift.{Shift}
 

@@ -56,6 +56,7 @@ unfoldable pub eastOf : Grid → ℤ → ℤ
 eastOf g e = eastBy (g .number) (e -ℤ pos (stepsOf (g .number)) *ℤ valueIn (g .origin .east))
 
 -- ---- refusals: 8 to 13 (`fieldTests`, crate grid_refusals), then 14 OUTSIDE, 15 ABSENT
+
 abbrev pub gridTests : Grid → ℕ → ℤ → ℤ → List Test
 gridTests g c n e =
     fieldTests (frameOf g) c n e
@@ -123,10 +124,6 @@ threeOf n e h =
       height = floatOf (h .answer);
       parts = record { north = n; east = e; height = h };
     }
-
--- "Each part is exactly what the single call gave"
-unfoldable pub recordShifts : Grid → ℤ → ℤ → ThreeShifts
-recordShifts g n e = threeOf (recordShift g 0 n e) (recordShift g 1 n e) (recordShift g 2 n e)
 
 unfoldable pub messageShifts : List ℕ → ℤ → ℤ → ThreeShifts
 messageShifts s n e = threeOf (messageShift s 0 n e) (messageShift s 1 n e) (messageShift s 2 n e)

@@ -7,7 +7,8 @@ use record_grids::Shifts;
 ghost use mathlib.Core.Path.{_≡_};
 ghost use Prim.Native.Nat.{_≤_};
 ghost use lib.IntN.{ℤ, pos, natAbs};
-ghost use Rattle.grid_shifts.specs.Shift.{part, nodeOf, answerOf, outcome, floatOf, threeOf, recordShifts, messageShifts};
+ghost use Rattle.grid_shifts.specs.Shift.{part, nodeOf, answerOf, outcome, floatOf, threeOf, messageShifts};
+ghost use Rattle.grid_shifts.specs.Inner.{recordShifts};
 ghost use Rattle.grid_shifts.specs.Private.{nodesIn, cellShift, partShift};
 
 // What the add-on gets: arc seconds, metres, or the refusal number.

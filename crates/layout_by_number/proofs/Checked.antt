@@ -8,13 +8,13 @@ use native.Mathlib.Decide.{decLt, ℕ-discrete}
 use lib.IntN.{ℤ}
 use lib.ListN.{length}
 use borrow.Author.Tests.{lt-ltb, le-ltb, ne-eqb}
-use Rattle.layout.specs.Layout.{refusalOf}
+use Rattle.layout.specs.Inner.{refusalOf}
 use Rattle.layout.proofs.Answer.{accepted}
-use Rattle.layout_reader.specs.Load.{valuesLoaded, presentLoaded}
+use Rattle.layout_reader.specs.Inner.{valuesLoaded, presentLoaded}
 use Rattle.layout.proofs.Loop.{total-most}
 use Rattle.layout_reader.proofs.Answer.{loads}
 use Rattle.layout_tables.proofs.Decode.{Answered, not-decoded, no-place, no-byte, decoded}
-use Rattle.layout_by_number.specs.Checked.{checkedRefusal, valuesChecked, presentChecked}
+use Rattle.layout_by_number.specs.Inner.{checkedRefusal, valuesChecked, presentChecked}
 
 module _ (r : ℕ) (es s : List ℕ) (z : List ℤ) (b : List ℕ) where
   -- the answer a, with z′ and b′ left in the buffers

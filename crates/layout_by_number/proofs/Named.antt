@@ -5,7 +5,9 @@ use native.Mathlib.Omega.{arith}
 use mathlib.Core.Path.{_≡_, refl, ap, ap₂, _∙_}
 use mathlib.Core.List.{List, [], _∷_, _++_, map, append-assoc}
 use lib.ListN.{replicate}
-use Rattle.layout.specs.Layout.{uint, intTo, total, refusalOf, sizeRefusal, placesRefusal}
+use Rattle.layout.specs.Layout.{uint, intTo, total}
+use Rattle.layout.specs.Inner.{refusalOf, sizeRefusal}
+use Rattle.layout.specs.Private.{placesRefusal}
 use Rattle.layout.proofs.Places.{rangedAt, ranged, ranged-moved, ranged-behind, ranged-check}
 use Rattle.layout_tables.specs.Layouts.{names, tail1021, tail1022, layout1021, layout1022}
 use Rattle.layout_tables.proofs.Length.{length-1021, length-1022, total-1021, total-1022}

@@ -2,7 +2,8 @@
 -- Assumes nothing.
 use Prim.Native.Nat.{ℕ}
 use mathlib.Core.Path.{_≡_}
-use Rattle.layout_tables.specs.Layouts.{layoutOf, layoutBy, layout1023, layout1024, layout1025, layout1026, layout1027}
+use Rattle.layout_tables.specs.Layouts.{layoutOf, layout1023, layout1024, layout1025, layout1026, layout1027}
+use Rattle.layout_tables.specs.Inner.{layoutBy}
 
 pub table-1023 : (k n m : ℕ) → k ≡ 1023 → layoutBy k n m ≡ layout1023
 unfolding layoutBy layoutOf

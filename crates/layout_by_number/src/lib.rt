@@ -5,9 +5,11 @@ use layout_tables::RANGE;
 ghost use mathlib.Core.Path.{_≡_};
 ghost use mathlib.Core.List.{map, _++_};
 ghost use lib.ListN.{length, take};
-ghost use Rattle.layout.specs.Layout.{refusalOf, decodeRefusal, decodeAll, valueIn, presentIn, stored, rowTakes, rowOf, encodeRefusal, encodeAll, answered};
-ghost use Rattle.layout_tables.specs.Layouts.{layout1025, layout1026, layout1027, names, counter, layoutBy};
-ghost use Rattle.layout_by_number.specs.Checked.{checkedRefusal, valuesChecked, presentChecked};
+ghost use Rattle.layout.specs.Inner.{refusalOf, decodeRefusal, encodeRefusal};
+ghost use Rattle.layout.specs.Layout.{decodeAll, valueIn, presentIn, stored, rowTakes, rowOf, encodeAll, answered};
+ghost use Rattle.layout_tables.specs.Layouts.{layout1025, layout1026, layout1027, names};
+ghost use Rattle.layout_tables.specs.Inner.{counter, layoutBy};
+ghost use Rattle.layout_by_number.specs.Inner.{checkedRefusal, valuesChecked, presentChecked};
 ghost use Prim.Native.Nat.{_+_, _≤_};
 ghost use Rattle.layout_by_number.specs.Private.{Other, namedRefusal};
 

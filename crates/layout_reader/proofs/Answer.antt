@@ -10,7 +10,7 @@ use lib.ListN.{length, drop}
 use borrow.Author.Tests.{le-leb, lt-leb, leb-true}
 use Rattle.arith.proofs.Tests.{both-first, both-second}
 use Rattle.layout.specs.Layout.{total, decodeAll, valueIn, presentIn}
-use Rattle.layout_reader.specs.Load.{readable, valuesLoaded, presentLoaded}
+use Rattle.layout_reader.specs.Inner.{readable, valuesLoaded, presentLoaded}
 
 module _ (es : List ℕ) (p : ℕ) (s : List ℕ) (z : List ℤ) (b : List ℕ) where
   pub left : readable es p s (length z) (length b) ≡ false → (z ≡ valuesLoaded es p s z b) × (b ≡ presentLoaded es p s z b)

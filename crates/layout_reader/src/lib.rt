@@ -6,7 +6,7 @@ ghost use Prim.Native.Nat.{_+_, _*_, _≤_};
 ghost use lib.Dec.{leb};
 ghost use lib.ListN.{length, drop, replicate};
 ghost use Rattle.layout.specs.Layout.{width, total, decodeAll, valueIn, presentIn};
-ghost use Rattle.layout_reader.specs.Load.{valuesLoaded, presentLoaded};
+ghost use Rattle.layout_reader.specs.Inner.{valuesLoaded, presentLoaded};
 
 // What the fields of a layout say, from bit p of s on, into the first places of both buffers.
 fn read_all(s: &[u8], p: usize, layout: &[u64], values: &mut [i64], present: &mut [u8])

@@ -6,7 +6,8 @@ use Prim.Native.Nat.{ℕ, _≤_, _<_}
 use native.Mathlib.Omega.{arith}
 use lib.IntN.{ℤ}
 use lib.ListN.{length, drop, length-map}
-use Rattle.layout.specs.Layout.{decodeAll, valueIn, presentIn, refusalOf, decodeRefusal, stored}
+use Rattle.layout.specs.Layout.{decodeAll, valueIn, presentIn, stored}
+use Rattle.layout.specs.Inner.{refusalOf, decodeRefusal}
 use Rattle.layout.proofs.Answer.{not-read, few-values, few-bytes, read-none, refused-read, filled-first, length-decodeAll}
 
 module _ (es s : List ℕ) (v : List ℤ) (b : List ℕ) where

@@ -12,7 +12,8 @@ use lib.Dec.{eqb}
 use lib.ListN.{length, replicate, length-append, length-replicate}
 use Rattle.layout.specs.Layout.{uint, total}
 use Rattle.layout.proofs.Round.{total-append, total-times}
-use Rattle.layout_tables.specs.Layouts.{names, tail1021, tail1022, layout1021, layout1022, layout1023, layout1024, layout1025, layout1026, layout1027, layoutOf, layoutBy}
+use Rattle.layout_tables.specs.Layouts.{names, tail1021, tail1022, layout1021, layout1022, layout1023, layout1024, layout1025, layout1026, layout1027, layoutOf}
+use Rattle.layout_tables.specs.Inner.{layoutBy}
 
 -- ---- fields
 

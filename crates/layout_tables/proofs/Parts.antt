@@ -11,7 +11,7 @@ use borrow.Rule.Slice.PartMut.{midOf, putMid}
 use Rattle.field.specs.declared.Reading.{Reading}
 use Rattle.layout.specs.Layout.{total, decodeAll, valueIn, presentIn}
 use Rattle.layout.proofs.Round.{length-decodeAll, total-append, decode-append}
-use Rattle.layout_reader.specs.Load.{valuesLoaded, presentLoaded}
+use Rattle.layout_reader.specs.Inner.{valuesLoaded, presentLoaded}
 use Rattle.layout.proofs.Loop.{total-most}
 use Rattle.layout_reader.proofs.Answer.{loads}
 use Rattle.layout_tables.specs.Layouts.{points}

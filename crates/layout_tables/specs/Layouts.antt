@@ -164,11 +164,3 @@ layoutOf k n m =
     (cond (eqb k 1026) layout1026
     (cond (eqb k 1027) layout1027
     []))))))
-
--- ---- by any numbers: a counter above 31, which no message has, counts as 0
-
-abbrev pub counter : ℕ → ℕ
-counter n = cond (leb n 31) n 0
-
-unfoldable pub layoutBy : ℕ → ℕ → ℕ → List ℕ
-layoutBy k n m = layoutOf k (counter n) (counter m)

@@ -4,7 +4,8 @@ ghost use mathlib.Core.Path.{_≡_};
 ghost use Prim.Native.Nat.{_+_, _*_, _≤_};
 ghost use mathlib.Core.List.{_++_, map};
 ghost use lib.ListN.{length, take, drop};
-ghost use Rattle.layout.specs.Layout.{total, refusalOf, decodeRefusal, decodeAll, valueIn, presentIn, stored, rowTakes, rowOf, encodeRefusal, encodeAll, answered};
+ghost use Rattle.layout.specs.Layout.{total, decodeAll, valueIn, presentIn, stored, rowTakes, rowOf, encodeAll, answered};
+ghost use Rattle.layout.specs.Inner.{refusalOf, decodeRefusal, encodeRefusal};
 ghost use Rattle.layout_tables.specs.Layouts.{points, layout1023, layout1024};
 ghost use Rattle.layout_tables.specs.Private.{nodes, behind};
 

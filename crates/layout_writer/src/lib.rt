@@ -6,7 +6,8 @@ ghost use mathlib.Core.List.{_++_};
 ghost use lib.Dec.{T};
 ghost use lib.ListN.{length, drop};
 ghost use Rattle.field.specs.Field.{setField, patternOf};
-ghost use Rattle.layout.specs.Layout.{width, total, size, encodeInto, blank, encodeAll, readingIn, rowOf, placeTakes, rowTakes, stored, encodeRefusal, answered};
+ghost use Rattle.layout.specs.Layout.{width, total, size, encodeInto, blank, encodeAll, readingIn, rowOf, placeTakes, rowTakes, stored, answered};
+ghost use Rattle.layout.specs.Inner.{encodeRefusal};
 
 // Whether entry e takes what a value and its byte say.
 fn takes_place(e: u64, z: i64, b: u8) -> bool

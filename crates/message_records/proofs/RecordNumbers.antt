@@ -8,14 +8,15 @@ use mathlib.Core.List.{List, [], _∷_}
 use lib.IntN.{ℤ, pos}
 use lib.ListN.{length, take, replicate, length-append}
 use lib.Seq.{take-append-seam}
-use Rattle.arith.specs.Row.{padded}
+use Rattle.arith.specs.Inner.{padded}
 use Rattle.field.specs.declared.Reading.{Reading}
 use Rattle.layout.specs.Layout.{rowOf, answered, stored}
 use Rattle.layout.specs.declared.Written.{Written}
 use Rattle.record_rows.specs.declared.Numbers.{Numbers}
 use Rattle.record_rows.specs.Numbers.{says, valuesOf, presentOf}
-use Rattle.record_rows.specs.Buffers.{marked, buffers, numbers}
-use Rattle.message_rows.specs.Message.{valuesRead, presentRead, kindRefusal, kindRow, kindRoomRefusal, kindWriteRefusal, Outcome, writeKind}
+use Rattle.record_rows.specs.Inner.{marked, buffers, numbers}
+use Rattle.message_rows.specs.Message.{valuesRead, presentRead, kindRefusal, kindRow, kindWriteRefusal, Outcome, writeKind}
+use Rattle.message_rows.specs.Inner.{kindRoomRefusal}
 use Rattle.message_rows.proofs.OneKind.{kind-room, kind-says}
 
 -- ---- reading

@@ -12,11 +12,13 @@ use native.Mathlib.Decide.{decLe}
 use Rattle.arith.specs.First.{first}
 use Rattle.arith.proofs.First.{passed, not-false, or-false, first-append}
 use Rattle.arith.proofs.Tests.{both-first, both-second}
-use Rattle.field.specs.Field.{fieldAt}
-use Rattle.layout.specs.Layout.{decodeAll, refusalOf, readTests}
+use Rattle.field.specs.Inner.{fieldAt}
+use Rattle.layout.specs.Layout.{decodeAll, readTests}
+use Rattle.layout.specs.Inner.{refusalOf}
 use Rattle.field.proofs.Bit.{field-lt}
 use Rattle.field.proofs.Place.{field-inside, fieldAt-lt}
-use Rattle.layout_tables.specs.Layouts.{known, named, layoutBy}
+use Rattle.layout_tables.specs.Layouts.{known, named}
+use Rattle.layout_tables.specs.Inner.{layoutBy}
 use Rattle.layout_tables.proofs.Length.{length-layout, unnamed-layout, layout-by}
 use Rattle.message_rows.specs.Message.{numberOf, sourceCount, targetCount, counterCut, headTests, layout, refusal, row, sinBit}
 use Rattle.message_rows.specs.Private.{Counted, sinPlace}

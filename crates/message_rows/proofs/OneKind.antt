@@ -14,12 +14,13 @@ use borrow.Author.Tests.{leb-true, lt-leb, le-leb, le-ltb, ne-eqb}
 use Rattle.arith.specs.First.{first}
 use Rattle.arith.proofs.First.{first-append, stops, goes-on}
 use native.Mathlib.Decide.{ℕ-discrete}
-use Rattle.field.specs.Field.{fieldAt}
+use Rattle.field.specs.Inner.{fieldAt}
 use Rattle.field.specs.declared.Reading.{Reading}
 use Rattle.layout.specs.Layout.{rowOf, stored}
 use Rattle.record_rows.specs.Numbers.{says, valuesOf, presentOf}
 use Rattle.record_rows.proofs.Rows.{says-filled}
-use Rattle.message_rows.specs.Message.{numberOf, layout, tests, refusal, row, roomTests, rowRefusal, valuesRead, presentRead, kindTests, kindRefusal, kindRow, kindRoomRefusal}
+use Rattle.message_rows.specs.Message.{numberOf, layout, tests, refusal, row, roomTests, rowRefusal, valuesRead, presentRead, kindTests, kindRefusal, kindRow}
+use Rattle.message_rows.specs.Inner.{kindRoomRefusal}
 use Rattle.message_rows.proofs.Head.{layout-most, number-read, head-of, accepted-head}
 
 -- ---- reading

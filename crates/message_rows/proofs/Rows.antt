@@ -11,7 +11,8 @@ use lib.ListN.{length}
 use Rattle.arith.specs.First.{first}
 use Rattle.arith.proofs.First.{stops, goes-on, passes}
 use Rattle.field.specs.declared.Reading.{Reading}
-use Rattle.layout.specs.Layout.{decodeAll, decodeTests, decodeRefusal, stored}
+use Rattle.layout.specs.Layout.{decodeAll, stored}
+use Rattle.layout.specs.Inner.{decodeTests, decodeRefusal}
 use Rattle.layout.proofs.Round.{length-decodeAll}
 use Rattle.layout.proofs.Answer.{refused-read}
 use Rattle.record_rows.specs.Numbers.{says, counterAt, valuesOf, presentOf}

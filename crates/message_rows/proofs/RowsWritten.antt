@@ -10,11 +10,12 @@ use lib.ListN.{length}
 use borrow.Author.Tests.{lt-leb, le-leb}
 use Rattle.arith.specs.Whole.{natural}
 use Rattle.field.specs.declared.Reading.{Reading}
-use Rattle.layout.specs.Layout.{rowOf, rowTakes, encodeAll, encodeRefusal, stored, answered}
+use Rattle.layout.specs.Layout.{rowOf, rowTakes, encodeAll, stored, answered}
+use Rattle.layout.specs.Inner.{encodeRefusal}
 use Rattle.layout.specs.declared.Written.{Written}
 use Rattle.record_rows.specs.Numbers.{says, numberAt, counterAt}
 use Rattle.record_rows.proofs.Rows.{counter-most}
-use Rattle.layout_tables.specs.Layouts.{layoutBy}
+use Rattle.layout_tables.specs.Inner.{layoutBy}
 use Rattle.layout_tables.proofs.Length.{layout-by}
 use Rattle.message_rows.specs.Message.{rowLayout, writeRefusal, message, writeRow, rowHeld}
 

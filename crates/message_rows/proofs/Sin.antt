@@ -7,7 +7,7 @@ use mathlib.Core.Bool.{cond}
 use mathlib.Core.List.{List}
 use lib.ListN.{length}
 use borrow.Author.Tests.{ne-eqb}
-use Rattle.field.specs.Field.{fieldAt}
+use Rattle.field.specs.Inner.{fieldAt}
 use Rattle.field.proofs.Place.{field-inside}
 use Rattle.layout.specs.Layout.{total}
 use Rattle.layout.proofs.Round.{total-most, accepted}

@@ -19,7 +19,8 @@ use Rattle.field.specs.Field.{field}
 use Rattle.field.specs.declared.Reading.{Reading}
 use Rattle.field.specs.declared.Reading.the-variants.{Value}
 use Rattle.field.proofs.Bit.{Bytes, field-lt}
-use Rattle.layout.specs.Layout.{uint, width, readingOf, allTake, total, size, rowOf, decodeAll, encodeAll, refusalOf, encodeRefusal}
+use Rattle.layout.specs.Layout.{uint, width, readingOf, allTake, total, size, rowOf, decodeAll, encodeAll}
+use Rattle.layout.specs.Inner.{refusalOf, encodeRefusal}
 use Rattle.layout.proofs.Round.{total-append, total-times, value-at, of-true, read-written, accepted, accepted-kept, Writable, writable, written-accepted, length-encodeAll, taken-all, taken-back, row-in, all-taken}
 use Rattle.record_rows.specs.Numbers.{says, numberAt, counterAt, valuesOf, presentOf}
 use Rattle.layout_tables.specs.Layouts.{known, named, names, tail1021, tail1022, layout1021, layout1022, layout1023, layout1024, layout1025, layout1026, layout1027, layoutOf}

@@ -95,9 +95,6 @@ kindRefusal lo hi s = first (kindTests lo hi s)
 unfoldable pub kindRow : ℕ → ℕ → List ℕ → List Reading
 kindRow lo hi s = cond (eqb (kindRefusal lo hi s) 0) (row s) []
 
-unfoldable pub kindRoomRefusal : ℕ → ℕ → List ℕ → ℕ → ℕ → ℕ
-kindRoomRefusal lo hi s m n = first (kindTests lo hi s ++ roomTests s m n)
-
 -- ---- writing: z and b are the values and the presence bytes of a row
 
 unfoldable pub rowLayout : List Reading → List ℕ

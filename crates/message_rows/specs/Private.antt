@@ -4,7 +4,7 @@ use Prim.Native.Nat.{ℕ, _+_, _*_, _<_}
 use mathlib.Core.Path.{_≡_}
 use mathlib.Core.Bool.{cond}
 use mathlib.Core.List.{List}
-use Rattle.field.specs.Field.{fieldAt}
+use Rattle.field.specs.Inner.{fieldAt}
 use Rattle.layout_tables.specs.Layouts.{named}
 use Rattle.message_rows.specs.Message.{refusal, numberOf, sinOf}
 

@@ -2,9 +2,10 @@
 ghost use mathlib.Core.Path.{_≡_};
 ghost use Prim.Native.Nat.{_≤_};
 ghost use lib.ListN.{length};
-ghost use Rattle.field.specs.Field.{fieldAt};
+ghost use Rattle.field.specs.Inner.{fieldAt};
 ghost use Rattle.arith.specs.First.{first};
-ghost use Rattle.message_rows.specs.Message.{headTests, refusal, header, rowRefusal, valuesRead, presentRead, kindRefusal, kindRoomRefusal, writeRow, writeKind, rowHeld};
+ghost use Rattle.message_rows.specs.Message.{headTests, refusal, header, rowRefusal, valuesRead, presentRead, kindRefusal, writeRow, writeKind, rowHeld};
+ghost use Rattle.message_rows.specs.Inner.{kindRoomRefusal};
 ghost use Rattle.message_rows.specs.Private.{sourceRead, targetRead, sinPlace, Counted, Coded};
 use layout::Written;
 

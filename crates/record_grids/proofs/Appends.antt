@@ -9,12 +9,12 @@ use native.Mathlib.Numerals.{add-one}
 use native.Mathlib.Omega.{arith}
 use lib.IntN.{ℤ, pos}
 use lib.ListN.{length, take, getD, replicate, length-append, length-replicate, replicate-append-replicate}
-use Rattle.arith.specs.Row.{padded}
+use Rattle.arith.specs.Inner.{padded}
 use Rattle.field.specs.declared.Reading.{Reading}
 use Rattle.field.specs.declared.Reading.the-variants.{Value}
 use Rattle.layout.specs.Layout.{valueIn, presentIn}
 use Rattle.record_rows.specs.Numbers.{valuesOf, presentOf, pairRow}
-use Rattle.record_rows.specs.Buffers.{marked, buffers, numbers}
+use Rattle.record_rows.specs.Inner.{marked, buffers, numbers}
 use Rattle.record_grids.specs.declared.Shifts.{Shifts}
 use Rattle.record_grids.specs.declared.Grid.{Grid}
 use Rattle.record_grids.specs.Grids.{shiftsRow, nodesRow, originRow, spacingRow, gridRow}

@@ -11,7 +11,8 @@ use Rattle.record_rows.specs.Numbers.{says, pairAt, pairRow}
 use Rattle.record_rows.proofs.Rows.{Valued, all-of}
 use Rattle.record_grids.specs.declared.Shifts.{Shifts}
 use Rattle.record_grids.specs.declared.Grid.{Grid}
-use Rattle.record_grids.specs.Grids.{originAt, originRow, spacingAt, spacingRow, shiftsAt, shiftsRow, nodesAt, nodesRow, gridOf, gridRow, frameAt, frameOf}
+use Rattle.record_grids.specs.Grids.{originAt, originRow, spacingAt, spacingRow, shiftsAt, shiftsRow, nodesAt, nodesRow, gridOf, gridRow, frameOf}
+use Rattle.record_grids.specs.Inner.{frameAt}
 use Rattle.record_grids.proofs.Appends.{zeroShifts}
 
 -- two unsigned places from place k on

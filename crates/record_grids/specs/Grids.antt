@@ -73,10 +73,6 @@ gridRow r =
 
 -- ---- what a grid says besides its shifts
 
-unfoldable pub frameAt : (ℕ → Reading) → Frame
-frameAt v =
-    record { number = numberAt v 0; indicators = pairAt v 2; origin = originAt v 4; spacing = spacingAt v 6; methods = pairAt v 59 }
-
 unfoldable pub frameOf : Grid → Frame
 frameOf g =
     record { number = g .number; indicators = g .indicators; origin = g .origin; spacing = g .spacing; methods = g .methods }

@@ -1,2 +1,3 @@
 pub mod Grids
 pub mod Private
+pub mod Inner

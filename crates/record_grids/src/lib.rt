@@ -9,7 +9,7 @@ ghost use Prim.Native.Nat.{_+_, _≤_};
 ghost use lib.ListN.{length, replicate};
 ghost use Rattle.layout.specs.Layout.{rowOf};
 ghost use Rattle.record_rows.specs.Numbers.{says, valuesOf, presentOf};
-ghost use Rattle.record_rows.specs.Buffers.{buffers, numbers};
+ghost use Rattle.record_rows.specs.Inner.{buffers, numbers};
 ghost use Rattle.record_rows.specs.Private.{Appended};
 ghost use Rattle.record_grids.specs.Grids.{originAt, spacingAt, shiftsAt, shiftsRow, nodesAt, nodesRow, gridOf, gridRow, frameOf};
 ghost use Rattle.record_grids.specs.Private.{startRow, startMarks, endRow};

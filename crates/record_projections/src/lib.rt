@@ -5,7 +5,7 @@ ghost use mathlib.Core.Path.{_≡_};
 ghost use mathlib.Core.Bool.{true};
 ghost use Rattle.layout.specs.Layout.{rowOf};
 ghost use Rattle.record_rows.specs.Numbers.{says};
-ghost use Rattle.record_rows.specs.Buffers.{numbers};
+ghost use Rattle.record_rows.specs.Inner.{numbers};
 ghost use Rattle.record_projections.specs.Projections.{projectionOf, projectionRow, lambertOf, lambertRow, obliqueMercatorOf, obliqueMercatorRow};
 
 // 1025.

@@ -9,11 +9,11 @@ use borrow.Author.Tests.{le-leb, lt-leb}
 use lib.IntN.{ℤ, pos}
 use lib.ListN.{length, drop, replicate, length-append}
 use lib.Seq.{paste, length-paste, paste-zero, take-length}
-use Rattle.arith.specs.Row.{padded}
+use Rattle.arith.specs.Inner.{padded}
 use Rattle.arith.proofs.Store.{paste-paste}
 use Rattle.arith.proofs.Rows.{drop-replicate}
 use Rattle.record_rows.specs.declared.Numbers.{Numbers}
-use Rattle.record_rows.specs.Buffers.{marked, buffers, appended, placeBehind}
+use Rattle.record_rows.specs.Inner.{marked, buffers, appended, placeBehind}
 use Rattle.record_rows.specs.Private.{Appended}
 
 -- ---- the two answers of a row stored in another

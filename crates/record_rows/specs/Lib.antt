@@ -1,3 +1,3 @@
 pub mod Numbers
-pub mod Buffers
 pub mod Private
+pub mod Inner

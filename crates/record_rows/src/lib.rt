@@ -9,7 +9,7 @@ ghost use mathlib.Core.List.{[]};
 ghost use Prim.Native.Nat.{_+_, _≤_};
 ghost use lib.Dec.{leb, eqb};
 ghost use lib.ListN.{length};
-ghost use Rattle.record_rows.specs.Buffers.{buffers, numbers, appended, placeBehind};
+ghost use Rattle.record_rows.specs.Inner.{buffers, numbers, appended, placeBehind};
 ghost use Rattle.record_rows.specs.Private.{Appended};
 
 // An indicator for the horizontal and one for the vertical: DF190 and DF191, DF212 and DF213, DF214 and DF215, DF216 and DF217.

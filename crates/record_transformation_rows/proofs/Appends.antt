@@ -8,7 +8,8 @@ use native.Mathlib.Nat.{not-suc-le-zero, le-of-suc-le-suc, sub-zero, suc-sub-suc
 use native.Mathlib.Omega.{arith}
 use lib.IntN.{ℤ, pos}
 use lib.ListN.{length, length-map, length-replicate, replicate}
-use Rattle.arith.specs.Row.{upTo, padded}
+use Rattle.arith.specs.Row.{upTo}
+use Rattle.arith.specs.Inner.{padded}
 use Rattle.arith.proofs.Rows.{length-upTo}
 use Rattle.arith.proofs.Tests.{both-first, both-second}
 use Rattle.field.specs.declared.Reading.{Reading}
@@ -17,11 +18,11 @@ use Rattle.record_rows.specs.declared.Numbers.{Numbers}
 use Rattle.record_rows.specs.declared.Pair.{Pair}
 use Rattle.record_rows.specs.Private.{Appended}
 use Rattle.record_rows.specs.Numbers.{pairRow, valuesOf, presentOf}
-use Rattle.record_rows.specs.Buffers.{numbers, buffers, marked}
+use Rattle.record_rows.specs.Inner.{numbers, buffers, marked}
 use Rattle.record_rows.proofs.Appends.{behind, all-good, paste-filled}
 use Rattle.record_transformations.specs.declared.Name.{Name}
 use Rattle.record_transformations.specs.declared.Ellipsoids.{Ellipsoids}
-use Rattle.record_transformations.specs.Parts.{names, last}
+use Rattle.record_transformations.specs.Private.{names, last}
 use Rattle.record_transformations.specs.Transformations.{nameRow, charAt, goodName, ellipsoidsRow}
 use Rattle.record_transformations.proofs.Parts.{good-length, length-names}
 use Rattle.record_transformation_rows.specs.Private.{charValue}

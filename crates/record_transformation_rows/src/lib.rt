@@ -17,9 +17,9 @@ ghost use lib.ListN.{length};
 ghost use lib.IntN.{pos};
 ghost use Rattle.arith.specs.Row.{upTo};
 ghost use Rattle.record_rows.specs.Numbers.{valuesOf, presentOf};
-ghost use Rattle.record_rows.specs.Buffers.{buffers, numbers};
+ghost use Rattle.record_rows.specs.Inner.{buffers, numbers};
 ghost use Rattle.record_rows.specs.Private.{Appended};
-ghost use Rattle.record_transformations.specs.Parts.{names, shared, last};
+ghost use Rattle.record_transformations.specs.Private.{names, shared, last};
 ghost use Rattle.record_transformations.specs.Transformations.{nameRow, charGood, goodName, pointRow, helmertRow, molodenskiBadekasRow};
 ghost use Rattle.record_transformation_rows.specs.Private.{charValue};
 

@@ -20,7 +20,7 @@ use Rattle.record_rows.proofs.Rows.{all-of, Valued}
 use Rattle.record_transformations.specs.declared.Name.{Name}
 use Rattle.record_transformations.specs.declared.Helmert.{Helmert}
 use Rattle.record_transformations.specs.declared.MolodenskiBadekas.{MolodenskiBadekas}
-use Rattle.record_transformations.specs.Parts.{names, shared, last}
+use Rattle.record_transformations.specs.Private.{names, shared, last}
 use Rattle.record_transformations.specs.Transformations.{nameAt, nameRow, goodName, systemAt, systemRow, areaAt, areaRow, parametersAt, parametersRow, pointAt, pointRow, ellipsoidsAt, ellipsoidsRow, behindNames, helmertOf, helmertRow, molodenskiBadekasOf, molodenskiBadekasRow}
 use Rattle.record_transformations.proofs.Parts.{length-nameRow, length-names, helmert-joined, molodenski-badekas-joined}
 use Rattle.record_transformations.proofs.Names.{Bytes, part, nameAt-good, name-in, counter-is, nameRow-is, grow}

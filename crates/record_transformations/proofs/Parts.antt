@@ -17,7 +17,7 @@ use Rattle.record_rows.specs.Numbers.{pairRow}
 use Rattle.record_transformations.specs.declared.Name.{Name}
 use Rattle.record_transformations.specs.declared.Helmert.{Helmert}
 use Rattle.record_transformations.specs.declared.MolodenskiBadekas.{MolodenskiBadekas}
-use Rattle.record_transformations.specs.Parts.{names, shared, last}
+use Rattle.record_transformations.specs.Private.{names, shared, last}
 use Rattle.record_transformations.specs.Transformations.{nameRow, charAt, charGood, goodName, systemRow, areaRow, parametersRow, pointRow, ellipsoidsRow, helmertRow, molodenskiBadekasRow}
 
 -- ---- names

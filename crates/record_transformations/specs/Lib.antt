@@ -1,2 +1,2 @@
 pub mod Transformations
-pub mod Parts
+pub mod Private

@@ -11,7 +11,7 @@ use borrow.Author.Tests.{eq-eqb, ne-eqb}
 use lib.Dec.{eqb, ltb}
 use lib.IntN.{ℤ, pos}
 use lib.ListN.{length, getD}
-use Rattle.grid_component.specs.Part.{keptOf}
+use Rattle.grid_component.specs.Inner.{keptOf}
 use Rattle.report_update.specs.Numbers.{reportWith}
 use Rattle.report_points.specs.Reports.{outcomes, reportRefusal, reportOf, pointsOf, listsReport}
 use Rattle.report_points.specs.Private.{startOf, reportFrom}

@@ -11,13 +11,13 @@ use lib.Dec.{eqb, ltb}
 use lib.IntN.{pos}
 use lib.ListN.{length, getD, drop, drop-of-length-le, length-append}
 use lib.Seq.{drop-cons}
-use Rattle.grid_component.specs.Part.{keptOf, countedBy}
+use Rattle.grid_component.specs.Inner.{keptOf, countedBy}
 use Rattle.grid_counts.specs.declared.Counted.{Counted}
 use Rattle.grid_component.specs.declared.Kept.{Kept}
 use Rattle.grid_component.proofs.Counts.{counted-is}
 use Rattle.report_update.specs.declared.Report.{Report}
 use Rattle.report_update.specs.Numbers.{tallyOf, reportWith}
-use Rattle.report_update.specs.Update.{grownBy}
+use Rattle.report_update.specs.Inner.{grownBy}
 use Rattle.report_update.proofs.Laws.{no}
 use Rattle.report_update.proofs.Behind.{one}
 use Rattle.report_update.proofs.Agree.{Sounds, grown-one}

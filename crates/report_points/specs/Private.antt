@@ -4,11 +4,11 @@ use Prim.Native.Nat.{ℕ, _+_}
 use mathlib.Core.Bool.{cond}
 use mathlib.Core.List.{List, [], _∷_}
 use lib.Dec.{eqb}
-use Rattle.grid_component.specs.Part.{countedBy}
+use Rattle.grid_component.specs.Inner.{countedBy}
 use Rattle.grid_component.specs.declared.Kept.{Kept}
 use Rattle.report_update.specs.declared.Report.{Report}
 use Rattle.report_update.specs.Numbers.{reportWith}
-use Rattle.report_update.specs.Update.{grownBy}
+use Rattle.report_update.specs.Inner.{grownBy}
 use Rattle.report_points.specs.declared.Point.{Point}
 use Rattle.report_points.specs.Reports.{reportRefusal}
 

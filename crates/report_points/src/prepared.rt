@@ -5,7 +5,7 @@ use grid_counts::Counted;
 use report_prepared::Prepared;
 ghost use mathlib.Core.Path.{_≡_};
 ghost use Prim.Native.Nat.{_≤_, _<_};
-ghost use Rattle.grid_component.specs.Part.{countedBy};
+ghost use Rattle.grid_component.specs.Inner.{countedBy};
 ghost use Rattle.report_prepared.specs.Private.{countIn, Serves};
 
 // The count at a place y and x steps from the southern and the western edge of the grid.

@@ -11,13 +11,14 @@ use borrow.Author.Tests.{eq-eqb, ne-eqb}
 use lib.Dec.{T, eqb, leb, leb→le}
 use lib.IntN.{natAbs}
 use lib.ListN.{getD, take}
-use Rattle.field.specs.Field.{fieldAt, signedOf, noneOf, twos}
+use Rattle.field.specs.Inner.{fieldAt}
+use Rattle.field.specs.Field.{signedOf, noneOf, twos}
 use Rattle.field.specs.declared.Reading.the-variants.{Value, Absent}
 use Rattle.field.proofs.Place.{fieldAt-lt}
 use Rattle.layout.specs.Layout.{width, signed, total, readingOf, valueIn}
 use Rattle.layout.proofs.Says.{from-T, near}
 use Rattle.layout_tables.specs.Layouts.{layout1023, layout1024}
-use Rattle.grid_fields.specs.Fields.{gridLayout, gridSays, meanSays}
+use Rattle.grid_fields.specs.Inner.{gridLayout, gridSays, meanSays}
 
 -- a signed field of w bits
 signed-most : (w u : ℕ) → u < 2 ^ w → natAbs (valueIn (signedOf w u)) ≤ noneOf w

@@ -20,26 +20,26 @@ use Rattle.record_grids.specs.declared.Frame.{Frame}
 use Rattle.grid_refusals.specs.Refusals.{beyond, ellipsoidal, available, fieldTests}
 use Rattle.grid_bilinear.specs.Bilinear.{fromEdge, outside, cell, lacks}
 use Rattle.grid_bilinear.proofs.Place.{steps-are, cell-le}
-use Rattle.grid_direction.specs.Direction.{alongOf}
-use Rattle.grid_cell.specs.Cell.{countBy}
+use Rattle.grid_direction.specs.Inner.{alongOf}
+use Rattle.grid_cell.specs.Inner.{countBy}
 use Rattle.grid_cell.specs.declared.Corners.{Corners}
 use Rattle.grid_cell.specs.declared.Weights.{Weights}
 use Rattle.grid_direction.proofs.Placed.{along-steps, along-cell}
-use Rattle.grid_fields.specs.Fields.{meanSays}
-use Rattle.grid_fields.specs.NodeFields.{nodeSays, nodesSaid, cellSays}
+use Rattle.grid_fields.specs.Inner.{meanSays, nodeSays, nodesSaid, cellSays}
 use Rattle.grid_fields.specs.declared.Nodes.{Nodes}
-use Rattle.grid_place.specs.Position.{turn, halfTurn, byTurns, stepsOf, heightOf, widthOf, northFrom, eastFrom, frameHeld, placeTests, placeOf, heldPlace}
+use Rattle.grid_place.specs.Position.{turn, halfTurn, byTurns, stepsOf}
+use Rattle.grid_place.specs.Inner.{heightOf, widthOf, northFrom, eastFrom, frameHeld, placeTests, placeOf, heldPlace}
 use Rattle.grid_place.specs.Private.{Fields}
 use Rattle.grid_place.specs.declared.Located.{Located}
 use Rattle.grid_place.proofs.Antimeridian.{turnsOf, turned-same, turned-only}
 use Rattle.grid_place.proofs.Held.{held-fields, held-place, no-frame}
 use Rattle.grid_place.proofs.Places.{Inside, inside, Spaced, spacings, in-cell, located-refusal, located-in, placed-passes, both-in}
-use Rattle.grid_counts.specs.Counts.{nodeFactor, meanFactor, valuesIn, lacking, cellCount}
-use Rattle.grid_component.specs.Part.{countedBy}
+use Rattle.grid_counts.specs.Counts.{nodeFactor, meanFactor}
+use Rattle.grid_counts.specs.Inner.{valuesIn, lacking, cellCount}
+use Rattle.grid_component.specs.Inner.{countedBy}
 use Rattle.grid_component.specs.declared.Kept.{Kept}
 use Rattle.report_prepared.specs.declared.Prepared.{Prepared}
-use Rattle.report_prepared.specs.Nodes.{nodeValue, nodeAvailable, nodeValues, nodesAvailable}
-use Rattle.report_prepared.specs.Edges.{noEdges, aroundOf, refusalAt, edgesAt, preparedOf}
+use Rattle.report_prepared.specs.Inner.{nodeValue, nodeAvailable, nodeValues, nodesAvailable, noEdges, aroundOf, refusalAt, edgesAt, preparedOf}
 use Rattle.report_prepared.specs.Private.{Near, Between, cornersOf, countIn, Serves}
 
 -- ---- along one direction: a position x, where x₀ has the difference u₀ and the steps t₀ from the edge

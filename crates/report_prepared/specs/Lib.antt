@@ -1,3 +1,2 @@
-pub mod Nodes
-pub mod Edges
 pub mod Private
+pub mod Inner

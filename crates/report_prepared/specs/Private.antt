@@ -7,10 +7,10 @@ use lib.IntN.{ℤ, natAbs, _-ℤ_}
 use lib.Signed.{_≤ℤ_}
 use Rattle.arith.specs.Row.{at}
 use Rattle.grid_bilinear.specs.Bilinear.{cell}
-use Rattle.grid_cell.specs.Cell.{weightsIn, countBy}
+use Rattle.grid_cell.specs.Inner.{weightsIn, countBy}
 use Rattle.grid_cell.specs.declared.Corners.{Corners}
 use Rattle.grid_place.specs.declared.Located.{Located}
-use Rattle.grid_component.specs.Part.{countedBy}
+use Rattle.grid_component.specs.Inner.{countedBy}
 use Rattle.grid_component.specs.declared.Kept.{Kept}
 use Rattle.report_prepared.specs.declared.Prepared.{Prepared}
 

@@ -4,8 +4,7 @@ use grid_component::Kept;
 use grid_place::Located;
 ghost use mathlib.Core.Path.{_≡_};
 ghost use Rattle.grid_refusals.specs.Refusals.{available};
-ghost use Rattle.report_prepared.specs.Nodes.{nodeValue, nodesAvailable, nodeValues};
-ghost use Rattle.report_prepared.specs.Edges.{middleOf, noEdges, aroundOf, edgesAt, preparedOf};
+ghost use Rattle.report_prepared.specs.Inner.{nodeValue, nodesAvailable, nodeValues, middleOf, noEdges, aroundOf, edgesAt, preparedOf};
 ghost use Rattle.report_prepared.specs.Private.{Near};
 
 // The edges of a grid in steps, the height and the width of a cell, the mean in counts, and the counts in a raw number of a node.

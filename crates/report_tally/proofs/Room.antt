@@ -11,7 +11,8 @@ use lib.ListN.{getD}
 use Rattle.grid_counts.specs.declared.Counted.{Counted}
 use Rattle.report_update.specs.declared.Tally.{Tally}
 use Rattle.report_update.specs.Numbers.{pointsIn}
-use Rattle.report_update.specs.Update.{asRead, withRefused, withAnswered, withOutcome, refusable, grownBy}
+use Rattle.report_update.specs.Update.{asRead, withRefused, withAnswered, withOutcome}
+use Rattle.report_update.specs.Inner.{refusable, grownBy}
 use Rattle.report_update.proofs.Agree.{Sound}
 use Rattle.report_tally.proofs.Totals.{total-part}
 

@@ -10,13 +10,13 @@ use Rattle.arith.specs.First.{Test, first}
 use Rattle.record_rows.specs.Numbers.{says}
 use Rattle.record_grids.specs.Grids.{gridOf}
 use Rattle.message_rows.specs.Message.{tests, numberOf, row}
-use Rattle.grid_cell.specs.Cell.{weightsIn}
-use Rattle.grid_fields.specs.Fields.{meanSays}
-use Rattle.grid_fields.specs.NodeFields.{cellSays}
-use Rattle.grid_place.specs.Position.{heldPlace}
-use Rattle.grid_counts.specs.Counts.{refusedWith, cellCount}
+use Rattle.grid_cell.specs.Inner.{weightsIn}
+use Rattle.grid_fields.specs.Inner.{meanSays, cellSays}
+use Rattle.grid_place.specs.Inner.{heldPlace}
+use Rattle.grid_counts.specs.Counts.{refusedWith}
+use Rattle.grid_counts.specs.Inner.{cellCount}
 use Rattle.grid_shifts.specs.Shift.{gridTests, shiftRefusal, outcome, shiftWith, messageShift}
-use Rattle.grid_component.specs.Part.{keptOf, countedBy}
+use Rattle.grid_component.specs.Inner.{keptOf, countedBy}
 use Rattle.grid_counts.specs.declared.Counted.{Counted}
 use Rattle.grid_counts.proofs.Bounds.{cell-most}
 use Rattle.grid_component.specs.declared.Kept.{Kept}

@@ -8,7 +8,8 @@ ghost use lib.IntN.{natAbs};
 ghost use lib.ListN.{getD};
 ghost use lib.Signed.{ltZ};
 ghost use Rattle.report_update.specs.Numbers.{reportWith};
-ghost use Rattle.report_update.specs.Update.{asRead, withRefused, withAnswered, countable, refusable, grownBy};
+ghost use Rattle.report_update.specs.Update.{asRead, withRefused, withAnswered};
+ghost use Rattle.report_update.specs.Inner.{countable, refusable, grownBy};
 
 // Points answered, points refused under 1 to 15, the smallest and the greatest count, their first places, and the sum of counts.
 pub struct Tally {

@@ -2,7 +2,7 @@
 use grid_component::Kept;
 use sample_files::Point;
 ghost use mathlib.Core.Path.{_≡_};
-ghost use Rattle.grid_component.specs.Part.{keptOf};
+ghost use Rattle.grid_component.specs.Inner.{keptOf};
 ghost use Rattle.sample_files.specs.File.{pointsOf};
 ghost use Rattle.sample_checks.specs.Check.{right, firstBad, checked};
 

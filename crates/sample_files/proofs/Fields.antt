@@ -10,7 +10,8 @@ use native.Mathlib.Omega.{arith}
 use lib.ListN.{length, getD, take, drop, length-drop, drop-of-length-le}
 use lib.Seq.{take-all, drop-drop}
 use Rattle.sample_files.specs.declared.Point.{Point}
-use Rattle.sample_files.specs.File.{pointSize, messageEnd, restOf, pointOf, pointsIn, pointsOf, endIn, noPoint, pointAt}
+use Rattle.sample_files.specs.File.{pointSize, messageEnd, restOf, pointOf, pointsIn, pointsOf, noPoint}
+use Rattle.sample_files.specs.Inner.{endIn, pointAt}
 use Rattle.sample_files.specs.Private.{pointHead, pointHeads}
 
 -- the part of a slice from a on

@@ -1,6 +1,6 @@
 -- A file of sample answers, as a message and points, and as bytes: request A13, "The file is tagged fields".
 -- Assumes nothing.
-use Prim.Native.Nat.{ℕ, zero, suc, _+_, _/_, min}
+use Prim.Native.Nat.{ℕ, zero, suc, _+_, _/_}
 use mathlib.Core.Bool.{Bool, _&&_}
 use mathlib.Core.List.{List, [], _∷_, _++_}
 use lib.Dec.{leb}
@@ -67,13 +67,6 @@ shape f = same f (fileOf (messageOf f) (pointsOf f)) && leb (length (pointsOf f)
 
 -- ---- answers for any bytes
 
--- where the message ends, or the file where that is earlier
-unfoldable pub endIn : List ℕ → ℕ
-endIn f = min (messageEnd f) (length f)
-
 -- point i, from 0; all zero where there is none
 abbrev pub noPoint : Point
 noPoint = record { component = 0; north = pos 0; east = pos 0; claim = pos 0 }
-
-unfoldable pub pointAt : List ℕ → ℕ → Point
-pointAt f i = getD (pointsOf f) i noPoint

@@ -2,7 +2,8 @@
 ghost use mathlib.Core.Path.{_≡_};
 ghost use Prim.Native.Nat.{_+_, _*_, _≤_};
 ghost use lib.ListN.{length, drop};
-ghost use Rattle.sample_files.specs.File.{pointSize, pointOf, pointsOf, shape, endIn, pointAt};
+ghost use Rattle.sample_files.specs.File.{pointSize, pointOf, pointsOf, shape};
+ghost use Rattle.sample_files.specs.Inner.{endIn, pointAt};
 ghost use Rattle.sample_files.specs.Private.{messageFirst, pointHead, pointHeads, onlyPoints};
 
 const POINT_SIZE: usize = 28;

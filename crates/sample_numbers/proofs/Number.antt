@@ -17,7 +17,8 @@ use lib.Seq.{getD-at, take-suc}
 use lib.Signed.{mag}
 use Rattle.field.specs.Field.{twos, patternOf}
 use Rattle.field.specs.declared.Reading.the-variants.{Value}
-use Rattle.sample_numbers.specs.Number.{number, bytesOf, whole, wholeBytes, numberAt, wholeAt, putBytes}
+use Rattle.sample_numbers.specs.Number.{number, bytesOf, whole, wholeBytes, putBytes}
+use Rattle.sample_numbers.specs.Inner.{numberAt, wholeAt}
 
 -- ---- both ways
 

@@ -1,7 +1,7 @@
 -- Numbers in bytes, high byte first: request A13, "two bytes length (high byte first)" and "8 bytes two's complement, high byte first".
 -- Assumes nothing.
 use Prim.Native.Nat.{ℕ, zero, suc, _+_, _*_, _/_, _%_}
-use mathlib.Core.Bool.{cond, _&&_}
+use mathlib.Core.Bool.{cond}
 use mathlib.Core.List.{List, [], _∷_, _++_}
 use lib.Dec.{leb}
 use lib.ListN.{length, getD, take, drop}
@@ -31,13 +31,6 @@ unfoldable pub wholeBytes : ℤ → List ℕ
 wholeBytes z = bytesOf 8 (patternOf 64 (Value z))
 
 -- ---- at a place of lent bytes
-
--- the number in the k bytes of s from byte a on, and the whole number in 8 bytes; 0 where k is above 8 or the bytes reach past the end
-unfoldable pub numberAt : List ℕ → ℕ → ℕ → ℕ
-numberAt s a k = cond (leb k 8 && leb (a + k) (length s)) (number k (drop a s)) 0
-
-unfoldable pub wholeAt : List ℕ → ℕ → ℤ
-wholeAt s a = twos 64 (numberAt s a 8)
 
 -- s with these bytes from byte a on; s as it is where they reach past its end
 unfoldable pub putBytes : List ℕ → ℕ → List ℕ → List ℕ

@@ -5,7 +5,8 @@ ghost use lib.Dec.{leb};
 ghost use lib.ListN.{length, drop};
 ghost use Rattle.field.specs.Field.{twos, patternOf};
 ghost use Rattle.field.specs.declared.Reading.the-variants.{Value};
-ghost use Rattle.sample_numbers.specs.Number.{number, bytesOf, wholeBytes, numberAt, wholeAt, putBytes};
+ghost use Rattle.sample_numbers.specs.Number.{number, bytesOf, wholeBytes, putBytes};
+ghost use Rattle.sample_numbers.specs.Inner.{numberAt, wholeAt};
 
 // The number in the k bytes of s from byte a on.
 fn read_number(s: &[u8], a: usize, k: usize) -> u64

@@ -2,7 +2,7 @@
 use grid_component::Kept;
 ghost use mathlib.Core.Path.{_≡_};
 ghost use lib.ListN.{length};
-ghost use Rattle.grid_component.specs.Part.{keptOf};
+ghost use Rattle.grid_component.specs.Inner.{keptOf};
 ghost use Rattle.sample_writer.specs.Refusals.{askedOf, firstRefused, pointsRefusal};
 use layout::Written;
 ghost use mathlib.Core.List.{map};

@@ -12,8 +12,7 @@ use borrow.Author.Tests.{eq-eqb, ne-eqb}
 use Rattle.arith.specs.Places.{firstOf}
 use Rattle.table_slots.specs.Slots.{slots, tableSize, groupOf, key, keyOf, joined, slot, held, wellSlot, tag}
 use Rattle.table.specs.Table.{hasTag, place, newKey, flawed, wellSlots, holding, wellFormed, storePlace}
-use Rattle.table_slots.specs.Marks.{noTag, mark, markAt, marks}
-use Rattle.table_slots.specs.Places.{hasMark, markPlace, flawedMark, soundMarks, markOrFree}
+use Rattle.table_slots.specs.Inner.{noTag, mark, markAt, marks, hasMark, markPlace, flawedMark, soundMarks, markOrFree}
 use Rattle.arith.proofs.Places.{agree}
 use Rattle.table_slots.proofs.Marks.{mark-well, mark-ill, tag-most, mark-in}
 use Rattle.table.proofs.Whole.{unflawed, slots-first, formed}

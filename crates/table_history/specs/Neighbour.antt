@@ -20,6 +20,7 @@ unfoldable pub repliesTo : ℕ → List ℕ → List Call → List Reply
 repliesTo o t cs = ofOwner o cs (replies t cs)
 
 -- ---- "never asks to hold more than twelve keys at once": a dictionary without a limit has at most n keys after each of the calls
+
 unfoldable pub atMost : ℕ → Dict → List Ask → Bool
 atMost n d [] = true
 atMost n d (a ∷ rest) = leb (length (freeAfter d a)) n && atMost n (freeAfter d a) rest

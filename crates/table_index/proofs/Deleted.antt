@@ -8,7 +8,8 @@ use mathlib.Core.List.{List}
 use lib.ListN.{List·getD-eq-default}
 use Rattle.table_index_search.specs.Index.{entries, entrySize, byteAt, ownerAt, slotAt, above, keyAt}
 use Rattle.table_index.specs.Change.{takenOut, deleted}
-use Rattle.table_index_search.specs.Means.{Keys, Entry, Agrees}
+use Rattle.table_index_search.specs.Private.{Keys}
+use Rattle.table_index_search.specs.Means.{Entry, Agrees}
 use Rattle.table_index.proofs.Change.{delete-none, delete-has}
 use Rattle.table_index.proofs.Bytes.{length-takenOut}
 use Rattle.table_index_search.proofs.Found.{one-place}

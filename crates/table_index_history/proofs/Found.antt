@@ -9,7 +9,7 @@ use mathlib.Core.List.{List}
 use lib.ListN.{length, getD}
 use borrow.Author.Tests.{eq-eqb, lt-ltb}
 use Rattle.table_slots.specs.Slots.{slots, slotSize, isOwner, key, joined, slot, tag}
-use Rattle.table_slots.specs.Marks.{mark}
+use Rattle.table_slots.specs.Inner.{mark}
 use Rattle.table_slots.proofs.Owner.{owner-range}
 use Rattle.table_slots.proofs.Marks.{mark-well}
 use Rattle.table.specs.Table.{place, wellFormed, keyPlace, findRefusal, foundAt, foundLength}
@@ -24,7 +24,7 @@ use Rattle.table_index_search.proofs.Agree.{index-sized}
 use Rattle.table_index.proofs.Laws.{slot-found, none-found}
 use Rattle.table_indexed.specs.Indexed.{entryKey, slotKeys}
 use Rattle.table_indexed.specs.Find.{probed, findNumber, partAt, partLength, foundBy}
-use Rattle.table_indexed.specs.Row.{missing, inSlot}
+use Rattle.table_indexed.specs.Private.{missing, inSlot}
 use Rattle.table_indexed.specs.declared.Found.{Found}
 use Rattle.table_indexed.proofs.Calls.{find-owner, find-group, find-none, find-slot, says}
 use Rattle.table_index_history.proofs.Keys.{tag-of-key, key-of-tag, key-in, key-out, keys}

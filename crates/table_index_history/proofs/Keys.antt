@@ -20,7 +20,8 @@ use Rattle.table.specs.Table.{put}
 use Rattle.table.proofs.Whole.{Formed}
 use Rattle.table_history.proofs.Look.{distinct-at}
 use Rattle.table_history.proofs.Put.{slot-same, slot-other, held-slotOf}
-use Rattle.table_index_search.specs.Means.{IsKey, markIn, Keys}
+use Rattle.table_index_search.specs.Private.{IsKey, Keys}
+use Rattle.table_index_search.specs.Means.{markIn}
 use Rattle.table_indexed.specs.Indexed.{entryKey, messageKey, slotKey, slotKeyAt, slotKeys}
 use Rattle.table_indexed.proofs.Slots.{key-free, key-used}
 

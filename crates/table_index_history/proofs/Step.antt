@@ -24,7 +24,7 @@ use Rattle.table_history.proofs.Look.{place-of}
 use Rattle.table_history.proofs.Step.{group-low, key-at}
 use Rattle.table_history.proofs.Last.{keep}
 use Rattle.table_index_search.specs.Agree.{agree}
-use Rattle.table_index_search.specs.Means.{IsKey}
+use Rattle.table_index_search.specs.Private.{IsKey}
 use Rattle.table_index.specs.Change.{inserted, deleted}
 use Rattle.table_index.proofs.Laws.{stored-new, stored-again, removed}
 use Rattle.table_indexed.specs.Indexed.{entryKey, messageKey, slotKey, slotKeys, agreesRefusal, storedTable, storedIndex, removedTable, removedIndex}

@@ -14,7 +14,8 @@ use Rattle.arith.proofs.Rows.{all-true}
 use Rattle.arith.proofs.Tests.{both-first, both-second, all-at, false-ne-true}
 use Rattle.table_index_search.specs.Index.{entries, entrySize, indexSize, byteAt, ownerAt, slotAt, above, numberAt, keyAt}
 use Rattle.table_index_search.specs.Agree.{zeroAt, blankAt, inOrder, isTrue, isEntry, entryPlace, isListed, agreeAt, agree}
-use Rattle.table_index_search.specs.Means.{markIn, Keys, Entry, Agrees}
+use Rattle.table_index_search.specs.Means.{markIn, Entry, Agrees}
+use Rattle.table_index_search.specs.Private.{Keys}
 use Rattle.arith.proofs.Places.{first}
 use Rattle.table_index_search.proofs.Entry.{key-used, used-low, used-if}
 use Rattle.table_index_search.proofs.Tests.{order-unused, order-first, order-rest, true-unused, true-used, listed-free, listed-used, agree-rest, agree-all}

@@ -3,3 +3,5 @@ pub mod Search
 pub mod Agree
 pub mod Means
 pub mod Place
+pub mod Private
+pub mod Inner

@@ -7,7 +7,8 @@ ghost use Rattle.arith.specs.Row.{allBelow};
 ghost use Rattle.table_index_search.specs.Index.{entries, entrySize, indexSize, byteAt, numberAt, keyAt};
 ghost use Rattle.table_index_search.specs.Search.{missedAfter, metAfter, binarySearch, searched};
 ghost use Rattle.table_index_search.specs.Agree.{blankAt, inOrder, isTrue, isEntry, entryPlace, isListed, agreeAt, agree};
-ghost use Rattle.table_index_search.specs.Place.{keyPlace, hasKey, placed};
+ghost use Rattle.table_index_search.specs.Place.{keyPlace, hasKey};
+ghost use Rattle.table_index_search.specs.Inner.{placed};
 
 pub const ENTRIES: usize = 32;
 

@@ -15,8 +15,7 @@ use Rattle.arith.proofs.Places.{first}
 use Rattle.message_rows.specs.Message.{numberOf, sinOf, refusal, header}
 use Rattle.message_rows.specs.declared.Header.{Header}
 use Rattle.table_slots.specs.Slots.{slots, most, slotSize, tableSize, isOwner, groupOf, key, keyOf, joined, slot, used, tag}
-use Rattle.table_slots.specs.Marks.{mark, marks}
-use Rattle.table_slots.specs.Places.{hasMark, markPlace, markOrFree}
+use Rattle.table_slots.specs.Inner.{mark, marks, hasMark, markPlace, markOrFree}
 use Rattle.table_slots.proofs.Owner.{owner-range}
 use Rattle.table_slots.proofs.Slot.{size-byte}
 use Rattle.table.specs.Table.{place, holding, wellFormed, storePlace, storeRefusal, storeTable, findRefusal, removeTable}
@@ -27,7 +26,7 @@ use Rattle.table_index_search.specs.Agree.{agree}
 use Rattle.table_index.specs.Change.{inserted, deleted, rebuilt}
 use Rattle.table_indexed.specs.Indexed.{entryKey, messageKey, slotKeys, agreesRefusal, writeRefusal, writeIndex, behind, storeNumber, storedTable, storedIndex, removeNumber, removedTable, removedIndex}
 use Rattle.table_indexed.specs.Find.{probed, usedBy, findNumber, given, partAt, partLength, foundBy}
-use Rattle.table_indexed.specs.Row.{entryIn, entryAdded, missing, inSlot}
+use Rattle.table_indexed.specs.Private.{entryIn, entryAdded, missing, inSlot}
 use Rattle.table_indexed.specs.declared.Found.{Found}
 use Rattle.table_indexed.proofs.Slots.{used-mark, used-well}
 

@@ -14,16 +14,16 @@ use Rattle.arith.proofs.Rows.{upTo-same}
 use Rattle.message_rows.specs.Message.{numberOf, sinOf}
 use Rattle.message_rows.proofs.Limits.{sin-most}
 use Rattle.table_slots.specs.Slots.{slots, isOwner, groupOf, key, keyOf, joined, slot, held, allZero, used, wellSlot, tag}
-use Rattle.table_slots.specs.Marks.{noTag, mark, marks}
+use Rattle.table_slots.specs.Inner.{noTag, mark, marks}
 use Rattle.table_slots.proofs.Owner.{owner-range}
 use Rattle.table_slots.proofs.Slot.{tag-free, tag-used, used-of, or-right, not-zero}
 use Rattle.table_slots.proofs.Marks.{mark-well, mark-ill, group-most, tag-most, mark-in}
 use Rattle.table.specs.Table.{wellFormed}
-use Rattle.table.specs.Checked.{checkedMarks}
+use Rattle.table.specs.Inner.{checkedMarks}
 use Rattle.table.proofs.Whole.{formed}
 use Rattle.table_indexed.specs.Indexed.{entryKey, messageKey, slotKey, slotKeyAt, slotKeys}
 use Rattle.table_indexed.specs.Find.{usedBy}
-use Rattle.table_indexed.specs.Row.{markKey, markKeyAt}
+use Rattle.table_indexed.specs.Private.{markKey, markKeyAt}
 
 -- ---- keys
 

@@ -1,4 +1,4 @@
 pub mod Indexed
 pub mod Find
-pub mod Row
-pub mod Shown
+pub mod Private
+pub mod Inner

@@ -15,7 +15,7 @@ use Rattle.message_rows.specs.declared.Header.{Header}
 use Rattle.message_rows.specs.Message.{numberOf, refusal, header}
 use Rattle.message_rows.proofs.Limits.{sin-most}
 use Rattle.table_slots.specs.Slots.{slots, tableSize, groupOf, key, keyOf, joined, slot, held, wellSlot, tag}
-use Rattle.table_slots.specs.Marks.{noTag, mark, markAt, marks}
+use Rattle.table_slots.specs.Inner.{noTag, mark, markAt, marks}
 use Rattle.table_slots.proofs.Owner.{owner-range}
 use Rattle.table_slots.proofs.Slot.{tag-free, tag-used, used-of}
 

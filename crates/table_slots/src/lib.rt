@@ -5,8 +5,7 @@ ghost use Prim.Native.Nat.{suc, _<_, _≤_};
 ghost use lib.Dec.{eqb};
 ghost use lib.ListN.{length, getD};
 ghost use Rattle.table_slots.specs.Slots.{slots, slotSize, tableSize, isOwner, groupOf, key, joined, allZero};
-ghost use Rattle.table_slots.specs.Marks.{noTag, mark, markAt, marks};
-ghost use Rattle.table_slots.specs.Places.{markPlace, flawedMark, soundMarks, markOrFree};
+ghost use Rattle.table_slots.specs.Inner.{noTag, mark, markAt, marks, markPlace, flawedMark, soundMarks, markOrFree};
 
 pub const SLOTS: usize = 32;
 

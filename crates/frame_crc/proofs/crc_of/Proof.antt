@@ -2,7 +2,8 @@
 -- Assumes nothing.
 use mathlib.Core.Path.{refl}
 use borrow.Author.Needs.{needs}
-use Rattle.frame_crc.specs.Crc.{reduced, crcBit, crcBits, part, parts}
+use Rattle.frame_crc.specs.Crc.{reduced, crcBit, crcBits}
+use Rattle.frame_crc.specs.Private.{part, parts}
 use Rattle.frame_crc.proofs.crc_of.Statement.{statement}
 use Rattle.frame_crc.proofs.crc_of.Tie as tie
 

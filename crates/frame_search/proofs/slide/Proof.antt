@@ -4,7 +4,7 @@ use Prim.Native.Nat.{_-_}
 use mathlib.Core.Path.{_≡_, sym, _∙_}
 use native.Mathlib.Omega.{arith}
 use borrow.Author.Needs.{needs}
-use Rattle.frame_search.specs.Search.{slid}
+use Rattle.frame_search.specs.Inner.{slid}
 use Rattle.frame_search.proofs.Moved.{keeps, keeps-none, past-window}
 use Rattle.frame_search.proofs.slide.Statement.{statement}
 use Rattle.frame_search.proofs.slide.Tie as tie

@@ -9,7 +9,7 @@ use lib.IntN.{ℤ, natAbs, _+ℤ_}
 use Rattle.arith.proofs.Machine.{is-back}
 use Rattle.arith.proofs.Back.{held}
 use Rattle.grid_bilinear.specs.Bilinear.{nearestWhole}
-use Rattle.grid_cell.specs.Cell.{nodesHeld, areaOf, weightsHeld, inBounds, sumBy}
+use Rattle.grid_cell.specs.Inner.{nodesHeld, areaOf, weightsHeld, inBounds, sumBy}
 use Rattle.grid_cell.proofs.Held.{weighed-of, most-of, count-held, count-none}
 use Rattle.grid_cell.proofs.count_by.Statement.{statement}
 use Rattle.grid_cell.proofs.count_by.Tie as tie

@@ -7,7 +7,7 @@ use borrow.Author.Needs.{needs}
 use lib.IntN.{natAbs}
 use Rattle.grid_bilinear.specs.Bilinear.{nearestWhole}
 use Rattle.arith.proofs.Machine.{Num, arg, result, add, fits, passed}
-use Rattle.grid_cell.specs.Cell.{areaOf}
+use Rattle.grid_cell.specs.Inner.{areaOf}
 use Rattle.grid_cell.proofs.Sum.{sum-by-most, near-by-most}
 use Rattle.grid_cell.proofs.count_of.Statement.{statement}
 use Rattle.grid_cell.proofs.count_of.Tie as tie

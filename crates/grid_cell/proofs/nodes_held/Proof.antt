@@ -11,7 +11,7 @@ use lib.Signed.{mag}
 use mir.Syntax.{w64}
 use mir.Val.{toZ, ofZ}
 use Rattle.arith.proofs.Back.{held}
-use Rattle.grid_cell.specs.Cell.{nodesHeld}
+use Rattle.grid_cell.specs.Inner.{nodesHeld}
 use Rattle.grid_cell.proofs.nodes_held.Statement.{statement}
 use Rattle.grid_cell.proofs.nodes_held.Tie as tie
 

@@ -1,7 +1,7 @@
 -- `grid_cell::place_held` meets its contract.
 -- Assumes nothing.
 use Rattle.arith.proofs.Order.{tests}
-use Rattle.grid_cell.specs.Cell.{placeHeld}
+use Rattle.grid_cell.specs.Inner.{placeHeld}
 use Rattle.grid_cell.proofs.place_held.Statement.{statement}
 use Rattle.grid_cell.proofs.place_held.Tie as tie
 

@@ -6,7 +6,7 @@ use native.Mathlib.Nat.{mul-le-mul-left, le-trans}
 use borrow.Author.Needs.{needs}
 use lib.IntN.{natAbs}
 use Rattle.arith.proofs.Machine.{Num, arg, cast, result, mul, fits, passed}
-use Rattle.grid_cell.specs.Cell.{weightedBy}
+use Rattle.grid_cell.specs.Inner.{weightedBy}
 use Rattle.grid_cell.proofs.Sum.{sum-by-most}
 use Rattle.grid_cell.proofs.sum_by.Statement.{statement}
 use Rattle.grid_cell.proofs.sum_by.Tie as tie

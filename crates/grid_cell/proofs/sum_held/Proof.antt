@@ -2,7 +2,7 @@
 -- Assumes nothing.
 use mathlib.Core.Path.{sym, _∙_}
 use borrow.Author.Tests.{not-true, not-false, le-leb, lt-leb}
-use Rattle.grid_cell.specs.Cell.{sumHeld}
+use Rattle.grid_cell.specs.Inner.{sumHeld}
 use Rattle.grid_cell.proofs.sum_held.Statement.{statement}
 use Rattle.grid_cell.proofs.sum_held.Tie as tie
 

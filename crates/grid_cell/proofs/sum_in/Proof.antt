@@ -5,7 +5,7 @@ use mathlib.Core.Bool.{true}
 use borrow.Author.Needs.{needs}
 use borrow.Author.Tests.{not-true, not-false}
 use Rattle.arith.proofs.Back.{held}
-use Rattle.grid_cell.specs.Cell.{sumHeld}
+use Rattle.grid_cell.specs.Inner.{sumHeld}
 use Rattle.grid_cell.proofs.Held.{held-says, sum-held, sum-none}
 use Rattle.grid_cell.proofs.sum_in.Statement.{statement}
 use Rattle.grid_cell.proofs.sum_in.Tie as tie

@@ -5,7 +5,7 @@ use Prim.Native.Nat.{_≤_}
 use borrow.Author.Needs.{needs}
 use Rattle.arith.proofs.Back.{held}
 use Rattle.grid_bilinear.specs.Bilinear.{weighted}
-use Rattle.grid_cell.specs.Cell.{areaOf, sumBy}
+use Rattle.grid_cell.specs.Inner.{areaOf, sumBy}
 use Rattle.grid_cell.specs.declared.Weights.{Weights}
 use Rattle.grid_cell.proofs.Sum.{weighed}
 use Rattle.grid_cell.proofs.sum_of.Statement.{statement}

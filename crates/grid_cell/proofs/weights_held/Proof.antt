@@ -3,7 +3,7 @@
 use native.Mathlib.Omega.{arith}
 use borrow.Author.Needs.{needs}
 use borrow.Author.Tests.{eq-eqb, ne-eqb}
-use Rattle.grid_cell.specs.Cell.{areaOf, weightsHeld}
+use Rattle.grid_cell.specs.Inner.{areaOf, weightsHeld}
 use Rattle.grid_cell.proofs.Held.{too-heavy}
 use Rattle.grid_cell.proofs.weights_held.Statement.{statement}
 use Rattle.grid_cell.proofs.weights_held.Tie as tie

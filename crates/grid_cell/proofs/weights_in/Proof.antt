@@ -4,7 +4,7 @@ use mathlib.Core.Path.{_≡_, sym, _∙_}
 use mathlib.Core.Bool.{true}
 use borrow.Author.Needs.{needs}
 use borrow.Author.Tests.{not-true, not-false}
-use Rattle.grid_cell.specs.Cell.{placeHeld, weightsIn}
+use Rattle.grid_cell.specs.Inner.{placeHeld, weightsIn}
 use Rattle.grid_cell.proofs.Held.{within-of}
 use Rattle.grid_cell.proofs.weights_in.Statement.{statement}
 use Rattle.grid_cell.proofs.weights_in.Tie as tie

@@ -7,11 +7,11 @@ use borrow.Author.Needs.{needs}
 use borrow.Author.Tests.{eq-eqb, ne-eqb}
 use Rattle.arith.proofs.Back.{held}
 use Rattle.arith.proofs.Machine.{is-back}
-use Rattle.grid_fields.specs.Fields.{meanSays}
-use Rattle.grid_place.specs.Position.{heldPlace}
+use Rattle.grid_fields.specs.Inner.{meanSays}
+use Rattle.grid_place.specs.Inner.{heldPlace}
 use Rattle.grid_place.specs.declared.Located.{Located}
-use Rattle.grid_counts.specs.Counts.{cellCount}
-use Rattle.grid_component.specs.Part.{countedBy}
+use Rattle.grid_counts.specs.Inner.{cellCount}
+use Rattle.grid_component.specs.Inner.{countedBy}
 use Rattle.grid_component.proofs.count_at.Statement.{statement}
 use Rattle.grid_component.proofs.count_at.Tie as tie
 

@@ -1,7 +1,7 @@
 -- `grid_component::keep` meets its contract.
 -- Assumes nothing.
 use borrow.Author.Needs.{needs}
-use Rattle.grid_component.specs.Part.{keptOf}
+use Rattle.grid_component.specs.Inner.{keptOf}
 use Rattle.grid_component.proofs.keep.Statement.{statement}
 use Rattle.grid_component.proofs.keep.Tie as tie
 

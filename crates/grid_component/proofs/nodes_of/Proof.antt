@@ -5,7 +5,7 @@ use mathlib.Core.List.{List}
 use Prim.Native.Nat.{ℕ, zero, suc, _≤_, min}
 use native.Mathlib.Omega.{arith}
 use borrow.Author.Needs.{needs}
-use Rattle.grid_fields.specs.NodeFields.{nodeSays, cellSays}
+use Rattle.grid_fields.specs.Inner.{nodeSays, cellSays}
 use Rattle.grid_fields.specs.declared.Cells.{Cells}
 use Rattle.grid_fields.specs.declared.Nodes.{Nodes}
 use Rattle.grid_component.proofs.nodes_of.Statement.{statement}

@@ -3,7 +3,7 @@
 use mathlib.Core.Path.{_∙_}
 use borrow.Author.Needs.{needs}
 use Rattle.arith.proofs.Machine.{is-back}
-use Rattle.grid_component.specs.Part.{countedBy}
+use Rattle.grid_component.specs.Inner.{countedBy}
 use Rattle.grid_component.proofs.Counts.{counted-is}
 use Rattle.grid_component.proofs.part_at.Statement.{statement}
 use Rattle.grid_component.proofs.part_at.Tie as tie

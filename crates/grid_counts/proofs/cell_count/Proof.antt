@@ -11,7 +11,7 @@ use Rattle.layout.specs.Layout.{valueIn}
 use Rattle.grid_bilinear.specs.Bilinear.{lacks}
 use Rattle.grid_cell.specs.declared.Corners.{Corners}
 use Rattle.grid_refusals.specs.Refusals.{available}
-use Rattle.grid_counts.specs.Counts.{valuesIn}
+use Rattle.grid_counts.specs.Inner.{valuesIn}
 use Rattle.grid_counts.specs.Private.{asked}
 use Rattle.grid_fields.specs.declared.Nodes.{Nodes}
 use Rattle.grid_cell.specs.declared.Weights.{Weights}

@@ -7,7 +7,7 @@ use borrow.Author.Needs.{needs}
 use Rattle.arith.proofs.Back.{held}
 use Rattle.arith.proofs.Int.{abs-mul}
 use Rattle.arith.proofs.Machine.{Num, lit, arg, mul, fits, is-back}
-use Rattle.grid_cell.specs.Cell.{countBy}
+use Rattle.grid_cell.specs.Inner.{countBy}
 use Rattle.grid_counts.specs.Counts.{nodeFactor, meanFactor}
 use Rattle.grid_counts.proofs.Bounds.{past-none}
 use Rattle.grid_counts.proofs.count_in.Statement.{statement}

@@ -7,7 +7,7 @@ use borrow.Author.Needs.{needs}
 use borrow.Author.Tests.{eq-eqb, ne-eqb, lt-ltb}
 use lib.IntN.{natAbs}
 use Rattle.arith.proofs.Machine.{is-back}
-use Rattle.grid_direction.specs.Direction.{alongOf}
+use Rattle.grid_direction.specs.Inner.{alongOf}
 use Rattle.grid_direction.proofs.Placed.{along-out, unplaced-is, far-outside}
 use Rattle.grid_direction.proofs.along.Statement.{statement}
 use Rattle.grid_direction.proofs.along.Tie as tie

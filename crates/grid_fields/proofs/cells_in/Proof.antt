@@ -4,7 +4,7 @@ use mathlib.Core.Path.{_≡_, refl, ap, _∙_}
 use Prim.Native.Nat.{ℕ, _+_, _-_, _*_}
 use native.Mathlib.Omega.{arith}
 use borrow.Author.Needs.{needs}
-use Rattle.field.specs.Field.{fieldAt}
+use Rattle.field.specs.Inner.{fieldAt}
 use Rattle.grid_fields.specs.Private.{firstBit, componentsOf}
 use Rattle.grid_fields.proofs.Pairs.{first-most, cell-said}
 use Rattle.grid_fields.proofs.cells_in.Statement.{statement}

@@ -1,7 +1,7 @@
 -- `grid_fields::means_1023` meets its contract.
 -- Assumes nothing.
 use borrow.Author.Needs.{needs}
-use Rattle.field.specs.Field.{signedAt}
+use Rattle.field.specs.Inner.{signedAt}
 use Rattle.layout.specs.Layout.{total}
 use Rattle.layout_tables.specs.Layouts.{layout1023}
 use Rattle.record_grids.specs.Grids.{shiftsAt}

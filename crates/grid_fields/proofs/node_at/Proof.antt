@@ -5,8 +5,8 @@ use Prim.Native.Nat.{ℕ, _+_, _*_, min}
 use native.Mathlib.Omega.{arith}
 use borrow.Author.Tests.{le-ltb}
 use borrow.Author.Needs.{needs}
-use Rattle.field.specs.Field.{signedAt}
-use Rattle.grid_fields.specs.NodeFields.{nodeSays}
+use Rattle.field.specs.Inner.{signedAt}
+use Rattle.grid_fields.specs.Inner.{nodeSays}
 use Rattle.grid_fields.proofs.Pairs.{first-most, node-at-bit}
 use Rattle.grid_fields.proofs.node_at.Statement.{statement}
 use Rattle.grid_fields.proofs.node_at.Tie as tie

@@ -3,7 +3,7 @@
 use mathlib.Core.Path.{_∙_}
 use borrow.Author.Needs.{needs}
 use borrow.Author.Tests.{lt-ltb, le-ltb}
-use Rattle.grid_fields.specs.NodeFields.{cellSays}
+use Rattle.grid_fields.specs.Inner.{cellSays}
 use Rattle.grid_fields.proofs.nodes_at.Statement.{statement}
 use Rattle.grid_fields.proofs.nodes_at.Tie as tie
 

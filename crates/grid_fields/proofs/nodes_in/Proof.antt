@@ -6,7 +6,7 @@ use Prim.Native.Nat.{ℕ, _+_}
 use native.Mathlib.Nat.{add-assoc}
 use borrow.Author.Needs.{needs}
 use Rattle.field.specs.declared.Reading.{Reading}
-use Rattle.grid_fields.specs.NodeFields.{nodeSays}
+use Rattle.grid_fields.specs.Inner.{nodeSays}
 use Rattle.grid_fields.proofs.nodes_in.Statement.{statement}
 use Rattle.grid_fields.proofs.nodes_in.Tie as tie
 

@@ -10,7 +10,7 @@ use Rattle.arith.proofs.Back.{held}
 use Rattle.layout.specs.Layout.{valueIn}
 use Rattle.record_grids.specs.declared.Frame.{Frame}
 use Rattle.grid_refusals.specs.Refusals.{ellipsoidal}
-use Rattle.grid_place.specs.Position.{spacingHeld, frameHeld}
+use Rattle.grid_place.specs.Inner.{spacingHeld, frameHeld}
 use Rattle.grid_place.proofs.frame_held.Statement.{statement}
 use Rattle.grid_place.proofs.frame_held.Tie as tie
 

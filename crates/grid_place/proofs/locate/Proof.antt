@@ -5,7 +5,7 @@ use mathlib.Core.Bool.{true}
 use borrow.Author.Needs.{needs}
 use borrow.Author.Tests.{not-true, not-false}
 use Rattle.arith.proofs.Machine.{is-back}
-use Rattle.grid_place.specs.Position.{frameHeld, located}
+use Rattle.grid_place.specs.Inner.{frameHeld, located}
 use Rattle.grid_place.proofs.Held.{held-fields, place-held, no-frame}
 use Rattle.grid_place.proofs.locate.Statement.{statement}
 use Rattle.grid_place.proofs.locate.Tie as tie

@@ -8,7 +8,7 @@ use borrow.Author.Tests.{not-true, not-false}
 use mir.Syntax.{w64}
 use mir.Val.{toZ, ofZ}
 use Rattle.arith.proofs.Machine.{is-back}
-use Rattle.grid_place.specs.Position.{frameHeld, located, heldPlace, sidesOf, heldSides}
+use Rattle.grid_place.specs.Inner.{frameHeld, located, heldPlace, sidesOf, heldSides}
 use Rattle.grid_place.specs.declared.Located.{Located}
 use Rattle.grid_place.proofs.Held.{held-fields, place-held, no-frame}
 use Rattle.grid_place.proofs.locate_sides.Statement.{statement}

@@ -12,13 +12,13 @@ use Rattle.arith.proofs.Back.{held}
 use Rattle.arith.proofs.Machine.{is-back}
 use Rattle.layout.specs.Layout.{valueIn}
 use Rattle.grid_bilinear.specs.Bilinear.{outside}
-use Rattle.grid_direction.specs.Direction.{alongOf}
+use Rattle.grid_direction.specs.Inner.{alongOf}
 use Rattle.grid_direction.specs.declared.Place.{Place}
 use Rattle.grid_direction.proofs.Placed.{along-refusal}
 use Rattle.record_grids.specs.declared.Frame.{Frame}
 use Rattle.grid_refusals.specs.Refusals.{ellipsoidal, fieldTests}
 use Rattle.grid_place.specs.Position.{stepsOf, eastBy}
-use Rattle.grid_place.specs.Position.{heightOf, widthOf, northFrom, eastFrom, placeOf}
+use Rattle.grid_place.specs.Inner.{heightOf, widthOf, northFrom, eastFrom, placeOf}
 use Rattle.grid_place.proofs.Places.{Early, early, Spaced, spacings, steps-some, turn-most, in-cell, outside-yes, outside-no, early-out, north-out, east-out, both-in}
 use Rattle.grid_place.proofs.place_of.Statement.{statement}
 use Rattle.grid_place.proofs.place_of.Tie as tie

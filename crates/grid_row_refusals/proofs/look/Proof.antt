@@ -9,7 +9,7 @@ use borrow.Author.Needs.{needs}
 use Rattle.arith.specs.Row.{allBelow}
 use Rattle.arith.proofs.Machine.{is-back}
 use Rattle.grid_cell.specs.Private.{Within}
-use Rattle.grid_place.specs.Position.{heldPlace}
+use Rattle.grid_place.specs.Inner.{heldPlace}
 use Rattle.grid_place.specs.declared.Located.{Located}
 use Rattle.grid_row_refusals.specs.Private.{lackingAt}
 use Rattle.grid_row_refusals.proofs.Reaches.{Reaches, reaches}

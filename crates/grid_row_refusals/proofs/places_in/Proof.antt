@@ -4,7 +4,7 @@ use native.Mathlib.Nat.{min-eq-left, min-eq-right}
 use native.Mathlib.Omega.{arith}
 use borrow.Author.Needs.{needs}
 use borrow.Author.Tests.{lt-ltb, le-ltb, eq-eqb, ne-eqb}
-use Rattle.grid_row_refusals.specs.Row.{placesIn}
+use Rattle.grid_row_refusals.specs.Inner.{placesIn}
 use Rattle.grid_row_refusals.proofs.places_in.Statement.{statement}
 use Rattle.grid_row_refusals.proofs.places_in.Tie as tie
 

@@ -9,7 +9,7 @@ use borrow.Author.Needs.{needs}
 use Rattle.grid_cell.specs.Private.{Within}
 use Rattle.grid_cell.specs.declared.Weights.{Weights}
 use Rattle.grid_cell.proofs.Held.{weights-in-is}
-use Rattle.grid_counts.specs.Counts.{lacking}
+use Rattle.grid_counts.specs.Inner.{lacking}
 use Rattle.grid_row_refusals.specs.Private.{lackingAt}
 use Rattle.grid_row_refusals.proofs.Lacking.{first-lacks, second-lacks, one-has, two-have}
 use Rattle.grid_row_refusals.proofs.run_refusal.Statement.{statement}

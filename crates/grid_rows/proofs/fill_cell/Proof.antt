@@ -9,7 +9,7 @@ use mir.Syntax.{w64}
 use mir.Val.{toZ, ofZ}
 use Rattle.arith.proofs.Machine.{is-back}
 use Rattle.grid_cell.proofs.Sum.{area-most, fits-weight}
-use Rattle.grid_rows.specs.Going.{numberOf}
+use Rattle.grid_rows.specs.Private.{numberOf}
 use Rattle.grid_rows.proofs.Line.{second-in, alone, growing}
 use Rattle.grid_rows.proofs.fill_cell.Statement.{statement}
 use Rattle.grid_rows.proofs.fill_cell.Tie as tie

@@ -12,16 +12,15 @@ use Rattle.arith.specs.Row.{upTo}
 use Rattle.arith.proofs.Back.{held}
 use Rattle.arith.proofs.Machine.{Num, cast, fits, is-back}
 use Rattle.layout.specs.Layout.{valueIn}
-use Rattle.grid_fields.specs.Fields.{meanSays}
-use Rattle.grid_fields.specs.NodeFields.{cellSays}
-use Rattle.grid_place.specs.Position.{heldPlace}
+use Rattle.grid_fields.specs.Inner.{meanSays, cellSays}
+use Rattle.grid_place.specs.Inner.{heldPlace}
 use Rattle.grid_place.specs.declared.Located.{Located}
-use Rattle.grid_counts.specs.Counts.{nodeFactor, meanFactor, valuesIn}
+use Rattle.grid_counts.specs.Counts.{nodeFactor, meanFactor}
+use Rattle.grid_counts.specs.Inner.{valuesIn}
 use Rattle.grid_row_refusals.specs.Row.{eastAt}
 use Rattle.grid_row_refusals.proofs.Reaches.{Reaches, reaches}
 use Rattle.grid_row_refusals.proofs.Rest.{stands, way-most}
-use Rattle.grid_rows.specs.Going.{cellCounts}
-use Rattle.grid_rows.specs.Private.{countAt}
+use Rattle.grid_rows.specs.Private.{cellCounts, countAt}
 use Rattle.grid_rows.proofs.Counts.{bounds, counts-are}
 use Rattle.grid_rows.proofs.fill_from.Statement.{statement}
 use Rattle.grid_rows.proofs.fill_from.Tie as tie

@@ -13,12 +13,12 @@ use Rattle.arith.proofs.Machine.{Num, lit, result, mul, fits, is-back}
 use Rattle.field.specs.declared.Reading.{Reading}
 use Rattle.layout.specs.Layout.{valueIn}
 use Rattle.grid_cell.specs.declared.Corners.{Corners}
-use Rattle.grid_fields.specs.Fields.{meanSays}
-use Rattle.grid_fields.specs.NodeFields.{cellSays}
+use Rattle.grid_fields.specs.Inner.{meanSays, cellSays}
 use Rattle.grid_fields.specs.declared.Nodes.{Nodes}
 use Rattle.grid_place.specs.declared.Located.{Located}
-use Rattle.grid_counts.specs.Counts.{nodeFactor, valuesIn}
-use Rattle.grid_rows.specs.Going.{cellCounts}
+use Rattle.grid_counts.specs.Counts.{nodeFactor}
+use Rattle.grid_counts.specs.Inner.{valuesIn}
+use Rattle.grid_rows.specs.Private.{cellCounts}
 use Rattle.grid_rows.proofs.Counts.{run-of}
 use Rattle.grid_rows.proofs.fill_run.Statement.{statement}
 use Rattle.grid_rows.proofs.fill_run.Tie as tie

@@ -8,10 +8,10 @@ use lib.IntN.{ℤ, natAbs}
 use mir.Syntax.{w64}
 use mir.Val.{toZ, ofZ}
 use Rattle.arith.proofs.Back.{held}
-use Rattle.grid_cell.specs.Cell.{sumOf}
+use Rattle.grid_cell.specs.Inner.{sumOf}
 use Rattle.grid_cell.proofs.Sum.{area-most, sum-most, fits-weight}
 use Rattle.grid_cell.proofs.Held.{says-held, sum-held}
-use Rattle.grid_rows.specs.Going.{Split}
+use Rattle.grid_rows.specs.Private.{Split}
 use Rattle.grid_rows.proofs.part_at.Statement.{statement}
 use Rattle.grid_rows.proofs.part_at.Tie as tie
 

@@ -10,7 +10,7 @@ use mir.Syntax.{w64}
 use mir.Val.{toZ, ofZ}
 use Rattle.arith.proofs.Back.{held}
 use Rattle.arith.proofs.Machine.{is-back}
-use Rattle.grid_counts.specs.Counts.{cellCount}
+use Rattle.grid_counts.specs.Inner.{cellCount}
 use Rattle.grid_counts.specs.declared.Counted.{Counted}
 use Rattle.grid_counts.proofs.Bounds.{cell-most}
 use Rattle.grid_shifts.specs.Shift.{answerOf, outcome}

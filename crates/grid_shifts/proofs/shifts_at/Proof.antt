@@ -15,14 +15,13 @@ use Rattle.record_grids.specs.declared.Frame.{Frame}
 use Rattle.record_grids.specs.declared.Grid.{Grid}
 use Rattle.record_grids.specs.declared.Shifts.{Shifts}
 use Rattle.record_grids.specs.Grids.{gridOf, frameOf, shiftsAt}
-use Rattle.grid_fields.specs.Fields.{meanSays}
-use Rattle.grid_fields.specs.NodeFields.{cellSays, cellsSay}
+use Rattle.grid_fields.specs.Inner.{meanSays, cellSays, cellsSay}
 use Rattle.grid_fields.proofs.Says.{grid-long}
 use Rattle.grid_fields.specs.declared.Nodes.{Nodes}
 use Rattle.grid_fields.specs.declared.Cells.{Cells}
 use Rattle.message_rows.specs.Message.{row, kindRefusal}
 use Rattle.grid_cell.specs.declared.Weights.{Weights}
-use Rattle.grid_place.specs.Position.{heldSides}
+use Rattle.grid_place.specs.Inner.{heldSides}
 use Rattle.grid_place.specs.declared.Located.{Located}
 use Rattle.grid_shifts.specs.Shift.{shiftWith, threeOf, messageShift, messageShifts}
 use Rattle.grid_shifts.specs.Private.{Held, nodesIn, partShift}

@@ -17,9 +17,10 @@ use Rattle.record_grids.specs.Grids.{frameOf}
 use Rattle.grid_fields.specs.declared.Nodes.{Nodes}
 use Rattle.message_records.specs.Kinds.{gridHeld}
 use Rattle.grid_cell.specs.declared.Weights.{Weights}
-use Rattle.grid_place.specs.Position.{heldSides}
+use Rattle.grid_place.specs.Inner.{heldSides}
 use Rattle.grid_place.specs.declared.Located.{Located}
-use Rattle.grid_shifts.specs.Shift.{part, shiftWith, threeOf, recordShift, recordShifts}
+use Rattle.grid_shifts.specs.Shift.{part, shiftWith, threeOf, recordShift}
+use Rattle.grid_shifts.specs.Inner.{recordShifts}
 use Rattle.grid_shifts.specs.Private.{Held, nodesIn, partShift}
 use Rattle.grid_shifts.specs.declared.Shift.{Shift}
 use Rattle.grid_shifts.proofs.Parts.{call-part}

@@ -4,7 +4,8 @@ use mathlib.Core.Path.{sym, _∙_}
 use native.Mathlib.Omega.{arith}
 use borrow.Author.Tests.{ne-eqb}
 use borrow.Author.Needs.{needs}
-use Rattle.layout_tables.specs.Layouts.{layoutOf, layoutBy}
+use Rattle.layout_tables.specs.Layouts.{layoutOf}
+use Rattle.layout_tables.specs.Inner.{layoutBy}
 use Rattle.layout_by_number.proofs.Named.{check-1021, check-1022, check-none}
 use Rattle.layout_by_number.proofs.check_other.Statement.{statement}
 use Rattle.layout_by_number.proofs.check_other.Tie as tie

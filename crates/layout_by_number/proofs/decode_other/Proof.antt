@@ -5,7 +5,7 @@ use mathlib.Core.Path.{sym, ap, _∙_}
 use mathlib.Core.List.{List}
 use lib.Seq.{length-take-le}
 use native.Mathlib.Omega.{arith}
-use Rattle.layout.specs.Layout.{refusalOf}
+use Rattle.layout.specs.Inner.{refusalOf}
 use Rattle.layout_by_number.proofs.Checked.{read-by}
 use borrow.Author.Needs.{needs}
 use Rattle.layout_by_number.proofs.decode_other.Statement.{statement}

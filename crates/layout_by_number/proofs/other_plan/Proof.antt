@@ -4,7 +4,8 @@ use mathlib.Core.Path.{refl, sym, _∙_}
 use native.Mathlib.Omega.{arith}
 use borrow.Author.Tests.{ne-eqb}
 use borrow.Author.Needs.{needs}
-use Rattle.layout_tables.specs.Layouts.{layoutOf, layoutBy, tail1021, tail1022, layout1021, layout1022}
+use Rattle.layout_tables.specs.Layouts.{layoutOf, tail1021, tail1022, layout1021, layout1022}
+use Rattle.layout_tables.specs.Inner.{layoutBy}
 use Rattle.layout_by_number.proofs.other_plan.Statement.{statement}
 use Rattle.layout_by_number.proofs.other_plan.Tie as tie
 

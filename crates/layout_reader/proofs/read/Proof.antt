@@ -6,7 +6,8 @@ use Prim.Native.Nat.{ℕ, _*_, _≤_}
 use native.Mathlib.Omega.{arith}
 use lib.ListN.{length}
 use borrow.Author.Tests.{not-true, not-false, le-ltb}
-use Rattle.layout.specs.Layout.{total, bitsOf}
+use Rattle.layout.specs.Layout.{total}
+use Rattle.layout.specs.Inner.{bitsOf}
 use Rattle.layout.proofs.Loop.{total-most}
 use Rattle.layout_reader.proofs.Answer.{left, too-many, loaded, stands}
 use borrow.Author.Needs.{needs}

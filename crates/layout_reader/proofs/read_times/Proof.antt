@@ -12,7 +12,7 @@ use lib.ListN.{length, replicate, length-replicate}
 use borrow.Author.Tests.{not-true, not-false}
 use Rattle.layout.specs.Layout.{width}
 use Rattle.layout.proofs.Round.{total-times}
-use Rattle.layout_reader.specs.Load.{readable}
+use Rattle.layout_reader.specs.Inner.{readable}
 use Rattle.layout_reader.proofs.Answer.{left, too-many, loaded, stands}
 use borrow.Author.Needs.{needs}
 use Rattle.layout_reader.proofs.read_times.Statement.{statement}

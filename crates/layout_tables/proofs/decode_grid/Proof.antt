@@ -5,7 +5,8 @@ use mathlib.Core.List.{List, _++_}
 use Prim.Native.Nat.{ℕ, _+_, _*_, _≤_}
 use native.Mathlib.Omega.{arith}
 use lib.ListN.{length, length-append}
-use Rattle.layout.specs.Layout.{total, refusalOf}
+use Rattle.layout.specs.Layout.{total}
+use Rattle.layout.specs.Inner.{refusalOf}
 use Rattle.layout.proofs.Round.{total-append, accepted}
 use Rattle.layout_tables.specs.Layouts.{points}
 use Rattle.layout_tables.proofs.Parts.{length-points, total-points}

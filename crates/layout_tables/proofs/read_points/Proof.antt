@@ -7,7 +7,7 @@ use native.Mathlib.Omega.{arith}
 use lib.IntN.{ℤ}
 use lib.ListN.{length, replicate}
 use borrow.Rule.Slice.PartMut.{midOf, putMid}
-use Rattle.layout_reader.specs.Load.{valuesLoaded, presentLoaded}
+use Rattle.layout_reader.specs.Inner.{valuesLoaded, presentLoaded}
 use Rattle.layout_tables.specs.Private.{nodes}
 use Rattle.layout_tables.proofs.Parts.{mid-length, length-nodes, total-nodes, part-loaded}
 use borrow.Author.Needs.{needs}

@@ -3,7 +3,7 @@
 use Prim.Native.Nat.{ℕ}
 use mathlib.Core.Path.{sym, ap, _∙_}
 use mathlib.Core.List.{List}
-use Rattle.layout.specs.Layout.{refusalOf}
+use Rattle.layout.specs.Inner.{refusalOf}
 use Rattle.message_rows.proofs.Head.{counted-layout, refused-head, head-passed}
 use borrow.Author.Needs.{needs}
 use Rattle.message_rows.proofs.check_counted.Statement.{statement}

@@ -4,7 +4,7 @@ use Prim.Native.Nat.{ℕ, _+_, _*_, _<_}
 use mathlib.Core.Path.{_≡_, sym, ap, _∙_}
 use mathlib.Core.List.{List}
 use native.Mathlib.Omega.{arith}
-use Rattle.field.specs.Field.{fieldAt}
+use Rattle.field.specs.Inner.{fieldAt}
 use Rattle.field.proofs.Place.{fieldAt-lt}
 use Rattle.message_rows.proofs.Head.{number-read, head-of, accepted-head, counted-low, counted-sin}
 use Rattle.message_rows.proofs.Sin.{sin-read}

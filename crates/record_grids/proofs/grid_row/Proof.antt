@@ -6,7 +6,7 @@ use mathlib.Core.List.{_++_}
 use lib.ListN.{length, replicate}
 use Rattle.arith.proofs.Back.{held}
 use Rattle.record_rows.specs.Numbers.{valuesOf, presentOf}
-use Rattle.record_rows.specs.Buffers.{buffers}
+use Rattle.record_rows.specs.Inner.{buffers}
 use Rattle.record_grids.specs.Grids.{nodesRow}
 use Rattle.record_grids.specs.Private.{startRow, endRow}
 use Rattle.record_grids.proofs.Appends.{grid-parts}

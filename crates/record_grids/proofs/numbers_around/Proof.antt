@@ -5,10 +5,10 @@ use mathlib.Core.List.{[], _++_}
 use Prim.Native.Nat.{_+_, _≤_}
 use native.Mathlib.Omega.{arith}
 use lib.ListN.{length, length-append, length-map}
-use Rattle.arith.specs.Row.{padded}
+use Rattle.arith.specs.Inner.{padded}
 use Rattle.layout.specs.Layout.{valueIn, presentIn}
 use Rattle.record_rows.specs.Numbers.{valuesOf, presentOf}
-use Rattle.record_rows.specs.Buffers.{marked}
+use Rattle.record_rows.specs.Inner.{marked}
 use Rattle.record_rows.specs.Private.{Appended}
 use Rattle.record_rows.proofs.Appends.{behind, all-good}
 use Rattle.record_grids.specs.Grids.{nodesRow}

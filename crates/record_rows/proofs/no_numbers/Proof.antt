@@ -1,8 +1,8 @@
 -- `record_rows::no_numbers` meets its contract.
 -- Assumes nothing.
 use mathlib.Core.Path.{refl}
-use Rattle.arith.specs.Row.{padded}
-use Rattle.record_rows.specs.Buffers.{marked, buffers}
+use Rattle.arith.specs.Inner.{padded}
+use Rattle.record_rows.specs.Inner.{marked, buffers}
 use Rattle.record_rows.proofs.no_numbers.Statement.{statement}
 use Rattle.record_rows.proofs.no_numbers.Tie as tie
 

@@ -3,8 +3,8 @@
 use mathlib.Core.Path.{_∙_}
 use borrow.Author.Tests.{lt-leb, le-leb, eq-eqb, ne-eqb}
 use lib.ListN.{length}
-use Rattle.arith.specs.Row.{padded}
-use Rattle.record_rows.specs.Buffers.{marked}
+use Rattle.arith.specs.Inner.{padded}
+use Rattle.record_rows.specs.Inner.{marked}
 use Rattle.record_rows.proofs.Appends.{all-good, none}
 use borrow.Author.Needs.{needs}
 use Rattle.record_rows.proofs.numbers_of.Statement.{statement}

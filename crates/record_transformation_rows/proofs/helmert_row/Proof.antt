@@ -3,8 +3,8 @@
 use mathlib.Core.Path.{ap, _∙_}
 use mathlib.Core.Bool.{_&&_}
 use Rattle.arith.proofs.Back.{held}
-use Rattle.record_rows.specs.Buffers.{numbers}
-use Rattle.record_transformations.specs.Parts.{shared, last}
+use Rattle.record_rows.specs.Inner.{numbers}
+use Rattle.record_transformations.specs.Private.{shared, last}
 use Rattle.record_transformations.specs.Transformations.{goodName}
 use Rattle.record_transformations.proofs.Parts.{helmert-joined}
 use Rattle.record_transformation_rows.proofs.Appends.{three-parts, ones-last}

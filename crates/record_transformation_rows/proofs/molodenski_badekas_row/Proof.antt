@@ -7,8 +7,8 @@ use mathlib.Core.List.{_++_}
 use lib.ListN.{length}
 use Rattle.arith.proofs.Back.{held}
 use Rattle.record_rows.specs.Numbers.{pairRow}
-use Rattle.record_rows.specs.Buffers.{numbers}
-use Rattle.record_transformations.specs.Parts.{shared, last}
+use Rattle.record_rows.specs.Inner.{numbers}
+use Rattle.record_transformations.specs.Private.{shared, last}
 use Rattle.record_transformations.specs.Transformations.{goodName, systemRow, areaRow, parametersRow, pointRow, ellipsoidsRow}
 use Rattle.record_transformations.proofs.Parts.{molodenski-badekas-joined}
 use Rattle.record_transformation_rows.proofs.Appends.{three-parts}

@@ -2,13 +2,13 @@
 -- Assumes nothing.
 use native.Mathlib.Omega.{arith}
 use borrow.Author.Tests.{not-true, not-false}
-use Rattle.arith.specs.Row.{padded}
+use Rattle.arith.specs.Inner.{padded}
 use Rattle.arith.proofs.Order.{is}
 use Rattle.arith.proofs.Back.{held}
 use Rattle.record_rows.specs.Numbers.{valuesOf, presentOf}
-use Rattle.record_rows.specs.Buffers.{marked}
+use Rattle.record_rows.specs.Inner.{marked}
 use Rattle.record_rows.proofs.Appends.{behind, same-row, same-size, none}
-use Rattle.record_transformations.specs.Parts.{names}
+use Rattle.record_transformations.specs.Private.{names}
 use Rattle.record_transformation_rows.proofs.Appends.{good-lengths, names-most, names-there, answer}
 use borrow.Author.Needs.{needs}
 use Rattle.record_transformation_rows.proofs.named_row.Statement.{statement}

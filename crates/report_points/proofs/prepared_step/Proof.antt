@@ -4,8 +4,8 @@ use mathlib.Core.Path.{_∙_}
 use borrow.Author.Needs.{needs}
 use borrow.Author.Tests.{ne-eqb}
 use Rattle.arith.proofs.Back.{held}
-use Rattle.grid_component.specs.Part.{countedBy}
-use Rattle.report_update.specs.Update.{grownBy}
+use Rattle.grid_component.specs.Inner.{countedBy}
+use Rattle.report_update.specs.Inner.{grownBy}
 use Rattle.report_points.specs.Private.{stepOf}
 use Rattle.report_points.proofs.Walk.{stepped}
 use Rattle.report_points.proofs.prepared_step.Statement.{statement}

@@ -12,8 +12,7 @@ use Rattle.report_points.specs.Reports.{listsReport, pointsOf}
 use Rattle.report_points.specs.Private.{startOf, reportFrom}
 use Rattle.grid_component.specs.declared.Kept.{Kept}
 use Rattle.report_prepared.specs.declared.Prepared.{Prepared}
-use Rattle.report_prepared.specs.Nodes.{nodeValues}
-use Rattle.report_prepared.specs.Edges.{preparedOf}
+use Rattle.report_prepared.specs.Inner.{nodeValues, preparedOf}
 use Rattle.report_prepared.specs.Private.{Serves}
 use Rattle.report_prepared.proofs.Served.{serves}
 use Rattle.report_points.proofs.Lists.{lists-stop, lists-unequal, lists-equal}

@@ -53,7 +53,7 @@ use Rattle.report_points.specs.Reports.{reportOf}
 use Rattle.report_points.specs.Private.{startOf, stepOf, reportFrom}
 use Rattle.report_points.specs.declared.Point.{Point}
 use Rattle.report_update.specs.declared.Report.{Report}
-use Rattle.grid_component.specs.Part.{keptOf}
+use Rattle.grid_component.specs.Inner.{keptOf}
 use Rattle.grid_component.specs.declared.Kept.{Kept}
 use Rattle.grid_component.proofs.Kept as K
 use Rattle.grid_component.proofs.Kept.Laws as K′

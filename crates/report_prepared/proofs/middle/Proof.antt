@@ -9,7 +9,7 @@ use lib.IntN.{ℤ, pos, natAbs, _*ℤ_}
 use Rattle.arith.proofs.Machine.{Num, arg, lit, mul, fits, is-back}
 use Rattle.arith.proofs.Order.{signed-tests}
 use Rattle.grid_refusals.specs.Refusals.{ellipsoidal}
-use Rattle.report_prepared.specs.Edges.{middleOf}
+use Rattle.report_prepared.specs.Inner.{middleOf}
 use Rattle.report_prepared.proofs.middle.Statement.{statement}
 use Rattle.report_prepared.proofs.middle.Tie as tie
 

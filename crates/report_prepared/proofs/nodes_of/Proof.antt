@@ -9,7 +9,7 @@ use lib.ListN.{drop}
 use Rattle.arith.specs.Row.{upTo}
 use Rattle.arith.proofs.Back.{held}
 use Rattle.arith.proofs.Rows.{fill-turn, fill-done}
-use Rattle.report_prepared.specs.Nodes.{nodeValue, nodeValues}
+use Rattle.report_prepared.specs.Inner.{nodeValue, nodeValues}
 use Rattle.report_prepared.proofs.nodes_of.Statement.{statement}
 use Rattle.report_prepared.proofs.nodes_of.Tie as tie
 

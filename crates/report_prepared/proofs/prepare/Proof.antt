@@ -13,10 +13,9 @@ use Rattle.arith.proofs.Back.{held}
 use Rattle.layout.specs.Layout.{valueIn}
 use Rattle.record_grids.specs.declared.Frame.{Frame}
 use Rattle.grid_refusals.specs.Refusals.{available}
-use Rattle.grid_fields.specs.Fields.{meanSays}
+use Rattle.grid_fields.specs.Inner.{meanSays}
 use Rattle.grid_component.specs.declared.Kept.{Kept}
-use Rattle.report_prepared.specs.Nodes.{nodesAvailable}
-use Rattle.report_prepared.specs.Edges.{noEdges, middleOf, edgesAt, preparedOf}
+use Rattle.report_prepared.specs.Inner.{nodesAvailable, noEdges, middleOf, edgesAt, preparedOf}
 use Rattle.report_prepared.proofs.prepare.Statement.{statement}
 use Rattle.report_prepared.proofs.prepare.Tie as tie
 

@@ -12,13 +12,13 @@ use Rattle.arith.proofs.Back.{held}
 use Rattle.arith.proofs.Machine.{Num, lit, result, mul, fits, is-back}
 use Rattle.layout.specs.Layout.{valueIn}
 use Rattle.record_grids.specs.declared.Frame.{Frame}
-use Rattle.grid_fields.specs.Fields.{meanSays}
+use Rattle.grid_fields.specs.Inner.{meanSays}
 use Rattle.grid_counts.specs.Counts.{nodeFactor}
-use Rattle.grid_place.specs.Position.{heldPlace}
+use Rattle.grid_place.specs.Inner.{heldPlace}
 use Rattle.grid_place.specs.declared.Located.{Located}
 use Rattle.report_prepared.proofs.Means.{mean-most}
 use Rattle.report_prepared.specs.declared.Prepared.{Prepared}
-use Rattle.report_prepared.specs.Edges.{noEdges, aroundOf, refusalAt, edgesAt}
+use Rattle.report_prepared.specs.Inner.{noEdges, aroundOf, refusalAt, edgesAt}
 use Rattle.report_prepared.specs.Private.{Near}
 use Rattle.report_prepared.proofs.Served.{near-is}
 use Rattle.report_prepared.proofs.prepare_at.Statement.{statement}

@@ -10,7 +10,7 @@ use Rattle.arith.proofs.Machine.{is-back}
 use Rattle.grid_counts.specs.declared.Counted.{Counted}
 use Rattle.report_update.specs.declared.Tally.{Tally}
 use Rattle.report_update.specs.Numbers.{pointsIn}
-use Rattle.report_update.specs.Update.{grownBy}
+use Rattle.report_update.specs.Inner.{grownBy}
 use Rattle.report_tally.specs.Next.{outcomeAt, nextRefusal, nextOf}
 use Rattle.report_tally.proofs.Totals.{uncapped-over, uncapped}
 use Rattle.report_tally.proofs.Sound.{outcome-sound}

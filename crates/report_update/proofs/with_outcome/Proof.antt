@@ -8,7 +8,8 @@ use borrow.Author.Needs.{needs}
 use borrow.Author.Tests.{lt-ltb, le-ltb, eq-eqb, ne-eqb}
 use lib.IntN.{ℤ}
 use Rattle.arith.proofs.Machine.{is-back}
-use Rattle.report_update.specs.Update.{countable, withAnswered, grownBy}
+use Rattle.report_update.specs.Inner.{countable, grownBy}
+use Rattle.report_update.specs.Update.{withAnswered}
 use Rattle.report_update.proofs.with_outcome.Statement.{statement}
 use Rattle.report_update.proofs.with_outcome.Tie as tie
 

@@ -5,7 +5,8 @@ use mathlib.Core.Path.{_≡_, refl, sym, ap, _∙_}
 use native.Mathlib.Omega.{arith}
 use borrow.Author.Tests.{not-true, not-false}
 use lib.ListN.{length}
-use Rattle.sample_files.specs.File.{pointsOf, pointAt}
+use Rattle.sample_files.specs.File.{pointsOf}
+use Rattle.sample_files.specs.Inner.{pointAt}
 use Rattle.sample_checks.specs.Check.{right}
 use Rattle.sample_checks.proofs.Checks.{badFrom, turn-bad, turn-right, none-bad}
 use Rattle.sample_checks.proofs.first_bad.Statement.{statement}

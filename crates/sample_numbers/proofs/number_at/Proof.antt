@@ -5,7 +5,7 @@ use Prim.Native.Nat.{_+_}
 use lib.ListN.{length}
 use borrow.Author.Needs.{needs}
 use borrow.Author.Tests.{le-leb, lt-leb, leb-true}
-use Rattle.sample_numbers.specs.Number.{numberAt}
+use Rattle.sample_numbers.specs.Inner.{numberAt}
 use Rattle.sample_numbers.proofs.number_at.Statement.{statement}
 use Rattle.sample_numbers.proofs.number_at.Tie as tie
 

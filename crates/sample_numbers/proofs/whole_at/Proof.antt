@@ -4,7 +4,7 @@ use mathlib.Core.Path.{ap, _∙_}
 use borrow.Author.Needs.{needs}
 use Rattle.arith.proofs.Back.{held}
 use Rattle.field.specs.Field.{twos}
-use Rattle.sample_numbers.specs.Number.{wholeAt}
+use Rattle.sample_numbers.specs.Inner.{wholeAt}
 use Rattle.sample_numbers.proofs.whole_at.Statement.{statement}
 use Rattle.sample_numbers.proofs.whole_at.Tie as tie
 

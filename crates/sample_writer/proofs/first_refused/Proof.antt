@@ -6,7 +6,8 @@ use native.Mathlib.Omega.{arith}
 use lib.IntN.{ℤ, pos}
 use lib.ListN.{length, getD}
 use Rattle.arith.proofs.Back.{held}
-use Rattle.grid_component.specs.Part.{counted, countedBy}
+use Rattle.grid_component.specs.Part.{counted}
+use Rattle.grid_component.specs.Inner.{countedBy}
 use Rattle.grid_component.proofs.Counts.{counted-is}
 use Rattle.sample_writer.specs.Refusals.{answerAt, askedOf, firstRefused}
 use Rattle.sample_writer.proofs.Asked.{from, point, turn-refused, turn-answered, end-refused}

@@ -4,7 +4,7 @@ use mathlib.Core.Path.{_≡_, sym, ap, _∙_}
 use borrow.Author.Needs.{needs}
 use Rattle.message_rows.specs.Message.{kindRefusal}
 use Rattle.grid_component.specs.declared.Kept.{Kept}
-use Rattle.grid_component.specs.Part.{keptOf}
+use Rattle.grid_component.specs.Inner.{keptOf}
 use Rattle.sample_writer.specs.Refusals.{askedOf, firstRefused}
 use Rattle.sample_writer.proofs.Asked.{by-message, by-north, by-east, by-point, by-count, by-none}
 use Rattle.sample_writer.proofs.points_refusal.Statement.{statement}

@@ -3,7 +3,7 @@
 use Prim.Native.Nat.{ℕ}
 use native.Mathlib.Omega.{arith}
 use mathlib.Core.Path.{ap, _∙_}
-use Rattle.table_slots.specs.Places.{markOrFree}
+use Rattle.table_slots.specs.Inner.{markOrFree}
 use Rattle.table_index.specs.Change.{inserted}
 use Rattle.table_indexed.proofs.Calls.{free-top, header-entry}
 use borrow.Author.Needs.{needs}

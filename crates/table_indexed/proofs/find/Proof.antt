@@ -8,7 +8,7 @@ use Rattle.table_slots.specs.Slots.{key, joined}
 use Rattle.table_index_search.specs.Search.{searched}
 use Rattle.table_index_search.specs.declared.Probe.{Probe}
 use Rattle.table_indexed.specs.Find.{probed}
-use Rattle.table_indexed.specs.Row.{inSlot}
+use Rattle.table_indexed.specs.Private.{inSlot}
 use Rattle.table_indexed.proofs.Calls.{find-table, find-index, find-owner, find-group, find-none, find-slot}
 use borrow.Author.Needs.{needs}
 use Rattle.table_indexed.proofs.find.Statement.{statement}

@@ -5,10 +5,10 @@ use native.Mathlib.Omega.{arith}
 use mathlib.Core.Path.{_≡_, sym, _∙_}
 use borrow.Author.Tests.{lt-ltb, le-ltb, eq-eqb, ne-eqb}
 use Rattle.table_slots.specs.Slots.{slots, slotSize, slot}
-use Rattle.table_slots.specs.Marks.{mark}
+use Rattle.table_slots.specs.Inner.{mark}
 use Rattle.table_slots.proofs.Marks.{mark-of}
 use Rattle.table.proofs.Calls.{slot-read}
-use Rattle.table_indexed.specs.Row.{inSlot}
+use Rattle.table_indexed.specs.Private.{inSlot}
 use Rattle.table_indexed.specs.declared.Found.{Found}
 use borrow.Author.Needs.{needs}
 use Rattle.table_indexed.proofs.in_slot.Statement.{statement}

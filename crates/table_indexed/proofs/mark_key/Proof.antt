@@ -1,7 +1,7 @@
 -- `table_indexed::mark_key` meets its contract: both cases of the definition.
 -- Assumes nothing.
 use borrow.Author.Tests.{eq-eqb, ne-eqb}
-use Rattle.table_indexed.specs.Row.{markKey}
+use Rattle.table_indexed.specs.Private.{markKey}
 use borrow.Author.Needs.{needs}
 use Rattle.table_indexed.proofs.mark_key.Statement.{statement}
 use Rattle.table_indexed.proofs.mark_key.Tie as tie

@@ -9,7 +9,7 @@ use Rattle.arith.specs.Row.{upTo}
 use Rattle.arith.proofs.Rows.{fill-turn, fill-done}
 use Rattle.table_slots.specs.Slots.{slots}
 use Rattle.table_index.specs.Change.{zeros}
-use Rattle.table_indexed.specs.Row.{markKeyAt}
+use Rattle.table_indexed.specs.Private.{markKeyAt}
 use Rattle.table_indexed.proofs.mark_keys.Statement.{statement}
 use Rattle.table_indexed.proofs.mark_keys.Tie as tie
 

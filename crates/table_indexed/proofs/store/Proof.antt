@@ -2,7 +2,7 @@
 -- Assumes nothing.
 use mathlib.Core.Path.{_≡_, sym, ap, _∙_}
 use Rattle.table.specs.Table.{storeRefusal}
-use Rattle.table.specs.Checked.{Marked}
+use Rattle.table.specs.Inner.{Marked}
 use Rattle.table.proofs.Calls.{store-kept}
 use Rattle.table_indexed.proofs.Slots.{checked-well}
 use Rattle.table_indexed.proofs.Calls.{agrees-passed, store-passed, entry-added, store-disagrees, store-refused, store-done}

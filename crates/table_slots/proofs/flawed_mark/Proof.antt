@@ -1,7 +1,7 @@
 -- `table_slots::flawed_mark` meets its contract: each return is a case of the definition.
 -- Assumes nothing.
 use borrow.Author.Tests.{eq-eqb, ne-eqb}
-use Rattle.table_slots.specs.Places.{flawedMark}
+use Rattle.table_slots.specs.Inner.{flawedMark}
 use borrow.Author.Needs.{needs}
 use Rattle.table_slots.proofs.flawed_mark.Statement.{statement}
 use Rattle.table_slots.proofs.flawed_mark.Tie as tie

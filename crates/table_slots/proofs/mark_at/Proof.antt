@@ -1,7 +1,7 @@
 -- `table_slots::mark_at` meets its contract: the part it reads is the slot.
 -- Assumes nothing.
 use mathlib.Core.Path.{ap, _∙_}
-use Rattle.table_slots.specs.Marks.{mark, markAt}
+use Rattle.table_slots.specs.Inner.{mark, markAt}
 use Rattle.table_slots.proofs.Slot.{part-slot}
 use borrow.Author.Needs.{needs}
 use Rattle.table_slots.proofs.mark_at.Statement.{statement}

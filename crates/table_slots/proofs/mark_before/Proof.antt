@@ -5,7 +5,7 @@ use native.Mathlib.Omega.{arith}
 use mathlib.Core.Path.{_≡_, sym, _∙_}
 use borrow.Author.Tests.{eq-eqb, ne-eqb}
 use Rattle.arith.specs.Places.{firstOf}
-use Rattle.table_slots.specs.Places.{hasMark, markPlace}
+use Rattle.table_slots.specs.Inner.{hasMark, markPlace}
 use Rattle.arith.proofs.Places.{turn-hit, turn-on, turn-end}
 use Rattle.table_slots.proofs.mark_before.Statement.{statement}
 use Rattle.table_slots.proofs.mark_before.Tie as tie

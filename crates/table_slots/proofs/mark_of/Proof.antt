@@ -2,7 +2,7 @@
 -- Assumes nothing.
 use mathlib.Core.Path.{sym, _∙_}
 use borrow.Author.Needs.{needs}
-use Rattle.table_slots.specs.Marks.{markAt}
+use Rattle.table_slots.specs.Inner.{markAt}
 use Rattle.table_slots.proofs.Marks.{mark-of, mark-behind, mark-other}
 use Rattle.table_slots.proofs.mark_of.Statement.{statement}
 use Rattle.table_slots.proofs.mark_of.Tie as tie

@@ -2,7 +2,7 @@
 -- Assumes nothing.
 use borrow.Author.Tests.{lt-ltb, le-ltb}
 use Rattle.table_slots.specs.Slots.{slots, most}
-use Rattle.table_slots.specs.Places.{markOrFree}
+use Rattle.table_slots.specs.Inner.{markOrFree}
 use borrow.Author.Needs.{needs}
 use Rattle.table_slots.proofs.mark_or_free.Statement.{statement}
 use Rattle.table_slots.proofs.mark_or_free.Tie as tie

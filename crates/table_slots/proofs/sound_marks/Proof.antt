@@ -7,7 +7,7 @@ use lib.Dec.{eqb}
 use borrow.Author.Tests.{ne-eqb}
 use Rattle.arith.specs.Places.{firstOf}
 use Rattle.table_slots.specs.Slots.{slots}
-use Rattle.table_slots.specs.Places.{flawedMark, soundMarks}
+use Rattle.table_slots.specs.Inner.{flawedMark, soundMarks}
 use Rattle.arith.proofs.Places.{turn-hit, turn-on, turn-end}
 use Rattle.table_slots.proofs.sound_marks.Statement.{statement}
 use Rattle.table_slots.proofs.sound_marks.Tie as tie

@@ -9,7 +9,7 @@ use borrow.Author.Tests.{eq-eqb, ne-eqb}
 use Rattle.arith.specs.Row.{upTo}
 use Rattle.arith.proofs.Rows.{fill-turn, fill-done}
 use Rattle.table_slots.specs.Slots.{slots, tableSize}
-use Rattle.table_slots.specs.Marks.{noTag, markAt, marks}
+use Rattle.table_slots.specs.Inner.{noTag, markAt, marks}
 use Rattle.table_slots.proofs.table_marks.Statement.{statement}
 use Rattle.table_slots.proofs.table_marks.Tie as tie
 

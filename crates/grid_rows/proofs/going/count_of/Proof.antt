@@ -6,7 +6,7 @@ use Prim.Native.Nat.{_*_}
 use borrow.Author.Needs.{needs}
 use Rattle.grid_bilinear.specs.Bilinear.{nearestWhole}
 use Rattle.arith.proofs.Machine.{Num, arg, result, add, fits}
-use Rattle.grid_rows.specs.Going.{numberOf}
+use Rattle.grid_rows.specs.Private.{numberOf}
 use Rattle.grid_rows.proofs.Halves.{nearest-most}
 use Rattle.grid_rows.proofs.going.count_of.Statement.{statement}
 use Rattle.grid_rows.proofs.going.count_of.Tie as tie

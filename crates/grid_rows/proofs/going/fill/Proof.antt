@@ -11,7 +11,7 @@ use mir.Val.{toZ, ofZ}
 use Rattle.arith.specs.Row.{upTo}
 use Rattle.arith.proofs.Back.{held}
 use Rattle.arith.proofs.Machine.{is-back}
-use Rattle.grid_rows.specs.Going.{Goes, countsFrom}
+use Rattle.grid_rows.specs.Private.{Goes, countsFrom}
 use Rattle.grid_rows.proofs.Run.{On, sum, starts, goes-on, whole-most, ends}
 use Rattle.grid_rows.proofs.going.fill.Statement.{statement}
 use Rattle.grid_rows.proofs.going.fill.Tie as tie

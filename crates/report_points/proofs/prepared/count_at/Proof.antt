@@ -12,7 +12,7 @@ use Rattle.arith.proofs.Back.{held}
 use Rattle.arith.proofs.Int.{at, nat, _⊟_, order, known, abs-above}
 use Rattle.arith.proofs.Machine.{Num, any, sub-within, fits, not-less, is-back}
 use Rattle.arith.proofs.Whole.{cast-natural}
-use Rattle.grid_component.specs.Part.{countedBy}
+use Rattle.grid_component.specs.Inner.{countedBy}
 use Rattle.report_prepared.specs.declared.Prepared.{Prepared}
 use Rattle.report_prepared.specs.Private.{Between, CountBetween, countIn}
 use Rattle.report_points.proofs.prepared.count_at.Statement.{statement}

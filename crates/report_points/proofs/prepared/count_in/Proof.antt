@@ -11,7 +11,7 @@ use lib.ListN.{getD}
 use Rattle.arith.proofs.Back.{held}
 use Rattle.grid_bilinear.specs.Bilinear.{cell}
 use Rattle.grid_bilinear.proofs.Place.{cell-le, cell-from}
-use Rattle.grid_cell.specs.Cell.{weightsIn, countBy}
+use Rattle.grid_cell.specs.Inner.{weightsIn, countBy}
 use Rattle.report_prepared.specs.declared.Prepared.{Prepared}
 use Rattle.report_prepared.specs.Private.{cornersOf, countIn}
 use Rattle.report_points.proofs.prepared.count_in.Statement.{statement}

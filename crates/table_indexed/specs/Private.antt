@@ -1,4 +1,4 @@
--- The keys of a table as the code has them from its row of marks, and the answer from one slot.
+-- What private functions and proofs need.
 -- Assumes nothing.
 use Prim.Native.Nat.{ℕ, suc, _+_, _-_, _*_, _/_, _%_}
 use mathlib.Core.Bool.{cond}
@@ -7,8 +7,7 @@ use lib.ListN.{getD}
 use lib.Dec.{ltb, eqb}
 use Rattle.message_rows.specs.Message.{header}
 use Rattle.table_slots.specs.Slots.{slots, slotSize, groupOf, key, joined, slot}
-use Rattle.table_slots.specs.Marks.{mark}
-use Rattle.table_slots.specs.Places.{markOrFree}
+use Rattle.table_slots.specs.Inner.{mark, markOrFree}
 use Rattle.table_index.specs.Change.{inserted}
 use Rattle.table_indexed.specs.Indexed.{entryKey}
 use Rattle.table_indexed.specs.declared.Found.{Found}

@@ -1,15 +1,32 @@
--- The nodes of a grid message, 1023 or 1024, read at their bits, with no row made: one node, those of a cell, all components of a cell.
+-- What only promises between crates name.
 -- Assumes nothing.
-use Prim.Native.Nat.{ℕ, _+_, _-_, _*_, min}
+use Prim.Native.Nat.{ℕ, _+_, min, _-_, _*_}
 use mathlib.Core.Bool.{cond, _||_}
 use mathlib.Core.List.{List}
-use lib.Dec.{ltb}
-use lib.IntN.{pos}
+use lib.Dec.{eqb, ltb}
+use lib.ListN.{getD, take}
+use Rattle.field.specs.Inner.{fieldAt}
 use Rattle.field.specs.declared.Reading.{Reading}
+use Rattle.layout.specs.Layout.{width, total, readingOf}
+use Rattle.layout_tables.specs.Layouts.{layout1023, layout1024}
+use lib.IntN.{pos}
 use Rattle.field.specs.declared.Reading.the-variants.{Value}
-use Rattle.grid_fields.specs.Fields.{gridSays}
 use Rattle.grid_fields.specs.declared.Nodes.{Nodes}
 use Rattle.grid_fields.specs.declared.Cells.{Cells}
+
+-- the layout by the number DF002: that of 1024 for any other number than 1023
+unfoldable pub gridLayout : List ℕ → List ℕ
+gridLayout s = cond (eqb (fieldAt s 0 12) 1023) layout1023 layout1024
+
+-- what field k of that layout says at its bit, DF002 being field 0
+unfoldable pub gridSays : List ℕ → ℕ → Reading
+gridSays s k =
+    let e = getD (gridLayout s) k 0 in
+    readingOf e (fieldAt s (total (take k (gridLayout s))) (width e))
+
+-- the mean of component c, 0 to 2: any other number counts as 2
+unfoldable pub meanSays : List ℕ → ℕ → Reading
+meanSays s c = gridSays s (8 + min c 2)
 
 -- node i of component c, numbered from 0: the value 0 where there is no such node
 unfoldable pub nodeSays : List ℕ → ℕ → ℕ → Reading

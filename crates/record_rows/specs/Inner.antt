@@ -1,4 +1,4 @@
--- The row of a record in both buffers, and one list stored in another.
+-- What only promises between crates name.
 -- Assumes nothing.
 use Prim.Native.Nat.{ℕ, _+_, _-_}
 use mathlib.Core.Bool.{Bool, cond}
@@ -7,7 +7,7 @@ use lib.Dec.{leb}
 use lib.ListN.{length, replicate}
 use lib.Seq.{paste}
 use lib.IntN.{ℤ}
-use Rattle.arith.specs.Row.{padded}
+use Rattle.arith.specs.Inner.{padded}
 use Rattle.field.specs.declared.Reading.{Reading}
 use Rattle.record_rows.specs.Numbers.{valuesOf, presentOf}
 use Rattle.record_rows.specs.declared.Numbers.{Numbers}

@@ -1,4 +1,4 @@
--- Reading behind a check that answered r.
+-- What only promises between crates name.
 -- Assumes nothing.
 use Prim.Native.Nat.{ℕ}
 use mathlib.Core.Bool.{cond, not}
@@ -7,7 +7,7 @@ use lib.Dec.{eqb, ltb}
 use lib.IntN.{ℤ}
 use lib.ListN.{length}
 use Rattle.arith.specs.First.{first}
-use Rattle.layout_reader.specs.Load.{valuesLoaded, presentLoaded}
+use Rattle.layout_reader.specs.Inner.{valuesLoaded, presentLoaded}
 
 -- r, then 6 ROOM, where buffers of m values and n presence bytes are shorter than k fields
 unfoldable pub checkedRefusal : ℕ → ℕ → ℕ → ℕ → ℕ

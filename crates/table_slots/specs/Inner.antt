@@ -1,13 +1,28 @@
--- What is looked for in a row of marks: the place of a mark, a flaw ("No key stands twice"), and the place for a key: document 01, "The table", with request A7.
+-- What only promises between crates name.
 -- Assumes nothing.
 use Prim.Native.Nat.{ℕ}
 use mathlib.Core.List.{List}
-use mathlib.Core.Bool.{Bool, not, cond, _||_}
-use lib.ListN.{getD}
+use mathlib.Core.Bool.{cond, Bool, not, _||_}
+use lib.ListN.{length, replicate, getD}
 use lib.Dec.{eqb, ltb}
+use Rattle.arith.specs.Row.{upTo}
+use Rattle.table_slots.specs.Slots.{slots, tableSize, slot, wellSlot, tag, most}
 use Rattle.arith.specs.Places.{firstOf}
-use Rattle.table_slots.specs.Slots.{slots, most}
-use Rattle.table_slots.specs.Marks.{noTag}
+
+-- a number that is no tag: the greatest tag is 2304, of owner 2, SIN 255 and group 2
+abbrev pub noTag : ℕ
+noTag = 2305
+
+-- a slot's tag where the slot is well formed
+unfoldable pub mark : List ℕ → ℕ
+mark s = cond (wellSlot s) (tag s) noTag
+
+unfoldable pub markAt : List ℕ → ℕ → ℕ
+markAt t i = mark (slot t i)
+
+-- the marks of a table's slots; a table of another size has no tags
+unfoldable pub marks : List ℕ → List ℕ
+marks t = cond (eqb (length t) tableSize) (upTo (markAt t) slots) (replicate slots noTag)
 
 unfoldable pub hasMark : List ℕ → ℕ → ℕ → Bool
 hasMark row g i = eqb (getD row i 0) g

@@ -1,4 +1,4 @@
--- What find shows: the part of the table itself in which the message stands, and no copy.
+-- What only promises between crates name.
 -- Assumes nothing.
 use Prim.Native.Nat.{ℕ, _+_}
 use mathlib.Core.List.{List}

@@ -1,4 +1,4 @@
--- The parts of a row of a 1021 or 1022 that both messages have.
+-- What private functions and proofs need.
 -- Assumes nothing.
 use mathlib.Core.List.{List, [], _∷_, _++_}
 use lib.IntN.{ℤ}

@@ -1,6 +1,6 @@
--- The edges of a grid and the other numbers that are the same at all positions, made once for a message and a component, for request A10 (D90).
+-- What only promises between crates name.
 -- Assumes nothing.
-use mathlib.Core.Bool.{cond, _&&_}
+use mathlib.Core.Bool.{cond, _&&_, Bool}
 use mathlib.Core.List.{List, [], _∷_}
 use Prim.Native.Nat.{ℕ, _+_, _*_}
 use lib.Dec.{eqb, ltb}
@@ -9,13 +9,14 @@ use Rattle.arith.specs.First.{first}
 use Rattle.layout.specs.Layout.{valueIn}
 use Rattle.record_grids.specs.declared.Frame.{Frame}
 use Rattle.grid_refusals.specs.Refusals.{available, beyond}
-use Rattle.grid_place.specs.Position.{stepsOf, heldPlace}
+use Rattle.grid_place.specs.Position.{stepsOf}
+use Rattle.grid_place.specs.Inner.{heldPlace}
 use Rattle.grid_place.specs.declared.Located.{Located}
-use Rattle.grid_fields.specs.Fields.{meanSays}
+use Rattle.grid_fields.specs.Inner.{meanSays, nodeSays}
 use Rattle.grid_counts.specs.Counts.{nodeFactor, meanFactor}
 use Rattle.grid_component.specs.declared.Kept.{Kept}
 use Rattle.report_prepared.specs.declared.Prepared.{Prepared}
-use Rattle.report_prepared.specs.Nodes.{nodesAvailable}
+use Rattle.arith.specs.Row.{upTo, allBelow}
 
 -- the origin in steps along one direction, or 0 where no message has such a one
 unfoldable pub middleOf : ℤ → ℤ → ℤ
@@ -59,3 +60,16 @@ preparedOf s kept c =
     cond (eqb (kept .refusal) 0 && available (meanSays s c) && nodesAvailable s c)
     (edgesAt s f c (middleOf (f .number) (valueIn (f .origin .north))) (middleOf (f .number) (valueIn (f .origin .east))))
     noEdges
+
+abbrev pub nodeValue : List ℕ → ℕ → ℕ → ℤ
+nodeValue s c i = valueIn (nodeSays s c i)
+
+abbrev pub nodeAvailable : List ℕ → ℕ → ℕ → Bool
+nodeAvailable s c i = available (nodeSays s c i)
+
+unfoldable pub nodeValues : List ℕ → ℕ → List ℤ
+nodeValues s c = upTo (nodeValue s c) 16
+
+-- all sixteen have values
+unfoldable pub nodesAvailable : List ℕ → ℕ → Bool
+nodesAvailable s c = allBelow (nodeAvailable s c) 16

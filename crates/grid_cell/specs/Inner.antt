@@ -1,11 +1,11 @@
--- The count in a cell: document 01, "The grid", on what a grid message can hold.
+-- What only promises between crates name.
 -- Assumes nothing.
 use mathlib.Core.Bool.{Bool, not, cond, _&&_}
 use Prim.Native.Nat.{ℕ, _+_, _-_, _*_}
 use lib.Dec.{eqb, leb}
 use lib.IntN.{ℤ, pos, natAbs, _+ℤ_, _*ℤ_}
 use Rattle.grid_bilinear.specs.Bilinear.{nearestWhole, weighted}
-use Rattle.grid_direction.specs.Direction.{greatestSpacing}
+use Rattle.grid_direction.specs.Inner.{greatestSpacing}
 use Rattle.grid_cell.specs.declared.Corners.{Corners}
 use Rattle.grid_cell.specs.declared.Weights.{Weights}
 

@@ -1,4 +1,4 @@
--- A position along one direction of a grid: document 01, "The grid", on what a grid message can hold.
+-- What only promises between crates name.
 -- Assumes nothing.
 use mathlib.Core.Bool.{cond, _||_}
 use Prim.Native.Nat.{ℕ}
