@@ -1,4 +1,4 @@
-pub mod Row
+pub mod Lists
 pub mod Whole
 pub mod First
 pub mod Places

@@ -3,7 +3,7 @@ ghost use mathlib.Core.Path.{_≡_};
 ghost use lib.ListN.{length};
 ghost use Rattle.message_rows.specs.Message.{header, rowRefusal, valuesRead, presentRead, writeRow};
 ghost use Rattle.capi.specs.Exported.{exportedShifts};
-ghost use Rattle.grid_row_refusals.specs.Row.{shiftRowRefusal, shiftRowFilled};
+ghost use Rattle.grid_row_refusals.specs.ShiftRow.{shiftRowRefusal, shiftRowFilled};
 ghost use Rattle.layout.specs.Layout.{answered, stored};
 ghost use Rattle.frame.specs.Frames.{frame, findFrame};
 ghost use Rattle.frame_writer.specs.Refusals.{frameRefusal};

@@ -39,8 +39,8 @@ fn answer_all(
 ) {
     let mut place = input::start();
     let mut at: usize = 0;
-    let mut turns: usize = LINES;
-    while turns > 0 {
+    let mut rounds: usize = LINES;
+    while rounds > 0 {
         let got = input::read_line(chunk, line, place);
         if got.ended {
             output::flush(out, at);
@@ -48,7 +48,7 @@ fn answer_all(
         }
         place = got.place;
         at = answer(line, got.length, held, size, listed, entries, out, at);
-        turns -= 1;
+        rounds -= 1;
     }
     output::flush(out, at);
 }

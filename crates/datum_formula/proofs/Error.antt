@@ -6,12 +6,12 @@ use native.Mathlib.Omega.{arith}
 use lib.IntN.{ℤ, pos, natAbs, _+ℤ_, _-ℤ_, _*ℤ_}
 use lib.Signed.{quotZ}
 use Rattle.arith.proofs.Int.{ring, at, nat, _⊞_, _⊟_, _⊠_}
-use Rattle.datum_formula.specs.Formula.{turn, moved, About}
+use Rattle.datum_formula.specs.Formula.{rotation, moved, About}
 use Rattle.datum_formula.specs.Private.{rotated}
 use Rattle.datum_formula.proofs.About.{exactly, compose, times, plus, less, widen, divided}
 
 -- a rotation in radians over 10^13
-pub radians-about : (r : ℤ) → About (10 ^ 11) (quotZ (r *ℤ pos 96962736 +ℤ quotZ (r *ℤ pos 221907) (pos 1000000)) (pos 100000)) (turn r) (10 ^ 11 + 10 ^ 6)
+pub radians-about : (r : ℤ) → About (10 ^ 11) (quotZ (r *ℤ pos 96962736 +ℤ quotZ (r *ℤ pos 221907) (pos 1000000)) (pos 100000)) (rotation r) (10 ^ 11 + 10 ^ 6)
 radians-about r =
     widen
     (compose (divided (r *ℤ pos 96962736 +ℤ quotZ (r *ℤ pos 221907) (pos 1000000)) 100000 (omega arith))
@@ -20,7 +20,7 @@ radians-about r =
     (ring (nat 1000000 ⊠ (at r ⊠ nat 96962736) ⊞ at r ⊠ nat 221907) (nat 96962736221907 ⊠ at r) (omega arith)) tt
 
 -- a rotation times a coordinate v, which is taken apart at any h
-module _ (a r v h : ℤ) (p : About (10 ^ 11) a (turn r) (10 ^ 11 + 10 ^ 6)) (k : natAbs v ≤ 10 ^ 11) where
+module _ (a r v h : ℤ) (p : About (10 ^ 11) a (rotation r) (10 ^ 11 + 10 ^ 6)) (k : natAbs v ≤ 10 ^ 11) where
   abbrev low : ℤ
   low = v -ℤ h *ℤ pos 1000000
 
@@ -29,14 +29,14 @@ module _ (a r v h : ℤ) (p : About (10 ^ 11) a (turn r) (10 ^ 11 + 10 ^ 6)) (k 
       widen (plus (exactly 1000000 (a *ℤ h)) (divided (a *ℤ low) 1000000 (omega arith))) 1000000
       (ring (nat 1000000 ⊠ (at a ⊠ at h) ⊞ at a ⊠ (at v ⊟ at h ⊠ nat 1000000)) (at a ⊠ at v) (omega arith)) tt
 
-  pub turned-about : About (10 ^ 17) (a *ℤ h +ℤ quotZ (a *ℤ low) (pos 1000000)) (turn r *ℤ v) (10 ^ 22 + 2 * 10 ^ 17)
-  turned-about = widen (compose parts (times p v k)) (10 ^ 22 + 2 * 10 ^ 17) refl tt
+  pub rotated-by-about : About (10 ^ 17) (a *ℤ h +ℤ quotZ (a *ℤ low) (pos 1000000)) (rotation r *ℤ v) (10 ^ 22 + 2 * 10 ^ 17)
+  rotated-by-about = widen (compose parts (times p v k)) (10 ^ 22 + 2 * 10 ^ 17) refl tt
 
 -- one coordinate: t and u are the two others by their rotations
 module _
     (own a b ra rb ds d t u : ℤ)
-    (p : About (10 ^ 17) t (turn ra *ℤ a) (10 ^ 22 + 2 * 10 ^ 17))
-    (q : About (10 ^ 17) u (turn rb *ℤ b) (10 ^ 22 + 2 * 10 ^ 17))
+    (p : About (10 ^ 17) t (rotation ra *ℤ a) (10 ^ 22 + 2 * 10 ^ 17))
+    (q : About (10 ^ 17) u (rotation rb *ℤ b) (10 ^ 22 + 2 * 10 ^ 17))
     (k : natAbs ds ≤ 2 ^ 24)
   where
     abbrev whole : ℤ
@@ -49,7 +49,7 @@ module _
     rotated-about : About (10 ^ 17) whole (rotated own a b ra rb) (2 * (10 ^ 22 + 2 * 10 ^ 17))
     rotated-about =
         widen (less (plus (exactly (10 ^ 17) (own *ℤ pos 10000000)) p) q) (2 * (10 ^ 22 + 2 * 10 ^ 17))
-        (ap (λ (z : ℤ). z +ℤ turn ra *ℤ a -ℤ turn rb *ℤ b) (ring (nat (10 ^ 17) ⊠ (at own ⊠ nat 10000000)) (nat (10 ^ 24) ⊠ at own) (omega arith))) tt
+        (ap (λ (z : ℤ). z +ℤ rotation ra *ℤ a -ℤ rotation rb *ℤ b) (ring (nat (10 ^ 17) ⊠ (at own ⊠ nat 10000000)) (nat (10 ^ 24) ⊠ at own) (omega arith))) tt
 
     -- dS * R * X_S
     scale-about : About (10 ^ 28) scale (rotated own a b ra rb *ℤ ds) (2 * 10 ^ 31)

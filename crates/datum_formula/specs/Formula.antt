@@ -9,23 +9,22 @@ use lib.IntN.{ℤ, pos, natAbs, _+ℤ_, _-ℤ_, _*ℤ_}
 use Rattle.arith.specs.First.{Test}
 use Rattle.datum_formula.specs.declared.Values.{Values}
 use Rattle.datum_formula.specs.declared.Position.{Position}
-use Rattle.datum_formula.specs.Private.{rotated}
 
 -- ---- the exact target, a fraction of whole numbers over 10^35
 
 -- "One raw rotation step is taken as 96,962,736,221,907 over 10^24 radian": a rotation, over 10^24
-abbrev pub turn : ℤ → ℤ
-turn r = pos 96962736221907 *ℤ r
+abbrev pub rotation : ℤ → ℤ
+rotation r = pos 96962736221907 *ℤ r
 
 -- R * X_S, over 10^24; R is [1 +RZ -RY; -RZ 1 +RX; +RY -RX 1]
 unfoldable pub rotatedX : Values → (x y z : ℤ) → ℤ
-rotatedX v x y z = pos (10 ^ 24) *ℤ x +ℤ turn (v .rz) *ℤ y -ℤ turn (v .ry) *ℤ z
+rotatedX v x y z = pos (10 ^ 24) *ℤ x +ℤ rotation (v .rz) *ℤ y -ℤ rotation (v .ry) *ℤ z
 
 unfoldable pub rotatedY : Values → (x y z : ℤ) → ℤ
-rotatedY v x y z = pos (10 ^ 24) *ℤ y -ℤ turn (v .rz) *ℤ x +ℤ turn (v .rx) *ℤ z
+rotatedY v x y z = pos (10 ^ 24) *ℤ y -ℤ rotation (v .rz) *ℤ x +ℤ rotation (v .rx) *ℤ z
 
 unfoldable pub rotatedZ : Values → (x y z : ℤ) → ℤ
-rotatedZ v x y z = pos (10 ^ 24) *ℤ z +ℤ turn (v .ry) *ℤ x -ℤ turn (v .rx) *ℤ y
+rotatedZ v x y z = pos (10 ^ 24) *ℤ z +ℤ rotation (v .ry) *ℤ x -ℤ rotation (v .rx) *ℤ y
 
 -- M * R * X_S + d: "one raw scale step as 1 over 10^11", and a raw translation of 0.001 m is 10 units of 0.1 mm
 unfoldable pub moved : (ds rotated d : ℤ) → ℤ

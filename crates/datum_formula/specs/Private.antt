@@ -3,7 +3,7 @@
 use Prim.Native.Nat.{_^_, _≤_}
 use lib.IntN.{ℤ, pos, natAbs, _+ℤ_, _-ℤ_, _*ℤ_}
 use Rattle.datum_formula.specs.declared.Values.{Values}
-use Rattle.datum_formula.specs.Formula.{turn}
+use Rattle.datum_formula.specs.Formula.{rotation}
 
 -- what the widths of DF156 to DF162 say of the values
 pub record Held (v : Values) : Type 0 where
@@ -25,4 +25,4 @@ pub record Inputs (own a b ra rb ds d : ℤ) : Type 0 where
 
 -- a row of R times the position, over 10^24
 abbrev pub rotated : (own a b ra rb : ℤ) → ℤ
-rotated own a b ra rb = pos (10 ^ 24) *ℤ own +ℤ turn ra *ℤ a -ℤ turn rb *ℤ b
+rotated own a b ra rb = pos (10 ^ 24) *ℤ own +ℤ rotation ra *ℤ a -ℤ rotation rb *ℤ b

@@ -3,7 +3,7 @@ ghost use Rattle.arith.specs.First.{first};
 ghost use mathlib.Core.Path.{_≡_};
 ghost use Prim.Native.Nat.{_+_, _*_, _^_, _≤_};
 ghost use lib.IntN.{natAbs, _*ℤ_};
-ghost use Rattle.datum_formula.specs.Formula.{turn, moved, About, Near, Answered, beyondAny, formulaTests, zeros};
+ghost use Rattle.datum_formula.specs.Formula.{rotation, moved, About, Near, Answered, beyondAny, formulaTests, zeros};
 ghost use Rattle.datum_formula.specs.Private.{Held, Inputs, rotated};
 
 // The raw values of the seven parameters.
@@ -54,15 +54,15 @@ pub fn beyond(limit: u64, a: i64, b: i64, c: i64) -> bool
 // A raw rotation as radians, counted in 1 over 10^13.
 fn radians(r: i64) -> i64
     requires { ⌜ natAbs r ≤ 2 ^ 31 ⌝ }
-    ensures { λ a. ⌜ About (10 ^ 11) a (turn r) (10 ^ 11 + 10 ^ 6) × (natAbs a ≤ 21 * 10 ^ 11) ⌝ }
+    ensures { λ a. ⌜ About (10 ^ 11) a (rotation r) (10 ^ 11 + 10 ^ 6) × (natAbs a ≤ 21 * 10 ^ 11) ⌝ }
 {
     (r * 96962736 + r * 221907 / 1000000) / 100000
 }
 
 // A rotation times a coordinate, counted in 10^-7 units.
-fn turned(r: i64, v: i64) -> i64
+fn rotated_by(r: i64, v: i64) -> i64
     requires { ⌜ (natAbs r ≤ 2 ^ 31) × (natAbs v ≤ 10 ^ 11) ⌝ }
-    ensures { λ t. ⌜ About (10 ^ 17) t (turn r *ℤ v) (10 ^ 22 + 2 * 10 ^ 17) × (natAbs t ≤ 3 * 10 ^ 17) ⌝ }
+    ensures { λ t. ⌜ About (10 ^ 17) t (rotation r *ℤ v) (10 ^ 22 + 2 * 10 ^ 17) × (natAbs t ≤ 3 * 10 ^ 17) ⌝ }
 {
     let a = radians(r);
     let high = v / 1000000;
@@ -87,9 +87,9 @@ fn coordinate(own: i64, a: i64, b: i64, ra: i64, rb: i64, ds: i64, d: i64) -> i6
     requires { ⌜ Inputs own a b ra rb ds d ⌝ }
     ensures { λ r. ⌜ About (10 ^ 35) r (moved ds (rotated own a b ra rb) d) (521 * 10 ^ 32) ⌝ }
 {
-    let turn = own * 10000000 + turned(ra, a) - turned(rb, b);
-    let scale = turn / 10000000 * ds / 10000;
-    nearest(turn + scale + d * 100000000)
+    let rotation = own * 10000000 + rotated_by(ra, a) - rotated_by(rb, b);
+    let scale = rotation / 10000000 * ds / 10000;
+    nearest(rotation + scale + d * 100000000)
 }
 
 // The target of a position within its limits, by values within the widths of their fields.

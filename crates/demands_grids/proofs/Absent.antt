@@ -11,7 +11,7 @@ use lib.Dec.{eqb, leb, ltb}
 use lib.IntN.{ℤ, pos, negℤ, natAbs}
 use lib.ListN.{length, getD}
 use Rattle.arith.specs.First.{first}
-use Rattle.arith.specs.Row.{at}
+use Rattle.arith.specs.Lists.{at}
 use Rattle.arith.specs.Whole.{natural}
 use Rattle.arith.proofs.First.{passed, passes}
 use Rattle.field.specs.Field.{signedOf, twos}

@@ -34,9 +34,9 @@ use Rattle.grid_shifts.proofs.Accepted.{message-grid, held-is-written}
 use Rattle.grid_shifts.proofs.Lipschitz.{lipschitz-message, spaced, counted, east-steps}
 use Rattle.message_rows.proofs.Trips.{row-number}
 use Rattle.grid_place.proofs.Antimeridian.{turnsOf, turned-same, turned-low, turned-high, turned-only}
-use Rattle.grid_shifts.proofs.BothSides.{plane, both-sides}
+use Rattle.grid_shifts.proofs.BothLongitudes.{plane, both-sides}
 use Rattle.grid_shifts.proofs.Calls.{shared-answer, calls-agree, count-lossless, sum-below-limit}
-use Rattle.demands_grids.specs.Grids.{gridAt, surfaceAt, northSteps, eastSteps, withNodes, AnsweredAt, exactAt, GridAnswer, SharedEdges, BothCalls, HeldIsWritten, SameWeighted, OnlyWeighted, Lossless, SumBound, AllPresent, stepsNorth, stepsEast, Lipschitz, BoundBetween, ReadsAs, ThreeParts, PlainSteps, plainEast, EastTurned, BothSides}
+use Rattle.demands_grids.specs.Grids.{gridAt, surfaceAt, northSteps, eastSteps, withNodes, AnsweredAt, exactAt, GridAnswer, SharedEdges, BothCalls, HeldIsWritten, SameWeighted, OnlyWeighted, Lossless, SumBound, AllPresent, stepsNorth, stepsEast, Lipschitz, BoundBetween, ReadsAs, ThreeParts, PlainSteps, plainEast, EastTurned, BothLongitudes}
 
 -- the refusal answered is the one defined
 refusal-is : (s : List ℕ) (c : ℕ) (n e : ℤ) → AnsweredAt s c n e → shiftRefusal s c n e ≡ 0
@@ -189,5 +189,5 @@ east-turned g e q =
       only = λ r t. turned-only z (t .turns) r (t .same) (t .low) (t .high) ∙ is;
     }
 
-pub both-answers : BothSides
+pub both-answers : BothLongitudes
 both-answers s c n m = both-sides s c n m

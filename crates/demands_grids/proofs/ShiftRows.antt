@@ -12,9 +12,9 @@ use lib.ListN.{length, drop, length-append, length-drop, List·getD-append}
 use lib.Seq.{getD-append-add, getD-drop}
 use lib.Signed.{ltZ, _≤ℤ_}
 use Rattle.arith.specs.First.{first}
-use Rattle.arith.specs.Row.{upTo, at, allBelow}
+use Rattle.arith.specs.Lists.{upTo, at, allBelow}
 use Rattle.arith.proofs.Int.{not-less}
-use Rattle.arith.proofs.Rows.{length-upTo, getD-upTo, all-true}
+use Rattle.arith.proofs.Lists.{length-upTo, getD-upTo, all-true}
 use Rattle.arith.specs.Whole.{sameZ}
 use Rattle.record_rows.specs.Numbers.{says}
 use Rattle.record_grids.specs.declared.Grid.{Grid}
@@ -25,8 +25,8 @@ use Rattle.grid_refusals.specs.Refusals.{side, originAvailable, beyond}
 use Rattle.grid_shifts.specs.Shift.{surface, northOf, eastOf, outcome, shiftWith, shiftRefusal, messageShift}
 use Rattle.grid_shifts.specs.declared.Shift.{Shift}
 use Rattle.grid_shifts.proofs.Accepted.{message-passed}
-use Rattle.grid_shifts.proofs.BothSides.{both-sides}
-use Rattle.grid_row_refusals.specs.Row.{anyBeyond, misplaced, shiftRowRefusal, shiftRowFilled}
+use Rattle.grid_shifts.proofs.BothLongitudes.{both-sides}
+use Rattle.grid_row_refusals.specs.ShiftRow.{anyBeyond, misplaced, shiftRowRefusal, shiftRowFilled}
 use Rattle.grid_row_refusals.specs.Private.{firstRefused}
 use Rattle.grid_row_refusals.proofs.Refused.{refused, none-refused, first-refused, refused-same}
 use Rattle.grid_row_refusals.proofs.Order.{Fit, fit, Passed, row-passes, kind-refuses, limits-refuse, places-refuse, room-refuses, none-refuses}

@@ -202,5 +202,5 @@ abbrev pub EastTurned : Type 0
 EastTurned = (g : Grid) (e : ℤ) → g .number ≡ pos 1023 → OneTurn g e
 
 -- "Longitudes -180° and +180° then get the same answer": of every message that is not a 1024, refusals too
-abbrev pub BothSides : Type 0
-BothSides = (s : List ℕ) (c : ℕ) (n : ℤ) → (numberOf s ≡ 1024 → ⊥) → messageShift s c n (pos 6480000000) ≡ messageShift s c n (negℤ (pos 6480000000))
+abbrev pub BothLongitudes : Type 0
+BothLongitudes = (s : List ℕ) (c : ℕ) (n : ℤ) → (numberOf s ≡ 1024 → ⊥) → messageShift s c n (pos 6480000000) ≡ messageShift s c n (negℤ (pos 6480000000))

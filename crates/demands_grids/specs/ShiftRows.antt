@@ -7,14 +7,14 @@ use mathlib.Core.List.{List}
 use lib.IntN.{ℤ, pos, negℤ, _+ℤ_, _*ℤ_}
 use lib.ListN.{length}
 use lib.Signed.{_≤ℤ_}
-use Rattle.arith.specs.Row.{at}
+use Rattle.arith.specs.Lists.{at}
 use Rattle.record_rows.specs.Numbers.{says}
 use Rattle.record_grids.specs.Grids.{gridOf}
 use Rattle.message_rows.specs.Message.{numberOf, row, kindRefusal}
 use Rattle.grid_refusals.specs.Refusals.{beyond}
 use Rattle.grid_shifts.specs.Shift.{messageShift}
 use Rattle.grid_shifts.specs.declared.Shift.{Shift}
-use Rattle.grid_row_refusals.specs.Row.{shiftRowRefusal, shiftRowFilled}
+use Rattle.grid_row_refusals.specs.ShiftRow.{shiftRowRefusal, shiftRowFilled}
 
 -- a component's part of A3's call at place k of a row "from a start position", "at equal steps east"
 abbrev pub partAt : List ℕ → ℕ → (n e step : ℤ) → ℕ → Shift

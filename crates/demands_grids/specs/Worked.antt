@@ -8,7 +8,7 @@ use mathlib.Core.List.{List, [], _∷_, _++_, map}
 use lib.Dec.{eqb}
 use lib.IntN.{ℤ, pos, negℤ}
 use lib.ListN.{set}
-use Rattle.arith.specs.Row.{upTo}
+use Rattle.arith.specs.Lists.{upTo}
 use Rattle.field.specs.declared.Reading.{Reading}
 use Rattle.field.specs.declared.Reading.the-variants.{Value, Absent}
 use Rattle.layout.specs.Layout.{blank}

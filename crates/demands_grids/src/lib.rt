@@ -3,7 +3,7 @@ ghost use Prim.Native.Nat.{ℕ};
 ghost use mathlib.Core.Path.{_≡_};
 ghost use mathlib.Core.List.{List};
 ghost use Rattle.demands_grids.specs.Worked.{WorkedNumbers, WorkedMetres, GridsRead, GridKPresent};
-ghost use Rattle.demands_grids.specs.Grids.{GridAnswer, SharedEdges, BothCalls, HeldIsWritten, OnlyWeighted, Lossless, SumBound, ThreeParts, BoundBetween, Lipschitz, PlainSteps, EastTurned, BothSides};
+ghost use Rattle.demands_grids.specs.Grids.{GridAnswer, SharedEdges, BothCalls, HeldIsWritten, OnlyWeighted, Lossless, SumBound, ThreeParts, BoundBetween, Lipschitz, PlainSteps, EastTurned, BothLongitudes};
 ghost use Rattle.grid_shifts.specs.Shift.{messageShifts};
 ghost use Rattle.demands_grids.specs.Absent.{NoneIsThePattern, UnsignedHasValue, PatternRefused, RefusedIsZero, MeanFormed};
 ghost use Rattle.demands_grids.specs.ShiftRows.{RowEqualsCalls, RowRefusedKeeps, RowNumbers, WholeTurn};
@@ -38,7 +38,7 @@ pub fn lipschitz()
 // Longitudes across the antimeridian: the difference from the origin that is used, and the same answer on both sides.
 pub fn antimeridian()
     ensures turned { λ r. ⌜ EastTurned ⌝ }
-    ensures sides { λ r. ⌜ BothSides ⌝ }
+    ensures sides { λ r. ⌜ BothLongitudes ⌝ }
 {}
 
 // The answers to two positions.

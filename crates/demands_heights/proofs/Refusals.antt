@@ -11,10 +11,10 @@ use lib.Dec.{T, eqb, leb, ltb}
 use lib.IntN.{ℤ, pos}
 use lib.ListN.{length, getD}
 use Rattle.arith.specs.First.{Test, first}
-use Rattle.arith.specs.Row.{at}
+use Rattle.arith.specs.Lists.{at}
 use Rattle.arith.specs.Whole.{natural, sameZ}
 use Rattle.arith.proofs.First.{passed, not-false, stops, goes-on, passes}
-use Rattle.arith.proofs.Rows.{upTo-same}
+use Rattle.arith.proofs.Lists.{upTo-same}
 use Rattle.field.specs.declared.Reading.{Reading}
 use Rattle.layout.specs.Layout.{rowOf, placeTakes, rowTakes, valueIn, size, answered, stored}
 use Rattle.layout_tables.specs.Layouts.{layoutOf, layout1023}
@@ -23,7 +23,7 @@ use Rattle.record_rows.specs.Numbers.{says, numberAt}
 use Rattle.message_rows.specs.Message.{rowLayout, ofKind, rowTests, message}
 use Rattle.heights_mean.specs.Means.{smallestMean}
 use Rattle.heights_mean.specs.declared.Mean.{Mean}
-use Rattle.heights_mean.specs.declared.Mean.the-variants.{Found, Missing}
+use Rattle.heights_mean.specs.declared.Mean.the-variants.{Is, Missing}
 use Rattle.heights_mean.proofs.Choice.{Smallest, smallest, smallest-missing, found-or-none}
 use Rattle.heights.specs.Heights.{ofHeight, valueWith, presentWith, heightValues, heightPresent, countTests, zeroBeside, saysZero, saysOther, saysNone, recordTests, meanTests, heightsRefusal, heightsMessage, messageWith}
 use Rattle.heights.proofs.Calls.{record-out, behind, mean-out}
@@ -92,11 +92,11 @@ module _ (z : List ℤ) (b : List ℕ) (wanted : List ℤ) where
     none-of : heightsRefusal z b wanted n ≡ 23 → NoneFits wanted
     none-of e = ⊎-elim with-mean (λ h. h) (found-or-none wanted)
       where
-        with-mean : (m : ℤ) × (smallestMean wanted ≡ Found m) → NoneFits wanted
+        with-mean : (m : ℤ) × (smallestMean wanted ≡ Is m) → NoneFits wanted
         with-mean p =
-            let f : first (meanTests z b wanted n (Found (p .0))) ≡ 23 =
+            let f : first (meanTests z b wanted n (Is (p .0))) ≡ 23 =
             ap (λ (k : Mean). first (meanTests z b wanted n k)) (sym (p .1)) ∙ late-is (early-passed e) ∙ e in
-            absurd (omega (arith, f, first-most 6 (meanTests z b wanted n (Found (p .0))) tt))
+            absurd (omega (arith, f, first-most 6 (meanTests z b wanted n (Is (p .0))) tt))
 
 pub no-mean-exactly : NoMeanExactly
 no-mean-exactly z b wanted n =
@@ -131,7 +131,7 @@ module _ (z : List ℤ) (b : List ℕ) (wanted : List ℤ) (m : ℤ) where
   layout-is e = rw e
 
   mean-tests : (n : ℕ) → natural (numberAt (says (rowOf zs bs)) 0) ≡ 1023 → rowTakes layout1023 zs bs ≡ true
-      → first (meanTests z b wanted n (Found m)) ≡ first ((6, ltb n (size layout1023)) ∷ [])
+      → first (meanTests z b wanted n (Is m)) ≡ first ((6, ltb n (size layout1023)) ∷ [])
   mean-tests n e t = rw (e, layout-is e, length-1023, t)
 
   module _ (others : OthersTaken z b) where
@@ -157,10 +157,10 @@ only-others z b wanted n c number others e = by (first (recordTests z b)) refl
     by : (k : ℕ) → k ≡ first (recordTests z b) → ⊥
     by zero p =
         ⊎-elim
-        (λ (f : (m : ℤ) × (smallestMean wanted ≡ Found m)).
+        (λ (f : (m : ℤ) × (smallestMean wanted ≡ Is m)).
         room-only (ltb n (size layout1023))
         (sym (mean-tests z b wanted (f .0) n (number-said z b wanted (f .0) others number) (taken z b wanted (f .0) others (smallest wanted (f .0) (f .1))))
-        ∙ behind z b wanted n (c .values) (c .present) (c .heights) (sym p) (Found (f .0)) (f .1) ∙ e))
+        ∙ behind z b wanted n (c .values) (c .present) (c .heights) (sym p) (Is (f .0)) (f .1) ∙ e))
         (λ (h : NoneFits wanted).
         let q = mean-out z b wanted n (c .values) (c .present) (c .heights) (sym p) (smallest-missing wanted h) in
         absurd (omega (arith, q, e)))
@@ -212,7 +212,7 @@ module _ (z y : List ℤ) (b a : List ℕ) (s : SameOthers z y b a) where
     same-values m = upTo-same (valueWith z wanted m) (valueWith y wanted m) 64 (λ k l. same-value m k (ofHeight k) refl)
 
     same-tests : (n : ℕ) (k : Mean) → meanTests z b wanted n k ≡ meanTests y a wanted n k
-    same-tests n (Found m) =
+    same-tests n (Is m) =
         λ i. (5, not (ofKind 1023 1023 (rowOf (same-values m i) (same-present i)))) ∷ rowTests (same-values m i) (same-present i) n
     same-tests n Missing = refl
 
@@ -221,7 +221,7 @@ module _ (z y : List ℤ) (b a : List ℕ) (s : SameOthers z y b a) where
     same-refusal n = λ i. first ((same-counts i ++ same-record i) ++ same-tests n (smallestMean wanted) i)
 
     same-with : (k : Mean) → messageWith z b wanted k ≡ messageWith y a wanted k
-    same-with (Found m) = λ i. message (rowOf (same-values m i) (same-present i))
+    same-with (Is m) = λ i. message (rowOf (same-values m i) (same-present i))
     same-with Missing = refl
 
     same-message : heightsMessage z b wanted ≡ heightsMessage y a wanted

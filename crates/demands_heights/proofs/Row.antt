@@ -10,9 +10,9 @@ use borrow.Author.Tests.{le-leb, leb-true, lt-ltb, eq-eqb, ne-eqb, eqb-true, eqb
 use lib.Dec.{leb, eqb}
 use lib.IntN.{ℤ, pos, natAbs}
 use lib.ListN.{length, getD}
-use Rattle.arith.specs.Row.{at, allBelow}
+use Rattle.arith.specs.Lists.{at, allBelow}
 use Rattle.arith.specs.Whole.{sameZ}
-use Rattle.arith.proofs.Rows.{length-upTo, getD-upTo}
+use Rattle.arith.proofs.Lists.{length-upTo, getD-upTo}
 use Rattle.arith.proofs.Tests.{false-ne-true, both-first, both-second, all-at}
 use Rattle.field.specs.declared.Reading.{Reading}
 use Rattle.field.specs.declared.Reading.the-variants.{Value}

@@ -13,11 +13,11 @@ use lib.Dec.{eqb, leb, ltb}
 use lib.IntN.{ℤ, pos, negsuc, negℤ, natAbs, _+ℤ_, _-ℤ_, _*ℤ_}
 use lib.ListN.{length, getD, List·getD-eq-default}
 use Rattle.arith.specs.First.{Test, first}
-use Rattle.arith.specs.Row as Row
+use Rattle.arith.specs.Lists as Lists
 use Rattle.arith.specs.Whole.{natural, sameZ}
 use Rattle.arith.proofs.First.{passed, not-false, or-false, passes, goes-on}
 use Rattle.arith.proofs.Int.{at, nat, minus, _⊞_, _⊟_, _⊠_, ring, order, order-lt, abs-mul, abs-within, within-abs}
-use Rattle.arith.proofs.Rows.{length-upTo, getD-upTo}
+use Rattle.arith.proofs.Lists.{length-upTo, getD-upTo}
 use Rattle.arith.proofs.Tests.{both-first, both-second, all-at}
 use Rattle.field.specs.declared.Reading.{Reading}
 use Rattle.field.specs.declared.Reading.the-variants.{Value}
@@ -44,7 +44,7 @@ use Rattle.grid_shifts.proofs.Accepted.{message-passed, message-fields}
 use Rattle.heights_mean.specs.Means.{less, nearAt, fits, smallestMean}
 use Rattle.heights_mean.proofs.Near.{less-most}
 use Rattle.heights_mean.specs.declared.Mean.{Mean}
-use Rattle.heights_mean.specs.declared.Mean.the-variants.{Found}
+use Rattle.heights_mean.specs.declared.Mean.the-variants.{Is}
 use Rattle.heights_mean.proofs.Choice.{NoneFits, Smallest, smallest, found-or-none}
 use Rattle.heights.specs.Heights.{ofHeight, heightValues, heightPresent, countTests, zeroBeside, saysZero, saysOther, saysNone, recordTests, meanTests, heightsRefusal, heightsMessage}
 use Rattle.heights.proofs.Calls.{message-is}
@@ -63,14 +63,14 @@ record Facts (z wanted : List ℤ) (m : ℤ) (g : Grid) : Type 0 where
   pub number : g .number ≡ pos 1023
   pub shown : sameZ (g .indicators .vertical) (pos 0) ≡ false
   pub method : sameZ (g .methods .vertical) (pos 0) ≡ true
-  pub north : g .origin .north ≡ Value (Row.at z 4)
-  pub east : g .origin .east ≡ Value (Row.at z 5)
-  pub rows : g .spacing .north ≡ Row.at z 6
-  pub columns : g .spacing .east ≡ Row.at z 7
+  pub north : g .origin .north ≡ Value (Lists.at z 4)
+  pub east : g .origin .east ≡ Value (Lists.at z 5)
+  pub rows : g .spacing .north ≡ Lists.at z 6
+  pub columns : g .spacing .east ≡ Lists.at z 7
   pub spaced : (sameZ (g .spacing .north) (pos 0) || sameZ (g .spacing .east) (pos 0)) ≡ false
   pub mean : g .mean .height ≡ Value m
   pub sixteen : length (g .nodes) ≡ 16
-  pub node : (k : ℕ) → k < 16 → getD (g .nodes) k zeros .height ≡ Value (less (Row.at wanted k) m)
+  pub node : (k : ℕ) → k < 16 → getD (g .nodes) k zeros .height ≡ Value (less (Lists.at wanted k) m)
 
 natural-is : (y : ℤ) (k : ℕ) → natural y ≡ suc k → y ≡ pos (suc k)
 natural-is (pos n) k e = ap pos e
@@ -107,11 +107,11 @@ module _ (z wanted : List ℤ) (m : ℤ) (g : Grid) (p : Facts z wanted m g) whe
   steps : stepsOf (g .number) ≡ 5000
   steps = rw ell
 
-  high : surface g 2 .H ≡ natural (Row.at z 6) * 5000
+  high : surface g 2 .H ≡ natural (Lists.at z 6) * 5000
   unfolding surface
   high = λ x. natural (p .rows x) * steps x
 
-  wide : surface g 2 .W ≡ natural (Row.at z 7) * 5000
+  wide : surface g 2 .W ≡ natural (Lists.at z 7) * 5000
   unfolding surface
   wide = λ x. natural (p .columns x) * steps x
 
@@ -131,12 +131,12 @@ module _ (z wanted : List ℤ) (m : ℤ) (g : Grid) (p : Facts z wanted m g) whe
   factor = rw ell
 
   -- a hundred counts for each step of the mean, ten for each millimetre
-  node-count : (i j : ℕ) → i ≤ 3 → j ≤ 3 → surface g 2 .mean +ℤ surface g 2 .node i j ≡ pos 10 *ℤ Row.at wanted (4 * i + j)
+  node-count : (i j : ℕ) → i ≤ 3 → j ≤ 3 → surface g 2 .mean +ℤ surface g 2 .node i j ≡ pos 10 *ℤ Lists.at wanted (4 * i + j)
   unfolding surface less
   node-count i j k l =
       let h = p .node (4 * i + j) (omega arith) in
       (λ x. pos 100 *ℤ valueIn (p .mean x) +ℤ pos (factor x) *ℤ valueIn (h x))
-      ∙ ring (nat 100 ⊠ at m ⊞ nat 10 ⊠ (at (Row.at wanted (4 * i + j)) ⊟ nat 10 ⊠ at m)) (nat 10 ⊠ at (Row.at wanted (4 * i + j))) (omega arith)
+      ∙ ring (nat 100 ⊠ at m ⊞ nat 10 ⊠ (at (Lists.at wanted (4 * i + j)) ⊟ nat 10 ⊠ at m)) (nat 10 ⊠ at (Lists.at wanted (4 * i + j))) (omega arith)
 
   module _ (held : Held g) (i j : ℕ) (row : i ≤ 3) (column : j ≤ 3) (turns north east : ℤ) (q : north ≡ nodeNorth z i) (r : east ≡ nodeEast z j +ℤ turns *ℤ pos turn) where
     -- counted from the south
@@ -149,17 +149,17 @@ module _ (z wanted : List ℤ) (m : ℤ) (g : Grid) (p : Facts z wanted m g) whe
     north-edge : fromEdge (surface g 2 .H) (northOf g north) ≡ pos (t * surface g 2 .H)
     unfolding northOf
     north-edge =
-        let d = natural (Row.at z 6) in
-        let o = Row.at z 4 in
+        let d = natural (Lists.at z 6) in
+        let o = Lists.at z 4 in
         (λ x. fromEdge (high x) (q x -ℤ pos (steps x) *ℤ valueIn (p .north x)))
         ∙ ap (λ (y : ℤ). fromEdge (d * 5000) (pos 5000 *ℤ o +ℤ y *ℤ pos (2500 * d) -ℤ pos 5000 *ℤ o)) halves
         ∙ edge-steps d t o ∙ ap (λ (h : ℕ). pos (t * h)) (sym high)
 
     -- the difference of the column
     abbrev apart : ℤ
-    apart = (pos (2 * j) -ℤ pos 3) *ℤ pos (2500 * natural (Row.at z 7))
+    apart = (pos (2 * j) -ℤ pos 3) *ℤ pos (2500 * natural (Lists.at z 7))
 
-    spacing-most : natural (Row.at z 7) ≤ 4095
+    spacing-most : natural (Lists.at z 7) ≤ 4095
     unfolding frameOf
     spacing-most = subst (λ (y : ℤ). natural y ≤ 4095) (p .columns) (held .frame .columns .1)
 
@@ -167,12 +167,12 @@ module _ (z wanted : List ℤ) (m : ℤ) (g : Grid) (p : Facts z wanted m g) whe
     unfolding eastOf
     east-is =
         (λ x. cond (ell x) (byTurns (r x -ℤ pos (steps x) *ℤ valueIn (p .east x))) (r x -ℤ pos (steps x) *ℤ valueIn (p .east x)))
-        ∙ sym (turned-back (Row.at z 5) apart turns (column-most j (natural (Row.at z 7)) column spacing-most))
+        ∙ sym (turned-back (Lists.at z 5) apart turns (column-most j (natural (Lists.at z 7)) column spacing-most))
 
     east-edge : fromEdge (surface g 2 .W) (eastOf g east) ≡ pos (j * surface g 2 .W)
     east-edge =
-        let d = natural (Row.at z 7) in
-        let o = Row.at z 5 in
+        let d = natural (Lists.at z 7) in
+        let o = Lists.at z 5 in
         (λ x. fromEdge (wide x) (east-is x))
         ∙ ap (fromEdge (d * 5000)) (ring (at apart) (nat 5000 ⊠ at o ⊞ at apart ⊟ nat 5000 ⊠ at o) (omega arith))
         ∙ edge-steps d j o ∙ ap (λ (h : ℕ). pos (j * h)) (sym wide)
@@ -204,7 +204,7 @@ module _ (z wanted : List ℤ) (m : ℤ) (g : Grid) (p : Facts z wanted m g) whe
       unfolding surface frameOf
       some = let d = spacings (frameOf g) north east (held .frame) (early (frameOf g) 2 north east field-tests) in (d .0 .0, d .1 .0)
 
-      count : interpolated (surface g 2) (northOf g north) (eastOf g east) ≡ pos 10 *ℤ Row.at wanted (4 * i + j)
+      count : interpolated (surface g 2) (northOf g north) (eastOf g east) ≡ pos 10 *ℤ Lists.at wanted (4 * i + j)
       count =
           let back : 3 - t ≡ i = omega arith in
           node-answer (surface g 2) (some .0) (some .1) t j (omega arith) column (northOf g north) (eastOf g east) north-edge east-edge
@@ -214,12 +214,12 @@ module _ (z wanted : List ℤ) (m : ℤ) (g : Grid) (p : Facts z wanted m g) whe
 -- ---- the message that was written
 
 -- a height that is near a mean of the range
-height-most : (wanted : List ℤ) (m : ℤ) → Smallest wanted m → (k : ℕ) → k < 16 → natAbs (Row.at wanted k) ≤ 164085
+height-most : (wanted : List ℤ) (m : ℤ) → Smallest wanted m → (k : ℕ) → k < 16 → natAbs (Lists.at wanted k) ≤ 164085
 unfolding fits
 height-most wanted m s k l =
-    let d = within-abs (at (Row.at wanted k) ⊟ nat 10 ⊠ at m) (less-most m (Row.at wanted k) (all-at (nearAt wanted m) 16 (s .fitting) k l)) in
+    let d = within-abs (at (Lists.at wanted k) ⊟ nat 10 ⊠ at m) (less-most m (Lists.at wanted k) (all-at (nearAt wanted m) 16 (s .fitting) k l)) in
     let r = within-abs (at m) (s .range) in
-    abs-within (at (Row.at wanted k)) (omega (arith, d .0, r .0)) (omega (arith, d .1, r .1))
+    abs-within (at (Lists.at wanted k)) (omega (arith, d .0, r .0)) (omega (arith, d .1, r .1))
 
 module _ (z : List ℤ) (b : List ℕ) (wanted : List ℤ) (n : ℕ) (e : heightsRefusal z b wanted n ≡ 0) where
   tests : (first (countTests z b wanted ++ recordTests z b) ≡ 0) × (first (meanTests z b wanted n (smallestMean wanted)) ≡ 0)
@@ -246,7 +246,7 @@ module _ (z : List ℤ) (b : List ℕ) (wanted : List ℤ) (n : ℕ) (e : height
         spaced = or-false _ _ (passed 12 _ _ (w .1) .0);
       }
 
-  module _ (m : ℤ) (f : smallestMean wanted ≡ Found m) where
+  module _ (m : ℤ) (f : smallestMean wanted ≡ Is m) where
     abbrev zs : List ℤ
     zs = heightValues z wanted m
 
@@ -258,7 +258,7 @@ module _ (z : List ℤ) (b : List ℕ) (wanted : List ℤ) (n : ℕ) (e : height
 
     later : (ofKind 1023 1023 v ≡ true) × (first (rowTests zs bs n) ≡ 0)
     later =
-        let h : first (meanTests z b wanted n (Found m)) ≡ 0 = ap (λ (k : Mean). first (meanTests z b wanted n k)) (sym f) ∙ tests .1 in
+        let h : first (meanTests z b wanted n (Is m)) ≡ 0 = ap (λ (k : Mean). first (meanTests z b wanted n k)) (sym f) ∙ tests .1 in
         let x = passed 4 (not (ofKind 1023 1023 v)) _ h in
         (not-false _ (x .0), x .1)
 
@@ -282,16 +282,16 @@ module _ (z : List ℤ) (b : List ℕ) (wanted : List ℤ) (n : ℕ) (e : height
         let w = not-false (rowTakes (rowLayout v) zs bs) (passed 4 (not (rowTakes (rowLayout v) zs bs)) (cond (ltb n (size (rowLayout v))) 6 0) (y .1) .0) in
         subst (λ (es : List ℕ). rowTakes es zs bs ≡ true) (layout-is z b wanted m number-is) w
 
-    place : (k : ℕ) → k < 64 → ofHeight k ≡ false → placeTakes (getD layout1023 k 0) (Row.at z k) (getD b k 0) ≡ true
+    place : (k : ℕ) → k < 64 → ofHeight k ≡ false → placeTakes (getD layout1023 k 0) (Lists.at z k) (getD b k 0) ≡ true
     place k l o =
         let h = place-at layout1023 zs bs taken k (omega (arith, l, length-1023)) in
         rw (other-value z b wanted m k l o, other-byte z b wanted m k l o) at h
 
     -- a field that has a value says it
-    says-value : (k : ℕ) → k < 64 → ofHeight k ≡ false → eqb (getD b k 0) 1 ≡ true → says v k ≡ Value (Row.at z k)
+    says-value : (k : ℕ) → k < 64 → ofHeight k ≡ false → eqb (getD b k 0) 1 ≡ true → says v k ≡ Value (Lists.at z k)
     says-value k l o t = says-other z b wanted m k l o ∙ rw t
 
-    node-of : (k : ℕ) → k < 16 → getD (nodesAt (says v) 11) k zeros .height ≡ Value (less (Row.at wanted k) m)
+    node-of : (k : ℕ) → k < 16 → getD (nodesAt (says v) 11) k zeros .height ≡ Value (less (Lists.at wanted k) m)
     unfolding nodesAt shiftsAt
     node-of k l =
         let e : 11 + 3 * k + 2 ≡ 13 + 3 * k = omega arith in
@@ -301,19 +301,19 @@ module _ (z : List ℤ) (b : List ℕ) (wanted : List ℤ) (n : ℕ) (e : height
     unfolding gridOf pairAt originAt spacingAt shiftsAt nodesAt zeroBeside saysOther layout1023
     facts =
         let r = recorded in
-        let t0 = said 12 (Row.at z 0) (getD b 0 0) refl (place 0 (omega arith) refl) in
-        let t3 = said 1 (Row.at z 3) (getD b 3 0) refl (place 3 (omega arith) refl) in
-        let t60 = said 2 (Row.at z 60) (getD b 60 0) refl (place 60 (omega arith) refl) in
-        let t6 = said 12 (Row.at z 6) (getD b 6 0) refl (place 6 (omega arith) refl) in
-        let t7 = said 12 (Row.at z 7) (getD b 7 0) refl (place 7 (omega arith) refl) in
-        let t4 = said-unless _ (Row.at z 4) (getD b 4 0) (r .origin .0) (place 4 (omega arith) refl) in
-        let t5 = said-unless _ (Row.at z 5) (getD b 5 0) (r .origin .1) (place 5 (omega arith) refl) in
+        let t0 = said 12 (Lists.at z 0) (getD b 0 0) refl (place 0 (omega arith) refl) in
+        let t3 = said 1 (Lists.at z 3) (getD b 3 0) refl (place 3 (omega arith) refl) in
+        let t60 = said 2 (Lists.at z 60) (getD b 60 0) refl (place 60 (omega arith) refl) in
+        let t6 = said 12 (Lists.at z 6) (getD b 6 0) refl (place 6 (omega arith) refl) in
+        let t7 = said 12 (Lists.at z 7) (getD b 7 0) refl (place 7 (omega arith) refl) in
+        let t4 = said-unless _ (Lists.at z 4) (getD b 4 0) (r .origin .0) (place 4 (omega arith) refl) in
+        let t5 = said-unless _ (Lists.at z 5) (getD b 5 0) (r .origin .1) (place 5 (omega arith) refl) in
         let v3 = ap valueIn (says-value 3 (omega arith) refl t3) in
         let v60 = ap valueIn (says-value 60 (omega arith) refl t60) in
         let v6 = ap valueIn (says-value 6 (omega arith) refl t6) in
         let v7 = ap valueIn (says-value 7 (omega arith) refl t7) in
-        let s6 : sameZ (Row.at z 6) (pos 0) ≡ false = rw t6 at (r .spaced .0) in
-        let s7 : sameZ (Row.at z 7) (pos 0) ≡ false = rw t7 at (r .spaced .1) in
+        let s6 : sameZ (Lists.at z 6) (pos 0) ≡ false = rw t6 at (r .spaced .0) in
+        let s7 : sameZ (Lists.at z 7) (pos 0) ≡ false = rw t7 at (r .spaced .1) in
         record {
           number = natural-is (numberAt (says v) 0) 1022 number-is;
           shown = ap (λ (y : ℤ). sameZ y (pos 0)) v3 ∙ (rw t3 at (r .shown));
@@ -343,7 +343,7 @@ module _ (z : List ℤ) (b : List ℕ) (wanted : List ℤ) (n : ℕ) (e : height
       facts-of : Facts z wanted m g
       facts-of = subst (λ (w : List Reading). Facts z wanted m (gridOf (says w))) (sym (row-of-message zs bs n written)) facts
 
-      answer : messageShift s 2 north east ≡ outcome (pos 1023) 2 0 (pos 10 *ℤ Row.at wanted (4 * i + j))
+      answer : messageShift s 2 north east ≡ outcome (pos 1023) 2 0 (pos 10 *ℤ Lists.at wanted (4 * i + j))
       unfolding messageShift shiftWith
       answer =
           let h = message-fields s 2 north east kind in
@@ -352,14 +352,14 @@ module _ (z : List ℤ) (b : List ℕ) (wanted : List ℤ) (n : ℕ) (e : height
           let k = sym (message-passed s 2 north east kind) ∙ o in
           λ x. outcome (facts-of .number x) 2 (k x) (c x)
 
-      with-mean : Gives (messageShifts (heightsMessage z b wanted) north east) (Row.at wanted (4 * i + j))
+      with-mean : Gives (messageShifts (heightsMessage z b wanted) north east) (Lists.at wanted (4 * i + j))
       unfolding messageShifts threeOf outcome answerOf floatOf sameZ
       with-mean =
-          subst (λ (l : List ℕ). Gives (messageShifts l north east) (Row.at wanted (4 * i + j))) (message-is z b wanted m f)
+          subst (λ (l : List ℕ). Gives (messageShifts l north east) (Lists.at wanted (4 * i + j))) (message-is z b wanted m f)
           (record {
             refusal = ap (λ (w : Shift). w .refusal) answer;
             count = ap (λ (w : Shift). w .count) answer;
-            metres = ap (λ (w : Shift). floatOf (w .answer)) answer ∙ metres-is (Row.at wanted (4 * i + j)) (height-most wanted m (smallest wanted m f) (4 * i + j) (omega arith));
+            metres = ap (λ (w : Shift). floatOf (w .answer)) answer ∙ metres-is (Lists.at wanted (4 * i + j)) (height-most wanted m (smallest wanted m f) (4 * i + j) (omega arith));
           })
 
   -- no refusal, so there is a mean
@@ -372,6 +372,6 @@ module _ (z : List ℤ) (b : List ℕ) (wanted : List ℤ) (n : ℕ) (e : height
 pub gives-wanted : GivesWanted
 gives-wanted z b wanted n e i j row column turns north east q r bound =
     ⊎-elim
-    (λ (p : (m : ℤ) × (smallestMean wanted ≡ Found m)). with-mean z b wanted n e (p .0) (p .1) i j row column turns north east q r bound)
+    (λ (p : (m : ℤ) × (smallestMean wanted ≡ Is m)). with-mean z b wanted n e (p .0) (p .1) i j row column turns north east q r bound)
     (λ (h : NoneFits wanted). absurd (some-mean z b wanted n e h))
     (found-or-none wanted)

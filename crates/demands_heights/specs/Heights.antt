@@ -8,12 +8,12 @@ use lib.IntN.{ℤ, pos, natAbs, _+ℤ_, _-ℤ_, _*ℤ_}
 use lib.ListN.{length, getD}
 use lib.Signed.{_<ℤ_}
 use Rattle.arith.specs.First.{first}
-use Rattle.arith.specs.Row.{at}
+use Rattle.arith.specs.Lists.{at}
 use Rattle.arith.specs.Whole.{natural}
 use Rattle.layout.specs.Layout.{placeTakes}
 use Rattle.layout_tables.specs.Layouts.{layout1023}
 use Rattle.heights_mean.specs.Means.{fits, smallestMean}
-use Rattle.heights_mean.specs.declared.Mean.the-variants.{Found}
+use Rattle.heights_mean.specs.declared.Mean.the-variants.{Is}
 use Rattle.heights.specs.Heights.{ofHeight, recordTests, heightsRefusal, heightsMessage, writeHeights}
 use Rattle.grid_refusals.specs.Refusals.{beyond}
 use Rattle.grid_place.specs.Position.{turn}
@@ -33,7 +33,7 @@ pub record Smallest (wanted : List ℤ) (m : ℤ) : Type 0 where
   pub least : (k : ℤ) → natAbs k ≤ 16383 → k <ℤ m → fits wanted k ≡ false
 
 abbrev pub ChoosesSmallest : Type 0
-ChoosesSmallest = (wanted : List ℤ) (m : ℤ) → smallestMean wanted ≡ Found m → Smallest wanted m
+ChoosesSmallest = (wanted : List ℤ) (m : ℤ) → smallestMean wanted ≡ Is m → Smallest wanted m
 
 -- ---- refusals
 

@@ -11,7 +11,7 @@ use Rattle.table_slots.specs.Slots.{slots, messageSize, slotSize, isOwner, key,
 use Rattle.table.specs.Table.{holding, usedSlots, wellFormed, foundOf}
 use Rattle.table_history.specs.History.{fresh, Ask, Call, callsOf, lastOf}
 use Rattle.table_history.specs.Dict.{entries, total, dictReplies}
-use Rattle.table_history.specs.Neighbour.{ofOwner, atMost, keptAfter, none, noKeyTwice}
+use Rattle.table_history.specs.Isolation.{ofOwner, atMost, keptAfter, none, noKeyTwice}
 use Rattle.table_index_search.specs.Index.{keyAt, slotAt}
 use Rattle.table_index_search.specs.Search.{searched}
 use Rattle.table_index_search.specs.Means.{markIn, Agrees}
@@ -84,8 +84,8 @@ LastStored =
     → Finds (afterAll b cs) owner sin group (lastOf owner (key sin group) (part (b .table) (b .index) owner sin group) (logOf b cs))
 
 -- request A8 from a fresh table and a fresh index; the number of probes is in no reply
-abbrev pub NeighbourUnseen : Type 0
-NeighbourUnseen =
+abbrev pub NonInterference : Type 0
+NonInterference =
     (owner : ℕ) → isOwner owner ≡ true → (cs cs′ : List Call) → byteCalls cs ≡ true → byteCalls cs′ ≡ true → callsOf owner cs ≡ callsOf owner cs′
     → atMost 12 [] (callsOf owner cs) ≡ true → ofOwner owner cs (replies freshBoth cs) ≡ ofOwner owner cs′ (replies freshBoth cs′)
 

@@ -5,7 +5,7 @@ ghost use mathlib.Core.Bool.{true};
 ghost use mathlib.Core.List.{List};
 ghost use Rattle.table_history.specs.History.{Call};
 ghost use Rattle.table_index_history.specs.Calls.{byteCalls};
-ghost use Rattle.demands_indexes.specs.Indexes.{AgreementIs, OneEntry, AgreementKept, WrittenAgrees, FreshAgree, BothKept, FindsLikeTheWalk, DictionaryKept, LastStored, NeighbourUnseen, SlotsCounted, ProbesCounted, FindReads, OthersKept, ShownOwn};
+ghost use Rattle.demands_indexes.specs.Indexes.{AgreementIs, OneEntry, AgreementKept, WrittenAgrees, FreshAgree, BothKept, FindsLikeTheWalk, DictionaryKept, LastStored, NonInterference, SlotsCounted, ProbesCounted, FindReads, OthersKept, ShownOwn};
 
 // When table and index agree, and that they stay so.
 pub fn agreement()
@@ -22,7 +22,7 @@ pub fn histories()
     ensures walk { λ r. ⌜ FindsLikeTheWalk ⌝ }
     ensures dictionary { λ r. ⌜ DictionaryKept ⌝ }
     ensures last { λ r. ⌜ LastStored ⌝ }
-    ensures unseen { λ r. ⌜ NeighbourUnseen ⌝ }
+    ensures unseen { λ r. ⌜ NonInterference ⌝ }
     ensures counted { λ r. ⌜ ((cs : List Call) → byteCalls cs ≡ true → SlotsCounted cs) ⌝ }
 {}
 

@@ -18,7 +18,7 @@ use Rattle.report_update.proofs.Agree.{points-are, sum-small, with-one}
 use Rattle.report_tally.specs.Next.{outcomeAt, nextRefusal, nextOf}
 use Rattle.report_points.specs.declared.Point.{Point}
 use Rattle.report_points.specs.Reports.{outcomes, reportRefusal, reportOf}
-use Rattle.report_points.proofs.Walk.{sounds, outcomes-more, outcomes-length, told, nil-right}
+use Rattle.report_points.proofs.Walk.{sounds, outcomes-more, outcomes-length, reportSoFar, nil-right}
 use Rattle.demands_reports.specs.Points.{zeros, runningFrom, running, RunningIsReport, AfterEveryPoint, RefusedComponent, RefusedKeeps, GivenIsAll}
 
 module _ (s : List ℕ) (c : ℕ) where
@@ -46,7 +46,7 @@ module _ (s : List ℕ) (c : ℕ) where
           le-ltb 100000000000 (natAbs (tallyOf os .sum)) near,
         )
 
-    next-is : nextOf (tallyOf os) s c (p .north) (p .east) ≡ told s c (ps ++ (p ∷ []))
+    next-is : nextOf (tallyOf os) s c (p .north) (p .east) ≡ reportSoFar s c (ps ++ (p ∷ []))
     unfolding nextOf
     next-is =
         (λ i. record { refusal = none-refused i; tally = cond (eqb (none-refused i) 0) (withOutcome (tallyOf os) (o .refusal) (o .count) (points i + 1)) (tallyOf os) })
@@ -59,9 +59,9 @@ module _ (s : List ℕ) (c : ℕ) where
       ∙ running-from (qs ++ (p ∷ [])) ps known (omega (arith, length-append qs (p ∷ [])))
       ∙ ap (λ (l : List Point). tallyOf (outcomes s c l)) (append-assoc qs (p ∷ []) ps)
 
-  told-is : (ps : List Point) → c ≤ 2 → length ps ≤ 10000 → told s c ps ≡ reportOf s c ps
+  known-is : (ps : List Point) → c ≤ 2 → length ps ≤ 10000 → reportSoFar s c ps ≡ reportOf s c ps
   unfolding reportOf
-  told-is ps known few = sym (ap (λ (r : ℕ). reportWith r (outcomes s c ps)) passes)
+  known-is ps known few = sym (ap (λ (r : ℕ). reportWith r (outcomes s c ps)) passes)
     where
       passes : reportRefusal c (length ps) ≡ 0
       passes = simp (le-ltb 2 c known, le-ltb 10000 (length ps) few)
@@ -85,13 +85,13 @@ module _ (s : List ℕ) (c : ℕ) where
     report-refused ps = simp (lt-ltb 2 c over)
 
 pub running-is-report : RunningIsReport
-running-is-report s c ps known few = ap (λ (t : Tally). record { refusal = 0; tally = t }) (running-from s c [] ps known (omega arith)) ∙ told-is s c ps known few
+running-is-report s c ps known few = ap (λ (t : Tally). record { refusal = 0; tally = t }) (running-from s c [] ps known (omega arith)) ∙ known-is s c ps known few
 
 pub after-every-point : AfterEveryPoint
 after-every-point s c ps p known few =
     ap (λ (t : Tally). nextOf t s c (p .north) (p .east)) (running-from s c [] ps known (omega arith))
     ∙ next-is s c ps p known few
-    ∙ told-is s c (ps ++ (p ∷ [])) known (omega (arith, length-append ps (p ∷ [])))
+    ∙ known-is s c (ps ++ (p ∷ [])) known (omega (arith, length-append ps (p ∷ [])))
 
 pub refused-component : RefusedComponent
 refused-component s c ps p over =
@@ -107,4 +107,4 @@ refused-keeps t s c n e h = rw (ne-eqb (nextRefusal t c) 0 h)
 
 pub given-is-all : GivenIsAll
 given-is-all s c ps known few =
-    ap (λ (r : Report). pointsIn (r .tally)) (sym (told-is s c ps known few)) ∙ points-are (outcomes s c ps) (sounds s c ps) ∙ outcomes-length s c ps
+    ap (λ (r : Report). pointsIn (r .tally)) (sym (known-is s c ps known few)) ∙ points-are (outcomes s c ps) (sounds s c ps) ∙ outcomes-length s c ps

@@ -15,7 +15,7 @@ use Rattle.arith.specs.Whole.{sameZ}
 use Rattle.arith.proofs.Whole.{eqZ-false}
 use Rattle.sample_numbers.specs.Number.{bytesOf, wholeBytes, putBytes}
 use Rattle.sample_numbers.proofs.Number.{length-bytesOf, length-whole, put-within}
-use Rattle.sample_files.specs.declared.Point.{Point}
+use Rattle.sample_files.specs.declared.SamplePoint.{SamplePoint}
 use Rattle.sample_files.specs.File.{field, pointField, pointFields, fileOf, noPoint}
 use Rattle.sample_files.specs.Held.{Held, AllHeld, more}
 use Rattle.sample_files.proofs.Bytes.{length-contents, length-field, length-points}
@@ -29,16 +29,16 @@ use Rattle.demands_samples.proofs.Checks.{file-back, back-checked, is-f
 use Rattle.demands_samples.proofs.Written.{writes, few-samples, message-short, samples-held, samples-right}
 
 -- a point with another claim
-abbrev withClaim : Point → ℤ → Point
+abbrev withClaim : SamplePoint → ℤ → SamplePoint
 withClaim p z = record { component = p .component; north = p .north; east = p .east; claim = z }
 
 -- ---- the bytes
 
 -- those of a point before its claim
-abbrev front : Point → List ℕ
+abbrev front : SamplePoint → List ℕ
 front p = 2 ∷ (bytesOf 2 25 ++ (p .component ∷ (wholeBytes (p .north) ++ wholeBytes (p .east))))
 
-front-is : (p : Point) → pointField p ≡ front p ++ wholeBytes (p .claim)
+front-is : (p : SamplePoint) → pointField p ≡ front p ++ wholeBytes (p .claim)
 unfolding pointField field
 front-is p =
     rw (length-contents p)
@@ -46,18 +46,18 @@ front-is p =
     (ap (λ (l : List ℕ). bytesOf 2 25 ++ (p .component ∷ l)) (sym (append-assoc (wholeBytes (p .north)) (wholeBytes (p .east)) (wholeBytes (p .claim))))
     ∙ sym (append-assoc (bytesOf 2 25) (p .component ∷ (wholeBytes (p .north) ++ wholeBytes (p .east))) (wholeBytes (p .claim)))))
 
-length-front : (p : Point) → length (front p) ≡ 20
+length-front : (p : SamplePoint) → length (front p) ≡ 20
 length-front p =
     ap suc (length-append (bytesOf 2 25) (p .component ∷ (wholeBytes (p .north) ++ wholeBytes (p .east))))
     ∙ omega (arith, length-bytesOf 2 25, length-append (wholeBytes (p .north)) (wholeBytes (p .east)), length-whole (p .north), length-whole (p .east))
 
-split-points : (xs : List Point) (p : Point) (ys : List Point) → pointFields (xs ++ p ∷ ys) ≡ pointFields xs ++ (pointField p ++ pointFields ys)
+split-points : (xs : List SamplePoint) (p : SamplePoint) (ys : List SamplePoint) → pointFields (xs ++ p ∷ ys) ≡ pointFields xs ++ (pointField p ++ pointFields ys)
 unfolding pointFields
 split-points [] p ys = refl
 split-points (x ∷ xs) p ys =
     ap (λ (l : List ℕ). pointField x ++ l) (split-points xs p ys) ∙ sym (append-assoc (pointField x) (pointFields xs) (pointField p ++ pointFields ys))
 
-module _ (m : List ℕ) (xs : List Point) (p : Point) (ys : List Point) where
+module _ (m : List ℕ) (xs : List SamplePoint) (p : SamplePoint) (ys : List SamplePoint) where
   -- the bytes of a file before the claim of a point
   abbrev head : List ℕ
   head = field 1 m ++ (pointFields xs ++ front p)
@@ -82,12 +82,12 @@ put-split x y w z a p q r =
     ∙ ap₂ (λ (u v : List ℕ). u ++ (z ++ v)) (take-at x (y ++ w) a p)
     (sym (drop-drop (length z) a (x ++ (y ++ w))) ∙ ap (drop (length z)) (drop-at x (y ++ w) a p) ∙ drop-at y w (length z) (q ∙ sym r))
 
-claim-put : (m : List ℕ) (qs : List Point) (k : ℕ) (z : ℤ) → k < length qs
+claim-put : (m : List ℕ) (qs : List SamplePoint) (k : ℕ) (z : ℤ) → k < length qs
     → putBytes (fileOf m qs) (claimPlace m k) (wholeBytes z) ≡ fileOf m (set qs k (withClaim (getD qs k noPoint) z))
 claim-put m qs k z h =
-    let p : Point = getD qs k noPoint in
-    let xs : List Point = take k qs in
-    let ys : List Point = drop (suc k) qs in
+    let p : SamplePoint = getD qs k noPoint in
+    let xs : List SamplePoint = take k qs in
+    let ys : List SamplePoint = drop (suc k) qs in
     let n : length xs ≡ k = length-take-le k qs (omega arith) in
     ap (λ (l : List ℕ). putBytes l (claimPlace m k) (wholeBytes z)) (ap (fileOf m) (split-at qs k noPoint h) ∙ file-split m xs p ys)
     ∙ put-split (head m xs p ys) (wholeBytes (p .claim)) (pointFields ys) (wholeBytes z) (claimPlace m k) (length-head m xs p ys ∙ ap (claimPlace m) n) (length-whole (p .claim)) (length-whole z)
@@ -95,12 +95,12 @@ claim-put m qs k z h =
 
 -- ---- the points
 
-held-at : (ps : List Point) (k : ℕ) → AllHeld ps → k < length ps → Held (getD ps k noPoint)
+held-at : (ps : List SamplePoint) (k : ℕ) → AllHeld ps → k < length ps → Held (getD ps k noPoint)
 held-at [] k hs h = absurd (not-suc-le-zero h)
 held-at (p ∷ ps) zero (more x hs) h = x
 held-at (p ∷ ps) (suc k) (more x hs) h = held-at ps k hs (le-of-suc-le-suc h)
 
-held-set : (ps : List Point) (k : ℕ) (p : Point) → Held p → AllHeld ps → AllHeld (set ps k p)
+held-set : (ps : List SamplePoint) (k : ℕ) (p : SamplePoint) → Held p → AllHeld ps → AllHeld (set ps k p)
 held-set [] k p x hs = hs
 held-set (q ∷ ps) zero p x (more y hs) = more x hs
 held-set (q ∷ ps) (suc k) p x (more y hs) = more y (held-set ps k p x hs)
@@ -128,16 +128,16 @@ unfolding samplesFile
 claim-changed m cs ns es room b u v h k z l f d =
     let w = writes m cs ns es room h in
     let a : Asked = record { component = getD cs k 0; north = getD ns k (pos 0); east = getD es k (pos 0) } in
-    let qs : List Point = map (sample m) (askedOf cs ns es) in
-    let p : Point = getD qs k noPoint in
+    let qs : List SamplePoint = map (sample m) (askedOf cs ns es) in
+    let p : SamplePoint = getD qs k noPoint in
     let n : length qs ≡ length cs = length-samples m (askedOf cs ns es) ∙ length-askedOf cs ns es (w .north) (w .east) in
     let i : k < length qs = omega arith in
     let hs : AllHeld qs = samples-held m cs ns es w b u v in
     let x : Held p = held-at qs k hs i in
-    let rs : List Point = set qs k (withClaim p z) in
+    let rs : List SamplePoint = set qs k (withClaim p z) in
     let g : length rs ≡ length qs = length-set qs k (withClaim p z) in
     let bad : right m (getD rs k noPoint) ≡ false =
-    ap (right m) (getD-set-same qs k (withClaim p z) noPoint i ∙ ap (λ (q : Point). withClaim q z) (sample-at m cs ns es k (w .north) (w .east) l))
+    ap (right m) (getD-set-same qs k (withClaim p z) noPoint i ∙ ap (λ (q : SamplePoint). withClaim q z) (sample-at m cs ns es k (w .north) (w .east) l))
     ∙ other-claim m a z (unfold answerAt in d) in
     ap checked (claim-put m qs k z i)
     ∙ back-checked m rs

@@ -14,7 +14,7 @@ use Rattle.arith.proofs.Tests.{both-first, both-second}
 use Rattle.arith.proofs.Places.{First, first, first-is}
 use Rattle.message_rows.specs.Message.{kindTests, kindRefusal}
 use Rattle.arith.specs.First as tests
-use Rattle.sample_files.specs.declared.Point.{Point}
+use Rattle.sample_files.specs.declared.SamplePoint.{SamplePoint}
 use Rattle.sample_files.specs.File.{messageOf, pointsOf, shape, noPoint, fileOf}
 use Rattle.sample_files.proofs.Back.{message-back, points-of-back, shape-back}
 use Rattle.sample_files.proofs.Shape.{shape-file, shape-few, message-low, held-points}
@@ -38,7 +38,7 @@ shape-exactly f b =
 
 -- ---- the first bad point
 
-module _ (m : List ℕ) (ps : List Point) where
+module _ (m : List ℕ) (ps : List SamplePoint) where
   abbrev at : ℕ → Bool
   at k = right m (getD ps k noPoint)
 
@@ -120,7 +120,7 @@ module _ (f : List ℕ) where
   abbrev m : List ℕ
   m = messageOf f
 
-  abbrev ps : List Point
+  abbrev ps : List SamplePoint
   ps = pointsOf f
 
   data Case : Checked → Type 0 where
@@ -200,6 +200,6 @@ pub place-is-first : PlaceIsFirst
 place-is-first f = place f
 
 -- a file that is read back
-pub back-checked : (m : List ℕ) (ps : List Point) → ReadBack m ps → messageRefusal m ≡ 0 → checked (fileOf m ps) ≡ claims (firstBad m ps)
+pub back-checked : (m : List ℕ) (ps : List SamplePoint) → ReadBack m ps → messageRefusal m ≡ 0 → checked (fileOf m ps) ≡ claims (firstBad m ps)
 unfolding checked
 back-checked m ps b r = rw (b .shaped, b .message, b .points, r)

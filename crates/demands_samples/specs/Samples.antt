@@ -9,7 +9,7 @@ use lib.ListN.{length, getD, take}
 use lib.Signed.{mag}
 use Rattle.grid_shifts.specs.Shift.{messageShift}
 use Rattle.sample_numbers.specs.Number.{number, bytesOf, whole, wholeBytes, putBytes}
-use Rattle.sample_files.specs.declared.Point.{Point}
+use Rattle.sample_files.specs.declared.SamplePoint.{SamplePoint}
 use Rattle.sample_files.specs.File.{fileOf, messageOf, pointsOf, shape, noPoint}
 use Rattle.sample_files.specs.Held.{AllHeld}
 use Rattle.sample_checks.specs.Check.{messageRefusal, right, checked, refusedWith}
@@ -41,18 +41,18 @@ WholeBytesBack = (s : List ℕ) → Bytes s → 8 ≤ length s → wholeBytes (w
 -- ---- the file
 
 -- the bytes of a message and points have the right shape, and give both back
-pub record ReadBack (m : List ℕ) (ps : List Point) : Type 0 where
+pub record ReadBack (m : List ℕ) (ps : List SamplePoint) : Type 0 where
   pub shaped : shape (fileOf m ps) ≡ true
   pub message : messageOf (fileOf m ps) ≡ m
   pub points : pointsOf (fileOf m ps) ≡ ps
 
 abbrev pub FileBack : Type 0
-FileBack = (m : List ℕ) (ps : List Point) → length m ≤ 65535 → length ps ≤ 1000 → AllHeld ps → ReadBack m ps
+FileBack = (m : List ℕ) (ps : List SamplePoint) → length m ≤ 65535 → length ps ≤ 1000 → AllHeld ps → ReadBack m ps
 
 -- a file has the right shape exactly if it is the bytes of some message of at most 65,535 bytes and "at most 1,000" points
 pub record Made (f : List ℕ) : Type 0 where
   pub message : List ℕ
-  pub points : List Point
+  pub points : List SamplePoint
   pub short : length message ≤ 65535
   pub few : length points ≤ 1000
   pub held : AllHeld points

@@ -14,16 +14,16 @@ use Rattle.message_rows.specs.Message.{layout, refusal}
 use Rattle.table_slots.specs.Slots.{isOwner, keyOf}
 use Rattle.table_history.specs.History.{fresh, Call, callsOf}
 use Rattle.table_history.specs.Dict.{storedUnder, without, isNew, freeNumber, freeShown, changed, freeAfter, total, full, dictNumber, dictShown, changedFor, dictAfter, Reply, dictReplies}
-use Rattle.table_history.specs.Neighbour.{ofOwner, repliesTo, atMost, none}
-use Rattle.demands_tables.specs.Neighbours.{projection, stores, quiet, crowded, ThirteenFail}
+use Rattle.table_history.specs.Isolation.{ofOwner, repliesTo, atMost, none}
+use Rattle.demands_tables.specs.Isolation.{projection, stores, alone, besideTwenty, ThirteenFail}
 use Rattle.table_history.proofs.Replies.{same-replies}
-use Rattle.table_history.proofs.Neighbour.{fresh-same}
+use Rattle.table_history.proofs.Isolation.{fresh-same}
 
 answers : List Reply → List ℕ
 answers [] = []
 answers (r ∷ rs) = r .answer ∷ answers rs
 
--- the thirteenth number that owner 1 is told, by the table and by the dictionaries
+-- the thirteenth number that owner 1 is leftUnder, by the table and by the dictionaries
 last : List Call → ℕ
 last cs = getD (answers (ofOwner 1 cs (dictReplies none cs))) 12 0
 
@@ -31,23 +31,23 @@ last-is : (cs : List Call) → getD (answers (repliesTo 1 fresh cs)) 12 0 ≡ la
 unfolding repliesTo last answers
 last-is cs = ap (λ (rs : List Reply). getD (answers (ofOwner 1 cs rs)) 12 0) (same-replies cs fresh none fresh-same)
 
-quiet-last : last quiet ≡ 0
-unfolding refusal layout layoutOf layout1025 layouts.total zeroFrom decodeAll allTake field bitAt twos signedOf keyOf storedUnder without isNew freeNumber freeShown changed freeAfter isOwner total full dictNumber dictShown changedFor dictAfter dictReplies ofOwner last answers quiet crowded stores projection
-quiet-last = refl
+alone-last : last alone ≡ 0
+unfolding refusal layout layoutOf layout1025 layouts.total zeroFrom decodeAll allTake field bitAt twos signedOf keyOf storedUnder without isNew freeNumber freeShown changed freeAfter isOwner total full dictNumber dictShown changedFor dictAfter dictReplies ofOwner last answers alone besideTwenty stores projection
+alone-last = refl
 
-crowded-last : last crowded ≡ 16
-unfolding refusal layout layoutOf layout1025 layouts.total zeroFrom decodeAll allTake field bitAt twos signedOf keyOf storedUnder without isNew freeNumber freeShown changed freeAfter isOwner total full dictNumber dictShown changedFor dictAfter dictReplies ofOwner last answers quiet crowded stores projection
-crowded-last = refl
+beside-twenty-last : last besideTwenty ≡ 16
+unfolding refusal layout layoutOf layout1025 layouts.total zeroFrom decodeAll allTake field bitAt twos signedOf keyOf storedUnder without isNew freeNumber freeShown changed freeAfter isOwner total full dictNumber dictShown changedFor dictAfter dictReplies ofOwner last answers alone besideTwenty stores projection
+beside-twenty-last = refl
 
-asked : atMost 13 [] (callsOf 1 quiet) ≡ true
-unfolding refusal layout layoutOf layout1025 layouts.total zeroFrom decodeAll allTake field bitAt twos signedOf keyOf storedUnder without isNew freeNumber freeShown changed freeAfter callsOf atMost quiet stores projection
+asked : atMost 13 [] (callsOf 1 alone) ≡ true
+unfolding refusal layout layoutOf layout1025 layouts.total zeroFrom decodeAll allTake field bitAt twos signedOf keyOf storedUnder without isNew freeNumber freeShown changed freeAfter callsOf atMost alone stores projection
 asked = refl
 
 pub thirteen-fail : ThirteenFail
-unfolding callsOf quiet crowded stores
+unfolding callsOf alone besideTwenty stores
 thirteen-fail =
     record {
       calls = refl;
       asked = asked;
-      differ = λ e. (let z : _≡_ {A = ℕ} 0 16 = sym (last-is quiet ∙ quiet-last) ∙ ap (λ (rs : List Reply). getD (answers rs) 12 0) e ∙ last-is crowded ∙ crowded-last in omega arith);
+      differ = λ e. (let z : _≡_ {A = ℕ} 0 16 = sym (last-is alone ∙ alone-last) ∙ ap (λ (rs : List Reply). getD (answers rs) 12 0) e ∙ last-is besideTwenty ∙ beside-twenty-last in omega arith);
     }

@@ -1,2 +1,2 @@
 pub mod Tables
-pub mod Neighbours
+pub mod Isolation

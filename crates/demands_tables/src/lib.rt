@@ -1,7 +1,7 @@
 // The demands on the table as theorems, each the promise of a function that does nothing, so that none can be taken away unnoticed.
 ghost use mathlib.Core.List.{List};
 ghost use Rattle.table_history.specs.History.{Call};
-ghost use Rattle.demands_tables.specs.Neighbours.{NeighbourUnseen, SlotsCounted, ThirteenFail};
+ghost use Rattle.demands_tables.specs.Isolation.{NonInterference, SlotsCounted, ThirteenFail};
 ghost use Rattle.demands_tables.specs.Tables.{LikeADictionary, LastStored, NoGroup, ZeroBytes, StaysFormed, RefusedKeeps, OwnerRefused, OthersKept, OthersKeptAll, ShownOwn, FullExactly, RoomThere, TwelveThere};
 
 // Demands 1 and 2 of the table for each owner, over any list of calls by both.
@@ -26,8 +26,8 @@ pub fn owners()
 {}
 
 // Request A8: what one owner gets does not depend on the other's calls while it asks to hold at most twelve keys, and the slots used are the keys stored and not removed since.
-pub fn neighbours()
-    ensures unseen { λ r. ⌜ NeighbourUnseen ⌝ }
+pub fn isolation()
+    ensures unseen { λ r. ⌜ NonInterference ⌝ }
     ensures counted { λ r. ⌜ ((cs : List Call) → SlotsCounted cs) ⌝ }
     ensures thirteen { λ r. ⌜ ThirteenFail ⌝ }
 {}

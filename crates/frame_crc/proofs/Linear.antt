@@ -172,29 +172,29 @@ pub crc-lt : (s : List ℕ) → crc s < 2 ^ 24
 unfolding crc
 crc-lt s = from-lt 0 s (omega arith)
 
--- a loop's turn and its end
-pub turn : (c : ℕ) (s : List ℕ) (i : ℕ) → i < length s → crcFrom (crcByte c (getD s i 0)) (drop (i + 1) s) ≡ crcFrom c (drop i s)
+-- a loop's round and its end
+pub round : (c : ℕ) (s : List ℕ) (i : ℕ) → i < length s → crcFrom (crcByte c (getD s i 0)) (drop (i + 1) s) ≡ crcFrom c (drop i s)
 unfolding crcFrom
-turn c s i h = rw (add-one, drop-cons s i 0)
+round c s i h = rw (add-one, drop-cons s i 0)
 
 pub four-lt : (c x y z v : ℕ) → c < 2 ^ 24 → crcByte (crcByte (crcByte (crcByte c x) y) z) v < 2 ^ 24
 four-lt c x y z v h =
     byte-lt (crcByte (crcByte (crcByte c x) y) z) v (byte-lt (crcByte (crcByte c x) y) z (byte-lt (crcByte c x) y (byte-lt c x h)))
 
 next : (c : ℕ) (s : List ℕ) (i j : ℕ) → j ≡ i + 1 → i < length s → crcFrom (crcByte c (getD s i 0)) (drop j s) ≡ crcFrom c (drop i s)
-next c s i j e h = ap (λ (k : ℕ). crcFrom (crcByte c (getD s i 0)) (drop k s)) e ∙ turn c s i h
+next c s i j e h = ap (λ (k : ℕ). crcFrom (crcByte c (getD s i 0)) (drop k s)) e ∙ round c s i h
 
-pub turn-four : (c : ℕ) (s : List ℕ) (i : ℕ) → i + 4 ≤ length s
+pub round-four : (c : ℕ) (s : List ℕ) (i : ℕ) → i + 4 ≤ length s
     → crcFrom (crcByte (crcByte (crcByte (crcByte c (getD s i 0)) (getD s (i + 1) 0)) (getD s (i + 2) 0)) (getD s (i + 3) 0)) (drop (i + 4) s)
     ≡ crcFrom c (drop i s)
-turn-four c s i h =
+round-four c s i h =
     let c1 : ℕ = crcByte c (getD s i 0) in
     let c2 : ℕ = crcByte c1 (getD s (i + 1) 0) in
     let c3 : ℕ = crcByte c2 (getD s (i + 2) 0) in
     next c3 s (i + 3) (i + 4) (omega arith) (omega arith)
     ∙ next c2 s (i + 2) (i + 3) (omega arith) (omega arith)
     ∙ next c1 s (i + 1) (i + 2) (omega arith) (omega arith)
-    ∙ turn c s i (omega arith)
+    ∙ round c s i (omega arith)
 
 pub done : (c : ℕ) (s : List ℕ) (i : ℕ) → length s ≤ i → crcFrom c (drop i s) ≡ c
 unfolding crcFrom

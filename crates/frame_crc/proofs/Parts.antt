@@ -12,8 +12,8 @@ use lib.Dec.{eqb}
 use lib.Bits.{bitXor, xor-comm, xor-lt, xor-shifted, xor-zero-r}
 use lib.ListN.{getD}
 use borrow.Author.Tests.{eqb-true}
-use Rattle.arith.specs.Row.{allBelow}
-use Rattle.arith.proofs.Rows.{getD-upTo}
+use Rattle.arith.specs.Lists.{allBelow}
+use Rattle.arith.proofs.Lists.{getD-upTo}
 use Rattle.arith.proofs.Tests.{all-at}
 use Rattle.frame_crc.specs.Crc.{reduced, crcBit, crcBits, crcByte}
 use Rattle.frame_crc.specs.Private.{part, parts}

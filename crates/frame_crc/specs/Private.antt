@@ -2,7 +2,7 @@
 -- Assumes nothing.
 use Prim.Native.Nat.{ℕ, _*_, _/_, _%_, _^_}
 use mathlib.Core.List.{List}
-use Rattle.arith.specs.Row.{upTo}
+use Rattle.arith.specs.Lists.{upTo}
 use Rattle.frame_crc.specs.Crc.{crcBits}
 
 -- the table by which the code goes: what each four bits leave of the division from 0, 16 numbers for each of the eight places in 32 bits

@@ -184,7 +184,7 @@ fn crc_end(table: &[u32; 128], start: u32, s: &[u8], from: usize) -> u32
     c
 }
 
-// The CRC of s by the table, which stands outside the loop so that it is not made anew at each turn.
+// The CRC of s by the table, which stands outside the loop so that it is not made anew at each round.
 fn crc_by(table: &[u32; 128], s: &[u8]) -> u32
     requires { ⌜ now table ≡ parts ⌝ }
     ensures { λ r. ⌜ r ≡ crc (now (s .entry)) ⌝ }

@@ -8,11 +8,11 @@ use native.Mathlib.Omega.{arith}
 use lib.ListN.{length, getD, take, drop, length-drop}
 use lib.Seq.{length-take-le, getD-append-add, getD-drop, getD-take}
 use borrow.Author.Tests.{lt-ltb, le-ltb}
-use Rattle.arith.specs.Row.{upTo}
-use Rattle.arith.proofs.Rows.{length-upTo, is-upTo}
+use Rattle.arith.specs.Lists.{upTo}
+use Rattle.arith.proofs.Lists.{length-upTo, is-upTo}
 use Rattle.frame_search.specs.Inner.{kept, slid}
 
--- the byte to be moved by turn i
+-- the byte to be moved by round i
 pub source : List ℕ → ℕ → ℕ → ℕ
 source w from k = getD w (from + k) 0
 

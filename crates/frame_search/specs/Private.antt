@@ -17,7 +17,7 @@ framesWithin (suc k) s from =
     cond (eqb (findFrame s from .refusal) 0) (findFrame s from ∷ framesWithin k s (findFrame s from .at + findFrame s from .length + 6))
     (cond (eqb (findFrame s from .refusal) 19) (framesWithin k s (findFrame s from .at + 1)) [])
 
--- each turn goes on by a byte or more
+-- each round goes on by a byte or more
 unfoldable pub framesFrom : List ℕ → ℕ → List Frame
 framesFrom s from = framesWithin (length s + 1 - from) s from
 

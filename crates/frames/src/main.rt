@@ -6,7 +6,7 @@ use libc::STDIN_FILENO;
 use text_lines::output;
 use text_lines::output::Out;
 
-// More turns than any recording asks for: each finds a frame, passes a byte or reads on.
+// More rounds than any recording asks for: each finds a frame, passes a byte or reads on.
 const TURNS: usize = 1099511627776;
 
 // The window's place in the stream, where the search goes on in it, how many bytes it holds, whether no more come; then the frames found, the bytes
@@ -31,14 +31,14 @@ fn main() {
 // Every frame of the input, and the last line.
 fn list_frames(window: &mut [u8], out: &mut Out) {
     let mut state = start();
-    let mut turns: usize = TURNS;
-    while turns > 0 {
-        state = turn(window, out, state);
+    let mut rounds: usize = TURNS;
+    while rounds > 0 {
+        state = round(window, out, state);
         if state.done {
             put_end(out, state);
             return;
         }
-        turns -= 1;
+        rounds -= 1;
     }
     put_end(out, state);
 }
@@ -58,7 +58,7 @@ fn start() -> State {
 }
 
 // One step of the search, and what it asks for.
-fn turn(window: &mut [u8], out: &mut Out, state: State) -> State {
+fn round(window: &mut [u8], out: &mut Out, state: State) -> State {
     let s = frame_search::next_step(
         text_words::before(window, state.held),
         state.from,

@@ -11,10 +11,10 @@ use lib.IntN.{ℤ, pos}
 use Rattle.field.specs.declared.Reading.{Reading}
 use Rattle.layout.specs.Layout.{valueIn}
 use Rattle.record_rows.specs.Numbers.{says}
-use Rattle.record_grids.specs.declared.Frame.{Frame}
+use Rattle.record_grids.specs.declared.Settings.{Settings}
 use Rattle.record_grids.specs.declared.Grid.{Grid}
 use Rattle.record_grids.specs.Grids.{gridOf, frameOf}
-use Rattle.record_grids.specs.Inner.{frameAt}
+use Rattle.record_grids.specs.Inner.{settingsAt}
 use Rattle.message_rows.specs.Message.{row, kindRefusal}
 use Rattle.grid_cell.specs.Inner.{weightsIn}
 use Rattle.grid_cell.specs.declared.Weights.{Weights}
@@ -31,8 +31,8 @@ use Rattle.grid_shifts.specs.Private.{Held, cellShift, partShift}
 use Rattle.grid_shifts.proofs.Accepted.{message-passed, message-fields}
 use Rattle.grid_shifts.proofs.Parts.{call-cell, call-part}
 use Rattle.grid_shifts.proofs.Said.{frame-said, mean-said, nodes-said}
-use Rattle.grid_shifts.proofs.Sides.{message-none-given}
-use Rattle.grid_component.specs.Part.{counted}
+use Rattle.grid_shifts.proofs.TwoPlaces.{message-none-given}
+use Rattle.grid_component.specs.Component.{counted}
 use Rattle.grid_component.specs.Inner.{keptOf, countedBy}
 
 -- a refusal
@@ -73,8 +73,8 @@ module _ (s : List ℕ) (c : ℕ) (n e : ℤ) where
   abbrev g : Grid
   g = gridOf (says (row s))
 
-  abbrev frame : Frame
-  frame = frameAt (gridSays s)
+  abbrev frame : Settings
+  frame = settingsAt (gridSays s)
 
   abbrev p : Located
   p = heldPlace frame c n e
@@ -88,11 +88,11 @@ module _ (s : List ℕ) (c : ℕ) (n e : ℤ) where
     fields = message-fields s c n e h
 
     place : p ≡ located (frameOf g) c n e
-    place = ap (λ (f : Frame). heldPlace f c n e) (frame-said s h) ∙ held-place (frameOf g) (fields .frame) c n e
+    place = ap (λ (f : Settings). heldPlace f c n e) (frame-said s h) ∙ held-place (frameOf g) (fields .frame) c n e
 
     number : frame .number ≡ g .number
     unfolding frameOf
-    number = ap (λ (f : Frame). f .number) (frame-said s h)
+    number = ap (λ (f : Settings). f .number) (frame-said s h)
 
     part-is : partShift (frame .number) c (p .refusal) (meanSays s c) (cellSays s c (p .row) (p .column)) (weightsIn (p .height) (p .width) (p .north) (p .east)) ≡ messageShift s c n e
     unfolding messageShift

@@ -5,7 +5,7 @@ use mathlib.Core.Bool.{cond}
 use mathlib.Core.List.{List}
 use lib.Dec.{eqb}
 use lib.IntN.{ℤ}
-use Rattle.record_grids.specs.Inner.{frameAt}
+use Rattle.record_grids.specs.Inner.{settingsAt}
 use Rattle.message_rows.specs.Message.{kindRefusal}
 use Rattle.grid_place.specs.Inner.{heldPlace}
 use Rattle.grid_cell.specs.Inner.{weightsIn}
@@ -17,7 +17,7 @@ use Rattle.grid_component.specs.declared.Kept.{Kept}
 
 -- what is kept of a message: 1 to 5 and 7 KIND, or 0 with its fields besides the shifts
 unfoldable pub keptOf : List ℕ → Kept
-keptOf s = record { refusal = kindRefusal 1023 1024 s; frame = frameAt (gridSays s) }
+keptOf s = record { refusal = kindRefusal 1023 1024 s; frame = settingsAt (gridSays s) }
 
 -- the kept refusal, else that of the position's place, else 15 ABSENT or the count in the place's cell
 unfoldable pub countedBy : List ℕ → Kept → ℕ → ℤ → ℤ → Counted

@@ -1,2 +1,2 @@
-pub mod Part
+pub mod Component
 pub mod Inner

@@ -1,18 +1,18 @@
 // The shift of one component at a position, by a grid message that is read once.
 use grid_counts::Counted;
 use grid_fields::Nodes;
-use record_grids::Frame;
+use record_grids::Settings;
 ghost use mathlib.Core.Path.{_≡_};
 ghost use Rattle.grid_fields.specs.Inner.{cellSays};
 ghost use Rattle.grid_counts.specs.Counts.{refusedWith};
 ghost use Rattle.grid_shifts.specs.Shift.{messageShift};
-ghost use Rattle.grid_component.specs.Part.{counted};
+ghost use Rattle.grid_component.specs.Component.{counted};
 ghost use Rattle.grid_component.specs.Inner.{keptOf, countedBy};
 
 // What is kept of a message: why it is no grid message, or 0 with its fields besides the shifts.
 pub struct Kept {
     pub refusal: u8,
-    pub frame: Frame,
+    pub frame: Settings,
 }
 
 // A refusal, with a count of 0.
@@ -42,7 +42,7 @@ pub fn keep(message: &[u8]) -> Kept
 {
     Kept {
         refusal: message_rows::check_kind(message, 1023, 1024),
-        frame: grid_fields::frame_at(message),
+        frame: grid_fields::settings_at(message),
     }
 }
 

@@ -89,7 +89,7 @@ pub fn values_of(n: Nodes) -> Corners
 }
 
 // What a node says that has this weight: without weight it is not asked for.
-fn weighted(weight: u64, r: Reading) -> Reading
+fn needed(weight: u64, r: Reading) -> Reading
     ensures { λ q. ⌜ q ≡ asked weight r ⌝ }
 {
     if weight != 0 {
@@ -117,19 +117,19 @@ pub fn cell_count(number: i64, component: u8, mean: Reading, n: Nodes, k: Weight
         return refused(15);
     };
     let a = n.sw;
-    let Reading::Value(sw) = weighted(k.sw, a) else {
+    let Reading::Value(sw) = needed(k.sw, a) else {
         return refused(15);
     };
     let b = n.se;
-    let Reading::Value(se) = weighted(k.se, b) else {
+    let Reading::Value(se) = needed(k.se, b) else {
         return refused(15);
     };
     let c = n.nw;
-    let Reading::Value(nw) = weighted(k.nw, c) else {
+    let Reading::Value(nw) = needed(k.nw, c) else {
         return refused(15);
     };
     let d = n.ne;
-    let Reading::Value(ne) = weighted(k.ne, d) else {
+    let Reading::Value(ne) = needed(k.ne, d) else {
         return refused(15);
     };
     let count = count_in(number, component, m, Corners { sw, se, nw, ne }, k);

@@ -11,7 +11,7 @@ use lib.Signed.{ltZ, _<ℤ_}
 use Rattle.arith.proofs.Int.{at, nat, _⊞_, order-lt}
 use Rattle.grid_bilinear.specs.Bilinear.{fromEdge, outside, cell}
 use Rattle.grid_direction.specs.Inner.{greatestSpacing, alongOf}
-use Rattle.grid_direction.specs.declared.Place.{Place}
+use Rattle.grid_direction.specs.declared.PlaceAlong.{PlaceAlong}
 
 is-true : (t : Bool) → T t → t ≡ true
 is-true true h = refl
@@ -36,7 +36,7 @@ abbrev pub unplaced : ℕ → ℤ → Bool
 unplaced d u = eqb d 0 || ltb greatestSpacing d || outside d u
 
 module _ (d : ℕ) (u : ℤ) where
-  pub along-out : {a : Place} → (a .refusal ≡ 14) × (a .steps ≡ 0) × (a .cell ≡ 0) → unplaced d u ≡ true → a ≡ alongOf d u
+  pub along-out : {a : PlaceAlong} → (a .refusal ≡ 14) × (a .steps ≡ 0) × (a .cell ≡ 0) → unplaced d u ≡ true → a ≡ alongOf d u
   unfolding alongOf
   along-out h e = (λ i. record { refusal = h .0 i; steps = h .1 i; cell = h .2 i }) ∙ rw e
 
@@ -44,7 +44,7 @@ module _ (d : ℕ) (u : ℤ) where
     pub unplaced-is : {b : Bool} → outside d u ≡ b → unplaced d u ≡ b
     unplaced-is e = rw (ne-eqb d 0 (λ z. absurd (omega arith)), le-ltb greatestSpacing d q) e
 
-    pub along-in : {a : Place} → a .refusal ≡ 0 → a .steps ≡ natAbs (fromEdge d u) → a .cell ≡ cell d (natAbs (fromEdge d u)) → outside d u ≡ false → a ≡ alongOf d u
+    pub along-in : {a : PlaceAlong} → a .refusal ≡ 0 → a .steps ≡ natAbs (fromEdge d u) → a .cell ≡ cell d (natAbs (fromEdge d u)) → outside d u ≡ false → a ≡ alongOf d u
     unfolding alongOf
     along-in h k l e = (λ i. record { refusal = h i; steps = k i; cell = l i }) ∙ rw (unplaced-is e)
 

@@ -6,17 +6,17 @@ ghost use Rattle.grid_bilinear.specs.Bilinear.{cell};
 ghost use Rattle.grid_direction.specs.Inner.{alongOf};
 
 // Where a position stands along one direction: OUTSIDE, or 0 with the steps from the southern or western edge and the cell, 0 to 2 from there.
-pub struct Place {
+pub struct PlaceAlong {
     pub refusal: u8,
     pub steps: u64,
     pub cell: u64,
 }
 
 // OUTSIDE.
-fn outer() -> Place
+fn outer() -> PlaceAlong
     ensures { λ r. ⌜ (r .refusal ≡ 14) × (r .steps ≡ 0) × (r .cell ≡ 0) ⌝ }
 {
-    Place {
+    PlaceAlong {
         refusal: 14,
         steps: 0,
         cell: 0,
@@ -40,7 +40,7 @@ pub fn cell_of(d: u64, t: u64) -> u64
 }
 
 // Where a position stands along one direction: u is its difference from the origin, d the spacing, in steps.
-fn axis(u: i64, d: u64) -> Place
+fn axis(u: i64, d: u64) -> PlaceAlong
     requires { ⌜ (natAbs u ≤ 10000000000000) × (0 < d) × (d ≤ 40950000) ⌝ }
     ensures { λ r. ⌜ r ≡ alongOf d u ⌝ }
 {
@@ -52,7 +52,7 @@ fn axis(u: i64, d: u64) -> Place
         return outer();
     }
     let steps = t as u64;
-    Place {
+    PlaceAlong {
         refusal: 0,
         steps,
         cell: cell_of(d, steps),
@@ -60,7 +60,7 @@ fn axis(u: i64, d: u64) -> Place
 }
 
 // The same of any difference and any spacing.
-pub fn along(difference: i64, spacing: u64) -> Place
+pub fn along(difference: i64, spacing: u64) -> PlaceAlong
     ensures { λ r. ⌜ r ≡ alongOf spacing difference ⌝ }
 {
     if spacing == 0 {

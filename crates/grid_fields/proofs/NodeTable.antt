@@ -9,7 +9,7 @@ use mathlib.Core.List.{List}
 use lib.Dec.{eqb}
 use lib.ListN.{getD, take}
 use borrow.Author.Tests.{eqb-true}
-use Rattle.arith.specs.Row.{allBelow}
+use Rattle.arith.specs.Lists.{allBelow}
 use Rattle.arith.proofs.Tests.{both-first, both-second, all-at}
 use Rattle.field.specs.Inner.{signedAt}
 use Rattle.layout.specs.Layout.{int, total}

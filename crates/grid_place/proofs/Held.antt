@@ -11,12 +11,12 @@ use Rattle.arith.specs.First.{first}
 use Rattle.arith.specs.Whole.{natural}
 use Rattle.arith.proofs.Tests.{false-ne-true, both-first, both-second}
 use Rattle.layout.specs.Layout.{valueIn}
-use Rattle.record_grids.specs.declared.Frame.{Frame}
+use Rattle.record_grids.specs.declared.Settings.{Settings}
 use Rattle.grid_refusals.specs.Refusals.{ellipsoidal, fieldTests}
-use Rattle.grid_place.specs.Inner.{spacingHeld, frameHeld, noPlace, located, heldPlace, heldSides}
+use Rattle.grid_place.specs.Inner.{spacingHeld, settingsHeld, noPlace, located, heldPlace, heldTwoPlaces}
 use Rattle.grid_place.specs.Private.{Fields}
 use Rattle.grid_place.specs.declared.Located.{Located}
-use Rattle.grid_place.specs.declared.Sides.{Sides}
+use Rattle.grid_place.specs.declared.TwoPlaces.{TwoPlaces}
 use Rattle.grid_place.proofs.Places.{located-refusal, placed-passes, same-place, in-some-cell}
 
 -- ---- a spacing
@@ -41,7 +41,7 @@ east-held false n h k = le-leb n 67108864 h
 
 -- ---- the frame
 
-module _ (f : Frame) where
+module _ (f : Settings) where
   abbrev a : Bool
   a = leb (natAbs (valueIn (f .origin .north))) 67108864
 
@@ -54,8 +54,8 @@ module _ (f : Frame) where
   abbrev d : Bool
   d = spacingHeld (f .spacing .east)
 
-  pub held-fields : frameHeld f ≡ true → Fields f
-  unfolding frameHeld
+  pub held-fields : settingsHeld f ≡ true → Fields f
+  unfolding settingsHeld
   held-fields h =
       let p = both-first (a && b && c) d h in
       let q = both-first (a && b) c p in
@@ -68,8 +68,8 @@ module _ (f : Frame) where
         longitude = e .1;
       }
 
-  pub fields-held : Fields f → frameHeld f ≡ true
-  unfolding frameHeld
+  pub fields-held : Fields f → settingsHeld f ≡ true
+  unfolding settingsHeld
   fields-held h =
       rw (
         le-leb (natAbs (valueIn (f .origin .north))) 67108864 (h .north),
@@ -83,30 +83,30 @@ module _ (f : Frame) where
   unfolding heldPlace
   held-place h c n e = rw (fields-held h)
 
-  pub place-held : frameHeld f ≡ true → (c : ℕ) (n e : ℤ) → located f c n e ≡ heldPlace f c n e
+  pub place-held : settingsHeld f ≡ true → (c : ℕ) (n e : ℤ) → located f c n e ≡ heldPlace f c n e
   unfolding heldPlace
   place-held h c n e = rw h
 
-  pub no-frame : frameHeld f ≡ false → (c : ℕ) (n e : ℤ) → noPlace 5 ≡ heldPlace f c n e
+  pub no-frame : settingsHeld f ≡ false → (c : ℕ) (n e : ℤ) → noPlace 5 ≡ heldPlace f c n e
   unfolding heldPlace
   no-frame h c n e = rw h
 
--- ---- what `locate_sides` answers, in a frame that a message holds
+-- ---- what `locate_both` answers, in a frame that a message holds
 
-module _ (f : Frame) (h : Fields f) (n e : ℤ) where
-  abbrev r : Sides
-  r = heldSides f n e
+module _ (f : Settings) (h : Fields f) (n e : ℤ) where
+  abbrev r : TwoPlaces
+  r = heldTwoPlaces f n e
 
   pub horizontal-refusal : r .horizontal ≡ located f 0 n e .refusal
-  unfolding heldSides
+  unfolding heldTwoPlaces
   horizontal-refusal = ap (λ (p : Located). p .refusal) (held-place f h 0 n e)
 
   pub vertical-refusal : r .vertical ≡ located f 2 n e .refusal
-  unfolding heldSides
+  unfolding heldTwoPlaces
   vertical-refusal = ap (λ (p : Located). p .refusal) (held-place f h 2 n e)
 
   pub horizontal-place : r .horizontal ≡ 0 → r .place ≡ located f 0 n e
-  unfolding heldSides
+  unfolding heldTwoPlaces
   horizontal-place z = rw (eq-eqb (heldPlace f 0 n e .refusal) 0 z) (held-place f h 0 n e)
 
   none : (c : ℕ) → located f c n e .refusal ≡ 0 → first (fieldTests f c n e) ≡ 0
@@ -119,10 +119,10 @@ module _ (f : Frame) (h : Fields f) (n e : ℤ) where
       by zero y =
           horizontal-place y
           ∙ same-place f n e 0 2 (none 0 (sym horizontal-refusal ∙ y)) (none 2 (sym vertical-refusal ∙ z))
-      by (suc k) y = unfold heldSides in rw (ne-eqb (heldPlace f 0 n e .refusal) 0 (λ q. absurd (omega (arith, y, q)))) (held-place f h 2 n e)
+      by (suc k) y = unfold heldTwoPlaces in rw (ne-eqb (heldPlace f 0 n e .refusal) 0 (λ q. absurd (omega (arith, y, q)))) (held-place f h 2 n e)
 
   pub sides-cell : (r .place .row ≤ 2) × (r .place .column ≤ 2)
-  unfolding heldSides
+  unfolding heldTwoPlaces
   sides-cell = by (eqb (heldPlace f 0 n e .refusal) 0)
     where
       cells : (c : ℕ) → (heldPlace f c n e .row ≤ 2) × (heldPlace f c n e .column ≤ 2)

@@ -14,13 +14,13 @@ use Rattle.arith.specs.Whole.{natural, sameZ}
 use Rattle.arith.proofs.First.{passed, or-false, stops, goes-on, passes}
 use Rattle.arith.proofs.Int.{abs-add, abs-neg, abs-mul}
 use Rattle.arith.proofs.Tests.{false-ne-true}
-use Rattle.record_grids.specs.declared.Frame.{Frame}
+use Rattle.record_grids.specs.declared.Settings.{Settings}
 use Rattle.grid_refusals.specs.Refusals.{ellipsoidal, side, originAvailable, beyond, fieldTests}
 use Rattle.grid_bilinear.specs.Bilinear.{fromEdge, outside}
 use Rattle.grid_bilinear.proofs.Place.{steps-most, cell-le, cell-from, cell-upto}
 use Rattle.grid_direction.specs.Inner.{alongOf}
 use Rattle.grid_cell.specs.Private.{Within}
-use Rattle.grid_direction.specs.declared.Place.{Place}
+use Rattle.grid_direction.specs.declared.PlaceAlong.{PlaceAlong}
 use Rattle.grid_direction.proofs.Placed.{along-steps, along-cell}
 use Rattle.grid_place.specs.Position.{stepsOf}
 use Rattle.grid_place.specs.Inner.{heightOf, widthOf, northFrom, eastFrom, placeTests, noPlace, placeOf, located}
@@ -29,7 +29,7 @@ use Rattle.grid_place.specs.declared.Located.{Located}
 
 -- ---- what the tests on the fields say
 
-pub record Early (f : Frame) (n e : ℤ) : Type 0 where
+pub record Early (f : Settings) (n e : ℤ) : Type 0 where
   pub north : natAbs n ≤ 1000000000000
   pub east : natAbs e ≤ 1000000000000
   pub turn : ellipsoidal (f .number) ≡ true → natAbs e ≤ 6480000000
@@ -52,7 +52,7 @@ two-of a b c d f h e =
     let q = passed 11 f _ (passed 10 d _ (passed 9 c _ (p .1) .1) .1) in
     (p .0, passed 12 h _ (q .1) .0)
 
-pub early : (f : Frame) (c : ℕ) (n e : ℤ) → first (fieldTests f c n e) ≡ 0 → Early f n e
+pub early : (f : Settings) (c : ℕ) (n e : ℤ) → first (fieldTests f c n e) ≡ 0 → Early f n e
 early f c n e h =
     let p =
     two-of (ltb 2 c) (beyond (f .number) n e) (sameZ (side c (f .indicators)) (pos 0)) (not (sameZ (side c (f .methods)) (pos 0)))
@@ -78,7 +78,7 @@ steps-some number = by (sameZ number (pos 1023))
 abbrev pub Spaced : ℕ → Type 0
 Spaced d = (0 < d) × (d ≤ 40950000)
 
-pub spacings : (f : Frame) (n e : ℤ) → Fields f → Early f n e → Spaced (heightOf f) × Spaced (widthOf f)
+pub spacings : (f : Settings) (n e : ℤ) → Fields f → Early f n e → Spaced (heightOf f) × Spaced (widthOf f)
 spacings f n e k p =
     let u = steps-some (f .number) in (
       (mul-pos (above-zero (f .spacing .north) (k .rows .0) (p .rows)) (u .0), mul-le-mul (k .rows .1) (u .1)),
@@ -96,7 +96,7 @@ module _ (d : ℕ) (u : ℤ) (s : Spaced d) (h : outside d u ≡ false) where
   abbrev t : ℕ
   t = natAbs (fromEdge d u)
 
-  abbrev a : Place
+  abbrev a : PlaceAlong
   a = alongOf d u
 
   pub in-cell : (a .cell ≤ 2) × (a .cell * d ≤ a .steps) × (a .steps - a .cell * d ≤ d)
@@ -115,12 +115,12 @@ outside-no false e h = refl
 -- ---- the place in the grid
 
 -- a position that has one
-pub record Inside (f : Frame) (n e : ℤ) : Type 0 where
+pub record Inside (f : Settings) (n e : ℤ) : Type 0 where
   pub early : Early f n e
   pub north : outside (heightOf f) (northFrom f n) ≡ false
   pub east : outside (widthOf f) (eastFrom f e) ≡ false
 
-module _ (f : Frame) (c : ℕ) (n e : ℤ) where
+module _ (f : Settings) (c : ℕ) (n e : ℤ) where
   abbrev late : List Test
   late = (14, outside (heightOf f) (northFrom f n) || outside (widthOf f) (eastFrom f e)) ∷ []
 
@@ -201,7 +201,7 @@ six-most a b c d f h =
     (at-most b 9 _ 13 (omega arith)
     (at-most c 10 _ 13 (omega arith) (at-most d 11 _ 13 (omega arith) (at-most f 12 _ 13 (omega arith) (at-most h 13 _ 13 (omega arith) (omega arith))))))
 
-module _ (f : Frame) (n e : ℤ) where
+module _ (f : Settings) (n e : ℤ) where
   -- OUTSIDE comes behind the tests on the fields
   pub outer-passes : (c : ℕ) → first (placeTests f c n e) ≡ 14 → first (fieldTests f c n e) ≡ 0
   outer-passes c h = by (first (fieldTests f c n e)) refl
@@ -228,7 +228,7 @@ module _ (f : Frame) (n e : ℤ) where
       (sym (goes-on (fieldTests f c n e) (late f c n e) tt h) ∙ goes-on (fieldTests f d n e) (late f d n e) tt k)
 
 -- a place that is refused has the numbers 0, so its cell is one of a grid too
-pub in-some-cell : (f : Frame) (c : ℕ) (n e : ℤ) → Fields f → (located f c n e .row ≤ 2) × (located f c n e .column ≤ 2)
+pub in-some-cell : (f : Settings) (c : ℕ) (n e : ℤ) → Fields f → (located f c n e .row ≤ 2) × (located f c n e .column ≤ 2)
 in-some-cell f c n e k = by (first (placeTests f c n e)) refl
   where
     by : (r : ℕ) → first (placeTests f c n e) ≡ r → (located f c n e .row ≤ 2) × (located f c n e .column ≤ 2)

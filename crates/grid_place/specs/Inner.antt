@@ -9,33 +9,33 @@ use lib.Signed.{ltZ}
 use Rattle.arith.specs.First.{Test, first}
 use Rattle.arith.specs.Whole.{natural}
 use Rattle.layout.specs.Layout.{valueIn}
-use Rattle.record_grids.specs.declared.Frame.{Frame}
+use Rattle.record_grids.specs.declared.Settings.{Settings}
 use Rattle.grid_refusals.specs.Refusals.{ellipsoidal, fieldTests}
 use Rattle.grid_bilinear.specs.Bilinear.{outside}
 use Rattle.grid_direction.specs.Inner.{alongOf}
-use Rattle.grid_direction.specs.declared.Place.{Place}
+use Rattle.grid_direction.specs.declared.PlaceAlong.{PlaceAlong}
 use Rattle.grid_place.specs.declared.Located.{Located}
-use Rattle.grid_place.specs.declared.Sides.{Sides}
+use Rattle.grid_place.specs.declared.TwoPlaces.{TwoPlaces}
 use Rattle.grid_place.specs.Position.{stepsOf, eastBy}
 
 -- ---- the height and the width of a cell, and the differences position minus origin, in steps
 
-abbrev pub heightOf : Frame → ℕ
+abbrev pub heightOf : Settings → ℕ
 heightOf f = natural (f .spacing .north) * stepsOf (f .number)
 
-abbrev pub widthOf : Frame → ℕ
+abbrev pub widthOf : Settings → ℕ
 widthOf f = natural (f .spacing .east) * stepsOf (f .number)
 
-abbrev pub northFrom : Frame → ℤ → ℤ
+abbrev pub northFrom : Settings → ℤ → ℤ
 northFrom f n = n -ℤ pos (stepsOf (f .number)) *ℤ valueIn (f .origin .north)
 
-abbrev pub eastFrom : Frame → ℤ → ℤ
+abbrev pub eastFrom : Settings → ℤ → ℤ
 eastFrom f e = eastBy (f .number) (e -ℤ pos (stepsOf (f .number)) *ℤ valueIn (f .origin .east))
 
 -- ---- the place
 
 -- 8 to 13 (`fieldTests`, crate grid_refusals), then 14 OUTSIDE
-abbrev pub placeTests : Frame → ℕ → ℤ → ℤ → List Test
+abbrev pub placeTests : Settings → ℕ → ℤ → ℤ → List Test
 placeTests f c n e = fieldTests f c n e ++ ((14, outside (heightOf f) (northFrom f n) || outside (widthOf f) (eastFrom f e)) ∷ [])
 
 -- refusal r, and no place
@@ -43,7 +43,7 @@ abbrev pub noPlace : ℕ → Located
 noPlace r = record { refusal = r; row = 0; column = 0; north = 0; east = 0; height = 0; width = 0 }
 
 -- a place in both directions, in cells h high and w wide
-abbrev pub placeOf : Place → Place → (h w : ℕ) → Located
+abbrev pub placeOf : PlaceAlong → PlaceAlong → (h w : ℕ) → Located
 placeOf n e h w =
     record {
       refusal = 0;
@@ -56,7 +56,7 @@ placeOf n e h w =
     }
 
 -- the place of a position
-unfoldable pub located : Frame → ℕ → ℤ → ℤ → Located
+unfoldable pub located : Settings → ℕ → ℤ → ℤ → Located
 located f c n e =
     let r = first (placeTests f c n e) in
     cond (eqb r 0)
@@ -68,22 +68,22 @@ located f c n e =
 abbrev pub spacingHeld : ℤ → Bool
 spacingHeld d = not (ltZ d (pos 0)) && leb (natAbs d) 4095
 
-unfoldable pub frameHeld : Frame → Bool
-frameHeld f =
+unfoldable pub settingsHeld : Settings → Bool
+settingsHeld f =
     leb (natAbs (valueIn (f .origin .north))) 67108864
     && leb (natAbs (valueIn (f .origin .east))) (cond (ellipsoidal (f .number)) 1296000 67108864)
     && spacingHeld (f .spacing .north)
     && spacingHeld (f .spacing .east)
 
 -- 5 RANGE of what no grid message holds, then as above
-unfoldable pub heldPlace : Frame → ℕ → ℤ → ℤ → Located
-heldPlace f c n e = cond (frameHeld f) (located f c n e) (noPlace 5)
+unfoldable pub heldPlace : Settings → ℕ → ℤ → ℤ → Located
+heldPlace f c n e = cond (settingsHeld f) (located f c n e) (noPlace 5)
 
 -- ---- for all three components: 0 and 1 go by the horizontal indicators, 2 by the vertical ones
 
 -- the refusals of the places h and v, and the place where one of these is 0
-abbrev pub sidesOf : Located → Located → Sides
-sidesOf h v = record { horizontal = h .refusal; vertical = v .refusal; place = cond (eqb (h .refusal) 0) h v }
+abbrev pub twoPlacesOf : Located → Located → TwoPlaces
+twoPlacesOf h v = record { horizontal = h .refusal; vertical = v .refusal; place = cond (eqb (h .refusal) 0) h v }
 
-unfoldable pub heldSides : Frame → ℤ → ℤ → Sides
-heldSides f n e = sidesOf (heldPlace f 0 n e) (heldPlace f 2 n e)
+unfoldable pub heldTwoPlaces : Settings → ℤ → ℤ → TwoPlaces
+heldTwoPlaces f n e = twoPlacesOf (heldPlace f 0 n e) (heldPlace f 2 n e)

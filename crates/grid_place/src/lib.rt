@@ -1,5 +1,5 @@
 // The place of a position in a grid: COMPONENT to OUTSIDE, or the cell and the steps in it.
-use record_grids::Frame;
+use record_grids::Settings;
 ghost use mathlib.Core.Path.{_≡_};
 ghost use mathlib.Core.Bool.{true, not, cond, _&&_};
 ghost use Prim.Native.Nat.{_*_, _≤_};
@@ -11,7 +11,7 @@ ghost use Rattle.arith.specs.Whole.{natural};
 ghost use Rattle.layout.specs.Layout.{valueIn};
 ghost use Rattle.grid_refusals.specs.Refusals.{ellipsoidal, fieldTests};
 ghost use Rattle.grid_place.specs.Position.{stepsOf, byTurns, eastBy};
-ghost use Rattle.grid_place.specs.Inner.{noPlace, placeOf, located, spacingHeld, frameHeld, heldPlace, sidesOf, heldSides};
+ghost use Rattle.grid_place.specs.Inner.{noPlace, placeOf, located, spacingHeld, settingsHeld, heldPlace, twoPlacesOf, heldTwoPlaces};
 ghost use Rattle.grid_place.specs.Private.{Fields};
 
 // A place in a grid: a refusal number, or 0 with its cell, the steps from the cell's southern and western edge, and the cell's height and width.
@@ -26,7 +26,7 @@ pub struct Located {
 }
 
 // What a position gives for the horizontal components, north-south and east-west, and for the height: their refusal numbers, and the place where one of these is 0.
-pub struct Sides {
+pub struct TwoPlaces {
     pub horizontal: u8,
     pub vertical: u8,
     pub place: Located,
@@ -100,7 +100,7 @@ fn no_place(refusal: u8) -> Located
 }
 
 // A place in both directions, in cells h high and w wide.
-fn place_in(n: grid_direction::Place, e: grid_direction::Place, h: u64, w: u64) -> Located
+fn place_in(n: grid_direction::PlaceAlong, e: grid_direction::PlaceAlong, h: u64, w: u64) -> Located
     requires { ⌜ (n .cell * h ≤ n .steps) × (e .cell * w ≤ e .steps) ⌝ }
     ensures { λ r. ⌜ r ≡ placeOf n e h w ⌝ }
 {
@@ -116,7 +116,7 @@ fn place_in(n: grid_direction::Place, e: grid_direction::Place, h: u64, w: u64) 
 }
 
 // COMPONENT to OUTSIDE, or the place of a position in the grid.
-fn place_of(f: Frame, component: u8, north: i64, east: i64) -> Located
+fn place_of(f: Settings, component: u8, north: i64, east: i64) -> Located
     requires { ⌜ Fields f ⌝ }
     ensures { λ r. ⌜ r ≡ located f component north east ⌝ }
 {
@@ -169,8 +169,8 @@ fn origin_held(number: i64, north: i64, east: i64) -> bool
 }
 
 // The frame is one that a grid message holds.
-fn frame_held(f: Frame) -> bool
-    ensures { λ r. ⌜ r ≡ frameHeld f ⌝ }
+fn settings_held(f: Settings) -> bool
+    ensures { λ r. ⌜ r ≡ settingsHeld f ⌝ }
 {
     let number = f.number;
     let origin = f.origin;
@@ -191,17 +191,17 @@ fn frame_held(f: Frame) -> bool
 }
 
 // RANGE where no grid message holds the frame, COMPONENT to OUTSIDE, or the place of a position in the grid.
-pub fn locate(f: Frame, component: u8, north: i64, east: i64) -> Located
+pub fn locate(f: Settings, component: u8, north: i64, east: i64) -> Located
     ensures { λ r. ⌜ r ≡ heldPlace f component north east ⌝ }
 {
-    if !frame_held(f) {
+    if !settings_held(f) {
         return no_place(5);
     }
     place_of(f, component, north, east)
 }
 
 // The place for the height where the horizontal components have one or are OUTSIDE: the same, or what its own indicators refuse.
-fn vertical_at(f: Frame, p: Located, north: i64, east: i64) -> Located
+fn vertical_at(f: Settings, p: Located, north: i64, east: i64) -> Located
     requires { ⌜ (first (fieldTests f 0 north east) ≡ 0) × (p ≡ located f 0 north east) ⌝ }
     ensures { λ r. ⌜ r ≡ located f 2 north east ⌝ }
 {
@@ -213,7 +213,7 @@ fn vertical_at(f: Frame, p: Located, north: i64, east: i64) -> Located
 }
 
 // The place for the height, from that for the horizontal components.
-fn vertical_of(f: Frame, p: Located, north: i64, east: i64) -> Located
+fn vertical_of(f: Settings, p: Located, north: i64, east: i64) -> Located
     requires { ⌜ Fields f × (p ≡ located f 0 north east) ⌝ }
     ensures { λ r. ⌜ r ≡ located f 2 north east ⌝ }
 {
@@ -228,19 +228,19 @@ fn vertical_of(f: Frame, p: Located, north: i64, east: i64) -> Located
 }
 
 // The two refusal numbers, and the place of the side that has one.
-fn sides_of(h: Located, v: Located) -> Sides
-    ensures { λ r. ⌜ r ≡ sidesOf h v ⌝ }
+fn two_places_of(h: Located, v: Located) -> TwoPlaces
+    ensures { λ r. ⌜ r ≡ twoPlacesOf h v ⌝ }
 {
     let horizontal = h.refusal;
     let vertical = v.refusal;
     if horizontal == 0 {
-        return Sides {
+        return TwoPlaces {
             horizontal,
             vertical,
             place: h,
         };
     }
-    Sides {
+    TwoPlaces {
         horizontal,
         vertical,
         place: v,
@@ -248,13 +248,13 @@ fn sides_of(h: Located, v: Located) -> Sides
 }
 
 // The same as `locate` for the horizontal components and for the height, worked out once.
-pub fn locate_sides(f: Frame, north: i64, east: i64) -> Sides
-    ensures { λ r. ⌜ r ≡ heldSides f north east ⌝ }
+pub fn locate_both(f: Settings, north: i64, east: i64) -> TwoPlaces
+    ensures { λ r. ⌜ r ≡ heldTwoPlaces f north east ⌝ }
 {
-    if !frame_held(f) {
-        return sides_of(no_place(5), no_place(5));
+    if !settings_held(f) {
+        return two_places_of(no_place(5), no_place(5));
     }
     let h = place_of(f, 0, north, east);
     let v = vertical_of(f, h, north, east);
-    sides_of(h, v)
+    two_places_of(h, v)
 }

@@ -10,7 +10,7 @@ use Rattle.arith.specs.Whole.{sameZ}
 use Rattle.field.specs.declared.Reading.{Reading}
 use Rattle.field.specs.declared.Reading.the-variants.{Value, Absent}
 use Rattle.record_grids.specs.declared.Origin.{Origin}
-use Rattle.record_grids.specs.declared.Frame.{Frame}
+use Rattle.record_grids.specs.declared.Settings.{Settings}
 use Rattle.record_rows.specs.declared.Pair.{Pair}
 
 -- by the message number: 1023 gives angles, 1024 metres
@@ -40,7 +40,7 @@ beyond number n e =
     (ltb 1000000000000 (natAbs n) || ltb 1000000000000 (natAbs e))
 
 -- 8 COMPONENT, 9 POSITION, 10 OFF, 11 METHOD, 12 ORIGIN, 13 SPACING
-abbrev pub fieldTests : Frame → ℕ → ℤ → ℤ → List Test
+abbrev pub fieldTests : Settings → ℕ → ℤ → ℤ → List Test
 fieldTests f c n e =
     (8, ltb 2 c)
     ∷ (9, beyond (f .number) n e)

@@ -1,6 +1,6 @@
 // The refusals of the shift that a grid without its shifts, a component and a position give before the place in the grid is looked for: COMPONENT to SPACING.
 use field::Reading;
-use record_grids::Frame;
+use record_grids::Settings;
 use record_rows::Pair;
 ghost use mathlib.Core.Path.{_≡_};
 ghost use mathlib.Core.Bool.{not, _&&_, _||_};
@@ -81,7 +81,7 @@ fn side_of(component: u8, p: Pair) -> i64
 }
 
 // COMPONENT, POSITION, OFF, METHOD, ORIGIN, SPACING, or 0.
-pub fn early_refusal(f: Frame, component: u8, north: i64, east: i64) -> u8
+pub fn early_refusal(f: Settings, component: u8, north: i64, east: i64) -> u8
     ensures { λ r. ⌜ r ≡ first (fieldTests f component north east) ⌝ }
 {
     let number = f.number;

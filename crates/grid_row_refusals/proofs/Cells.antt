@@ -17,7 +17,7 @@ use Rattle.arith.proofs.Int.{Ex, at, nat, minus, _⊞_, _⊟_, _⊠_, ring, ord
 use Rattle.layout.specs.Layout.{valueIn}
 use Rattle.record_rows.specs.Numbers.{says}
 use Rattle.record_grids.specs.declared.Grid.{Grid}
-use Rattle.record_grids.specs.declared.Frame.{Frame}
+use Rattle.record_grids.specs.declared.Settings.{Settings}
 use Rattle.record_grids.specs.Grids.{gridOf, frameOf}
 use Rattle.message_rows.specs.Message.{row, kindRefusal}
 use Rattle.grid_refusals.specs.Refusals.{beyond, ellipsoidal, fieldTests}

@@ -10,13 +10,13 @@ use lib.Dec.{ltb, ltb→lt}
 use lib.Signed.{_≤ℤ_, _<ℤ_}
 use lib.IntN.{ℤ, pos, negsuc, natAbs, _+ℤ_, _*ℤ_}
 use Rattle.arith.specs.Whole.{sameZ}
-use Rattle.arith.specs.Row.{allBelow}
+use Rattle.arith.specs.Lists.{allBelow}
 use Rattle.arith.proofs.First.{or-false}
-use Rattle.arith.proofs.Rows.{all-true}
+use Rattle.arith.proofs.Lists.{all-true}
 use Rattle.arith.proofs.Tests.{all-stops}
 use Rattle.arith.proofs.Int.{ring, at, nat, _⊞_, _⊠_, abs-within, within-abs}
 use Rattle.grid_refusals.specs.Refusals.{ellipsoidal, beyond}
-use Rattle.grid_row_refusals.specs.Row.{anyBeyond}
+use Rattle.grid_row_refusals.specs.ShiftRow.{anyBeyond}
 
 -- ---- the limits
 

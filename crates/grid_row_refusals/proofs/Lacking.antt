@@ -7,9 +7,9 @@ use native.Mathlib.Nat.{mul-pos, mul-zero, suc-mul, mul-le-mul-right, zero-lt-su
 use native.Mathlib.Omega.{arith}
 use borrow.Author.Tests.{eqb-false, eq-eqb, ne-eqb}
 use lib.Dec.{eqb, eqb·suc-zero}
-use Rattle.arith.specs.Row.{allBelow}
+use Rattle.arith.specs.Lists.{allBelow}
 use Rattle.arith.proofs.First.{or-false}
-use Rattle.arith.proofs.Rows.{all-true}
+use Rattle.arith.proofs.Lists.{all-true}
 use Rattle.arith.proofs.Tests.{all-stops}
 use Rattle.field.specs.declared.Reading.{Reading}
 use Rattle.grid_bilinear.specs.Bilinear.{lacks}

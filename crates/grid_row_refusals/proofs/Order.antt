@@ -10,20 +10,20 @@ use lib.Dec.{eqb, leb, ltb, eqb·suc-zero}
 use lib.IntN.{ℤ, pos, negsuc, natAbs}
 use lib.Signed.{ltZ}
 use Rattle.arith.specs.First.{Test, first}
-use Rattle.arith.specs.Row.{upTo, allBelow}
+use Rattle.arith.specs.Lists.{upTo, allBelow}
 use Rattle.arith.proofs.First.{passed, not-false, or-false, stops, goes-on, passes}
 use Rattle.arith.proofs.Tests.{all-at, false-ne-true}
 use Rattle.record_rows.specs.Numbers.{says}
 use Rattle.record_grids.specs.declared.Grid.{Grid}
-use Rattle.record_grids.specs.declared.Frame.{Frame}
+use Rattle.record_grids.specs.declared.Settings.{Settings}
 use Rattle.record_grids.specs.Grids.{gridOf, frameOf}
-use Rattle.record_grids.specs.Inner.{frameAt}
+use Rattle.record_grids.specs.Inner.{settingsAt}
 use Rattle.message_rows.specs.Message.{tests, numberOf, row, kindRefusal}
 use Rattle.grid_fields.specs.Inner.{gridSays}
 use Rattle.grid_refusals.specs.Refusals.{beyond}
 use Rattle.grid_shifts.specs.Shift.{messageShift}
 use Rattle.grid_shifts.proofs.Said.{frame-said}
-use Rattle.grid_row_refusals.specs.Row.{eastAt, anyBeyond, misplaced, refusedTest, shiftRowRefusal}
+use Rattle.grid_row_refusals.specs.ShiftRow.{eastAt, anyBeyond, misplaced, refusedTest, shiftRowRefusal}
 use Rattle.grid_row_refusals.specs.Private.{Ready, firstRefused}
 use Rattle.grid_row_refusals.proofs.Refused.{refused, behind, none-of, refused-same}
 
@@ -63,11 +63,11 @@ natural-step (pos m) h = refl
 natural-step (negsuc m) h = absurd (false-ne-true (sym h))
 
 -- the number that the frame says
-pub number-said : (s : List ℕ) {f : Frame} → kindRefusal 1023 1024 s ≡ 0 → f ≡ frameAt (gridSays s) → f .number ≡ gridOf (says (row s)) .number
+pub number-said : (s : List ℕ) {f : Settings} → kindRefusal 1023 1024 s ≡ 0 → f ≡ settingsAt (gridSays s) → f .number ≡ gridOf (says (row s)) .number
 unfolding frameOf
-number-said s h k = ap (λ (f : Frame). f .number) (k ∙ frame-said s h)
+number-said s h k = ap (λ (f : Settings). f .number) (k ∙ frame-said s h)
 
-pub ready : {s : List ℕ} {f : Frame} {n e step : ℤ} {count : ℕ} → kindRefusal 1023 1024 s ≡ 0 → f ≡ frameAt (gridSays s)
+pub ready : {s : List ℕ} {f : Settings} {n e step : ℤ} {count : ℕ} → kindRefusal 1023 1024 s ≡ 0 → f ≡ settingsAt (gridSays s)
     → Fit (gridOf (says (row s)) .number) n e step count → Ready s f n e (natAbs step) count
 ready {s} {f} {n} {e} {step} {count} h k p =
     record {

@@ -10,8 +10,8 @@ use native.Mathlib.Omega.{arith}
 use borrow.Author.Tests.{eq-eqb, ne-eqb}
 use lib.Dec.{eqb, eqb·suc-zero}
 use Rattle.arith.specs.First.{Test, first}
-use Rattle.arith.specs.Row.{upTo, allBelow}
-use Rattle.arith.proofs.Rows.{upTo-add, upTo-same}
+use Rattle.arith.specs.Lists.{upTo, allBelow}
+use Rattle.arith.proofs.Lists.{upTo-add, upTo-same}
 
 -- a test that gives its own number, unless that is 0
 abbrev pub test : ℕ → Test

@@ -8,10 +8,10 @@ use native.Mathlib.Omega.{arith}
 use lib.IntN.{ℤ, pos, natAbs, _+ℤ_, _*ℤ_}
 use Rattle.arith.proofs.Int.{at, nat, _⊞_, _⊠_, ring, within-abs}
 use Rattle.arith.proofs.Machine.{Num, arg, cast, add}
-use Rattle.record_grids.specs.declared.Frame.{Frame}
+use Rattle.record_grids.specs.declared.Settings.{Settings}
 use Rattle.grid_refusals.specs.Refusals.{beyond}
 use Rattle.grid_shifts.specs.Shift.{messageShift}
-use Rattle.grid_row_refusals.specs.Row.{eastAt}
+use Rattle.grid_row_refusals.specs.ShiftRow.{eastAt}
 use Rattle.grid_row_refusals.specs.Private.{Ready, Looked, firstRefused}
 use Rattle.grid_row_refusals.specs.declared.Run.{Run}
 use Rattle.grid_row_refusals.proofs.Ends.{near-most}
@@ -20,7 +20,7 @@ use Rattle.grid_row_refusals.proofs.Refused.{refused-same, goes-on, sto
 pub twice : (e : ℤ) (step i j : ℕ) → eastAt (eastAt e (pos step) i) (pos step) j ≡ eastAt e (pos step) (i + j)
 twice e step i j = ring (at e ⊞ nat i ⊠ nat step ⊞ nat j ⊠ nat step) (at e ⊞ nat (i + j) ⊠ nat step) (omega arith)
 
-module _ {s : List ℕ} {f : Frame} {n e : ℤ} {step count : ℕ} (r : Ready s f n e step count) (i : ℕ) (l : i < count) where
+module _ {s : List ℕ} {f : Settings} {n e : ℤ} {step count : ℕ} (r : Ready s f n e step count) (i : ℕ) (l : i < count) where
   pub first-near : natAbs e ≤ 1000000000000
   first-near =
       near-most (f .number) n e

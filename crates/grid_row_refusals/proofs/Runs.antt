@@ -7,15 +7,15 @@ use Prim.Native.Nat.{ℕ, _+_, _*_, _-_, _≤_, _<_}
 use native.Mathlib.Omega.{arith}
 use lib.IntN.{ℤ, pos, _+ℤ_, _*ℤ_}
 use Rattle.arith.specs.First.{first}
-use Rattle.arith.specs.Row.{allBelow}
+use Rattle.arith.specs.Lists.{allBelow}
 use Rattle.arith.proofs.Int.{at, nat, _⊞_, _⊠_, ring}
 use Rattle.field.specs.declared.Reading.{Reading}
 use Rattle.layout.specs.Layout.{valueIn}
 use Rattle.record_rows.specs.Numbers.{says}
-use Rattle.record_grids.specs.declared.Frame.{Frame}
+use Rattle.record_grids.specs.declared.Settings.{Settings}
 use Rattle.record_grids.specs.declared.Grid.{Grid}
 use Rattle.record_grids.specs.Grids.{gridOf, frameOf}
-use Rattle.record_grids.specs.Inner.{frameAt}
+use Rattle.record_grids.specs.Inner.{settingsAt}
 use Rattle.message_rows.specs.Message.{row, kindRefusal}
 use Rattle.grid_refusals.specs.Refusals.{beyond}
 use Rattle.grid_fields.specs.Inner.{gridSays, meanSays, cellSays}
@@ -33,13 +33,13 @@ use Rattle.grid_shifts.specs.Private.{Held, nodesIn, cellShift}
 use Rattle.grid_shifts.proofs.Parts.{Bounded, cell-outcome, refused-as, weightsAt, summed}
 use Rattle.grid_shifts.proofs.Accepted.{message-passed, message-fields}
 use Rattle.grid_shifts.proofs.Said.{frame-said, mean-said, nodes-said}
-use Rattle.grid_row_refusals.specs.Row.{eastAt}
+use Rattle.grid_row_refusals.specs.ShiftRow.{eastAt}
 use Rattle.grid_row_refusals.specs.Private.{lackingAt, firstRefused}
 use Rattle.grid_row_refusals.proofs.Refused.{one, refused-same, fifteen}
 use Rattle.grid_row_refusals.proofs.Reaches.{in-run}
 use Rattle.grid_row_refusals.proofs.Cells.{further, on-in-cell}
 
-module _ (s : List ℕ) (h : kindRefusal 1023 1024 s ≡ 0) {f : Frame} (frame : f ≡ frameAt (gridSays s)) (c : ℕ) (n e : ℤ) {p : Located} (is : p ≡ heldPlace f c n e) where
+module _ (s : List ℕ) (h : kindRefusal 1023 1024 s ≡ 0) {f : Settings} (frame : f ≡ settingsAt (gridSays s)) (c : ℕ) (n e : ℤ) {p : Located} (is : p ≡ heldPlace f c n e) where
   abbrev g : Grid
   g = gridOf (says (row s))
 
@@ -50,7 +50,7 @@ module _ (s : List ℕ) (h : kindRefusal 1023 1024 s ≡ 0) {f : Frame} (frame :
   frame-is = frame ∙ frame-said s h
 
   place : p ≡ located (frameOf g) c n e
-  place = is ∙ ap (λ (q : Frame). heldPlace q c n e) frame-is ∙ held-place (frameOf g) (fields .frame) c n e
+  place = is ∙ ap (λ (q : Settings). heldPlace q c n e) frame-is ∙ held-place (frameOf g) (fields .frame) c n e
 
   -- a place that is refused before its cell is looked at
   pub refused-there : (p .refusal ≡ 0 → ⊥) → messageShift s c n e .refusal ≡ p .refusal
@@ -91,7 +91,7 @@ module _ (s : List ℕ) (h : kindRefusal 1023 1024 s ≡ 0) {f : Frame} (frame :
     unfolding frameOf
     shift-there t near b =
         let back : located (frameOf g) c n e ≡ p = sym place in
-        on-in-cell s h c n e there t (subst (λ (q : Frame). beyond (q .number) n (e +ℤ pos t) ≡ false) frame-is near)
+        on-in-cell s h c n e there t (subst (λ (q : Settings). beyond (q .number) n (e +ℤ pos t) ≡ false) frame-is near)
         (subst (λ (q : Located). q .east + t ≤ q .width) place b)
         ∙ (λ i. cellShift (g .number) c (part c (g .mean)) (nodesIn (g .nodes) c (back i .row) (back i .column)) (weightsAt (further (back i) t)))
         ∙ sym (λ i. cellShift (frame-is i .number) c (mean-is i) (nodes-are i) (weightsAt (further p t)))

@@ -1,3 +1,3 @@
-pub mod Row
+pub mod ShiftRow
 pub mod Private
 pub mod Inner

@@ -1,7 +1,7 @@
 // The refusal of a row of shifts at equal steps east.
 use field::Reading;
 use grid_fields::Nodes;
-use record_grids::Frame;
+use record_grids::Settings;
 ghost use mathlib.Core.Path.{_≡_};
 ghost use mathlib.Core.Bool.{not, cond};
 ghost use mathlib.Core.List.{[], _∷_};
@@ -10,9 +10,9 @@ ghost use lib.Dec.{ltb};
 ghost use lib.IntN.{pos};
 ghost use lib.Signed.{_≤ℤ_};
 ghost use Rattle.arith.specs.First.{first};
-ghost use Rattle.arith.specs.Row.{allBelow};
+ghost use Rattle.arith.specs.Lists.{allBelow};
 ghost use Rattle.grid_cell.specs.Private.{Within};
-ghost use Rattle.grid_row_refusals.specs.Row.{eastAt, anyBeyond, misplaced, shiftRowRefusal};
+ghost use Rattle.grid_row_refusals.specs.ShiftRow.{eastAt, anyBeyond, misplaced, shiftRowRefusal};
 ghost use Rattle.grid_row_refusals.specs.Inner.{placesIn};
 ghost use Rattle.grid_row_refusals.specs.Private.{lackingAt, Ready, Looked, firstRefused};
 
@@ -68,7 +68,7 @@ fn run_refusal(
 // The places from `east` on that stand in its cell.
 fn look(
     message: &[u8],
-    f: Frame,
+    f: Settings,
     component: u8,
     north: i64,
     east: i64,
@@ -95,7 +95,7 @@ fn look(
 // The same from place i of a row on.
 fn look_from(
     message: &[u8],
-    f: Frame,
+    f: Settings,
     component: u8,
     north: i64,
     east: i64,
@@ -113,7 +113,7 @@ fn look_from(
 // The refusal of the first place refused, or 0.
 fn places_refusal(
     message: &[u8],
-    f: Frame,
+    f: Settings,
     component: u8,
     north: i64,
     east: i64,
@@ -187,7 +187,7 @@ pub fn row_refusal(
     if kind != 0 {
         return kind;
     }
-    let f = grid_fields::frame_at(message);
+    let f = grid_fields::settings_at(message);
     let limits = limits_refusal(component, f.number, north, east, step, count);
     if limits != 0 {
         return limits;

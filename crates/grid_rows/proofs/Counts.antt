@@ -6,11 +6,11 @@ use mathlib.Core.List.{List}
 use Prim.Native.Nat.{ℕ, zero, suc, _+_, _*_, _-_, _≤_, _<_}
 use native.Mathlib.Omega.{arith}
 use lib.IntN.{ℤ, pos, natAbs, _+ℤ_, _*ℤ_}
-use Rattle.arith.specs.Row.{upTo}
+use Rattle.arith.specs.Lists.{upTo}
 use Rattle.arith.proofs.Int.{at, nat, _⊞_, _⊠_, ring, abs-mul}
-use Rattle.arith.proofs.Rows.{upTo-same}
+use Rattle.arith.proofs.Lists.{upTo-same}
 use Rattle.layout.specs.Layout.{valueIn}
-use Rattle.record_grids.specs.declared.Frame.{Frame}
+use Rattle.record_grids.specs.declared.Settings.{Settings}
 use Rattle.grid_cell.specs.declared.Corners.{Corners}
 use Rattle.grid_fields.specs.Inner.{meanSays, cellSays}
 use Rattle.grid_place.specs.Inner.{heldPlace}
@@ -22,7 +22,7 @@ use Rattle.grid_cell.specs.Inner.{countBy}
 use Rattle.grid_cell.specs.Private.{Within}
 use Rattle.grid_cell.proofs.Sum.{weighed}
 use Rattle.grid_shifts.proofs.Parts.{count-at, weightsAt, factor-most}
-use Rattle.grid_row_refusals.specs.Row.{eastAt}
+use Rattle.grid_row_refusals.specs.ShiftRow.{eastAt}
 use Rattle.grid_row_refusals.specs.Private.{Ready}
 use Rattle.grid_row_refusals.proofs.Cells.{further}
 use Rattle.grid_row_refusals.proofs.Runs.{refused-there, in-cell, bounded, count-there}
@@ -56,7 +56,7 @@ module _ {m : ℤ} {n : Corners} {p : Located} (b : Standing m n p) where
       sym (count-at number c {m = m} on (record { mean = b .mean; nodes = b .nodes; weights = weighed on }))
 
 -- a row from place i on
-module _ {s : List ℕ} {f : Frame} {c : ℕ} {n e : ℤ} {step count room : ℕ} (a : Answered s f c n e step count room) (i : ℕ) (l : i < count) {p : Located}
+module _ {s : List ℕ} {f : Settings} {c : ℕ} {n e : ℤ} {step count room : ℕ} (a : Answered s f c n e step count room) (i : ℕ) (l : i < count) {p : Located}
     (is : p ≡ heldPlace f c n (eastAt e (pos step) i)) where
   abbrev t : ℤ
   t = eastAt e (pos step) i

@@ -10,8 +10,8 @@ use lib.Dec.{eqb}
 use lib.IntN.{ℤ}
 use lib.ListN.{length, take, drop}
 use lib.Seq.{take-at, drop-at, drop-drop}
-use Rattle.arith.specs.Row.{upTo}
-use Rattle.arith.proofs.Rows.{length-upTo, upTo-add}
+use Rattle.arith.specs.Lists.{upTo}
+use Rattle.arith.proofs.Lists.{length-upTo, upTo-add}
 
 -- the places 0 to i are filled, and then those to r
 module _ (f : ℕ → ℤ) (row₀ row : List ℤ) (i : ℕ) (e : row ≡ upTo f i ++ drop i row₀) where

@@ -6,8 +6,8 @@ use Prim.Native.Nat.{ℕ, _+_, _*_, _-_, _≤_, _<_}
 use native.Mathlib.Nat.{mul-le-mul-right, sub-add-cancel}
 use native.Mathlib.Omega.{arith}
 use lib.IntN.{ℤ, pos, _+ℤ_, _-ℤ_, _*ℤ_}
-use Rattle.arith.specs.Row.{upTo}
-use Rattle.arith.proofs.Rows.{upTo-same}
+use Rattle.arith.specs.Lists.{upTo}
+use Rattle.arith.proofs.Lists.{upTo-same}
 use Rattle.arith.proofs.Int.{ring, at, nat, _⊞_, _⊟_, _⊠_}
 use Rattle.grid_bilinear.specs.Bilinear.{nearestWhole, weighted}
 use Rattle.grid_bilinear.proofs.Line.{mix}

@@ -10,9 +10,9 @@ use lib.Signed.{ltZ, _≤ℤ_}
 use borrow.Author.Tests.{le-ltb}
 use Rattle.arith.proofs.Int.{ring, order, at, nat, _⊞_, _⊟_, _⊠_, abs-add, abs-neg, abs-parts, abs-within}
 use Rattle.grid_rows.specs.Private.{numberOf, Next, Split}
-use Rattle.grid_rows.specs.declared.going.Part.{Part}
+use Rattle.grid_rows.specs.declared.increments.Quotient.{Quotient}
 
-module _ (d : ℕ) (p by : Part) (w : ℤ) where
+module _ (d : ℕ) (p by : Quotient) (w : ℤ) where
   pub no-carry : w ≡ p .whole +ℤ by .whole → p .rest < d - by .rest → Next d p by (record { whole = w; rest = p .rest + by .rest })
   unfolding numberOf
   no-carry e h =
@@ -38,7 +38,7 @@ module _ (d : ℕ) (p by : Part) (w : ℤ) where
       }
 
 -- what a sum grows by
-module _ (d : ℕ) (a b : Part) (w : ℤ) where
+module _ (d : ℕ) (a b : Quotient) (w : ℤ) where
   pub not-owing : w ≡ b .whole -ℤ a .whole → b .rest < d → a .rest ≤ b .rest → natAbs (a .whole) ≤ 2560 → natAbs (b .whole) ≤ 2560
       → Split d (numberOf d (b .whole) (b .rest) -ℤ numberOf d (a .whole) (a .rest)) (record { whole = w; rest = b .rest - a .rest })
   unfolding numberOf

@@ -6,23 +6,23 @@ use Prim.Native.Nat.{ℕ, _+_, _*_, _≤_, _<_}
 use native.Mathlib.Omega.{arith}
 use lib.IntN.{ℤ, pos, natAbs, _+ℤ_, _*ℤ_}
 use lib.ListN.{length, drop, set, length-set}
-use Rattle.arith.specs.Row.{upTo}
-use Rattle.arith.proofs.Rows.{fill-turn, fill-done}
+use Rattle.arith.specs.Lists.{upTo}
+use Rattle.arith.proofs.Lists.{fill-turn, fill-done}
 use Rattle.arith.proofs.Int.{ring, at, nat, _⊞_, _⊠_}
 use Rattle.grid_bilinear.specs.Bilinear.{nearestWhole}
-use Rattle.grid_rows.specs.Private.{Goes, Next, numberOf, countsFrom}
-use Rattle.grid_rows.specs.declared.going.Part.{Part}
+use Rattle.grid_rows.specs.Private.{Fillable, Next, numberOf, countsFrom}
+use Rattle.grid_rows.specs.declared.increments.Quotient.{Quotient}
 
 -- the sum that a part stands for
-abbrev pub sum : ℕ → Part → ℤ
+abbrev pub sum : ℕ → Quotient → ℤ
 sum d p = numberOf d (p .whole) (p .rest)
 
-module _ (mean : ℤ) (d : ℕ) (first by : Part) (row₀ : List ℤ) where
+module _ (mean : ℤ) (d : ℕ) (first by : Quotient) (row₀ : List ℤ) where
   abbrev counts : ℕ → ℤ
   counts = countsFrom mean d (sum d first) (sum d by)
 
   -- before place i: those in front of it are filled
-  pub record On (row : List ℤ) (p : Part) (i : ℕ) : Type 0 where
+  pub record On (row : List ℤ) (p : Quotient) (i : ℕ) : Type 0 where
     pub places : i ≤ length row₀
     pub length : length row ≡ length row₀
     pub filled : row ≡ upTo counts i ++ drop i row₀
@@ -30,7 +30,7 @@ module _ (mean : ℤ) (d : ℕ) (first by : Part) (row₀ : List ℤ) where
     pub total : sum d p ≡ sum d first +ℤ pos i *ℤ sum d by
     pub most : natAbs (p .whole) ≤ 10000 + i * 10001
 
-  module _ (g : Goes mean first by d (length row₀)) where
+  module _ (g : Fillable mean first by d (length row₀)) where
     pub starts : On row₀ first 0
     starts =
         record {
@@ -42,11 +42,11 @@ module _ (mean : ℤ) (d : ℕ) (first by : Part) (row₀ : List ℤ) where
           most = omega (arith, g .whole);
         }
 
-    module _ {row : List ℤ} {p : Part} {i : ℕ} (o : On row p i) where
+    module _ {row : List ℤ} {p : Quotient} {i : ℕ} (o : On row p i) where
       pub whole-most : natAbs (p .whole) ≤ 10000000000
       whole-most = omega (arith, o .most, o .places, g .places)
 
-      pub goes-on : (z : ℤ) (q : Part) → i < length row₀ → z ≡ mean +ℤ nearestWhole (sum d p) d → Next d p by q → On (set row i z) q (i + 1)
+      pub goes-on : (z : ℤ) (q : Quotient) → i < length row₀ → z ≡ mean +ℤ nearestWhole (sum d p) d → Next d p by q → On (set row i z) q (i + 1)
       unfolding countsFrom
       goes-on z q h e n =
           record {

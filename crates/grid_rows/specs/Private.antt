@@ -5,24 +5,24 @@ use mathlib.Core.List.{List, _++_}
 use Prim.Native.Nat.{ℕ, _+_, _-_, _≤_, _<_, _*_}
 use lib.IntN.{ℤ, pos, natAbs, _+ℤ_, _*ℤ_}
 use lib.ListN.{take, drop}
-use Rattle.arith.specs.Row.{upTo}
+use Rattle.arith.specs.Lists.{upTo}
 use Rattle.grid_cell.specs.Private.{Within, Most}
 use Rattle.grid_cell.specs.declared.Corners.{Corners}
 use Rattle.grid_place.specs.declared.Located.{Located}
-use Rattle.record_grids.specs.declared.Frame.{Frame}
+use Rattle.record_grids.specs.declared.Settings.{Settings}
 use Rattle.grid_shifts.specs.Shift.{messageShift}
-use Rattle.grid_row_refusals.specs.Row.{eastAt}
+use Rattle.grid_row_refusals.specs.ShiftRow.{eastAt}
 use Rattle.grid_row_refusals.specs.Private.{Ready}
 use Rattle.grid_bilinear.specs.Bilinear.{nearestWhole}
 use Rattle.grid_cell.specs.Inner.{sumOf}
-use Rattle.grid_rows.specs.declared.going.Part.{Part}
+use Rattle.grid_rows.specs.declared.increments.Quotient.{Quotient}
 
 -- so many areas, and the rest
 unfoldable pub numberOf : ℕ → ℤ → ℕ → ℤ
 numberOf area whole rest = whole *ℤ pos area +ℤ pos rest
 
 -- the sum and what it grows by, added
-pub record Next (area : ℕ) (p by r : Part) : Type 0 where
+pub record Next (area : ℕ) (p by r : Quotient) : Type 0 where
   pub rest : r .rest < area
   pub sum : numberOf area (r .whole) (r .rest) ≡ numberOf area (p .whole) (p .rest) +ℤ numberOf area (by .whole) (by .rest)
   pub most : natAbs (r .whole) ≤ natAbs (p .whole) + natAbs (by .whole) + 1
@@ -31,8 +31,8 @@ pub record Next (area : ℕ) (p by r : Part) : Type 0 where
 unfoldable pub countsFrom : ℤ → ℕ → ℤ → ℤ → ℕ → ℤ
 countsFrom mean area s t j = mean +ℤ nearestWhole (s +ℤ pos j *ℤ t) area
 
--- what going on asks for
-pub record Goes (mean : ℤ) (p by : Part) (area n : ℕ) : Type 0 where
+-- what filling by increments asks for
+pub record Fillable (mean : ℤ) (p by : Quotient) (area n : ℕ) : Type 0 where
   pub rest : p .rest < area
   pub grows : by .rest < area
   pub whole : natAbs (p .whole) ≤ 10000
@@ -41,7 +41,7 @@ pub record Goes (mean : ℤ) (p by : Part) (area n : ℕ) : Type 0 where
   pub places : n ≤ 4096
 
 -- a sum as parts
-pub record Split (area : ℕ) (sum : ℤ) (p : Part) : Type 0 where
+pub record Split (area : ℕ) (sum : ℤ) (p : Quotient) : Type 0 where
   pub rest : p .rest < area
   pub total : numberOf area (p .whole) (p .rest) ≡ sum
   pub most : natAbs (p .whole) ≤ 5121
@@ -71,7 +71,7 @@ abbrev pub countAt : List ℕ → ℕ → (n e step : ℤ) → ℕ → ℤ
 countAt s c n e step k = messageShift s c n (eastAt e step k) .count
 
 -- a row none of whose places is refused, and room for it
-pub record Answered (s : List ℕ) (f : Frame) (c : ℕ) (n e : ℤ) (step count room : ℕ) : Type 0 where
+pub record Answered (s : List ℕ) (f : Settings) (c : ℕ) (n e : ℤ) (step count room : ℕ) : Type 0 where
   pub ready : Ready s f n e step count
   pub none : (k : ℕ) → k < count → messageShift s c n (eastAt e (pos step) k) .refusal ≡ 0
   pub enough : count ≤ room

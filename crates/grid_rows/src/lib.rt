@@ -1,24 +1,24 @@
 // Rows of shifts: the counts of one component at equal steps east.
-use going::Part;
 use grid_cell::Corners;
 use grid_place::Located;
-use record_grids::Frame;
+use increments::Quotient;
+use record_grids::Settings;
 ghost use mathlib.Core.Path.{_≡_};
 ghost use mathlib.Core.List.{_++_};
 ghost use Prim.Native.Nat.{_+_, _*_, _-_, _≤_, _<_};
 ghost use lib.IntN.{pos, natAbs, _+ℤ_, _-ℤ_, _*ℤ_};
 ghost use lib.ListN.{length, drop};
-ghost use Rattle.arith.specs.Row.{upTo};
+ghost use Rattle.arith.specs.Lists.{upTo};
 ghost use Rattle.grid_cell.specs.Inner.{sumOf};
 ghost use Rattle.grid_cell.specs.Private.{Within, Most};
 ghost use Rattle.layout.specs.Layout.{valueIn};
 ghost use Rattle.grid_fields.specs.Inner.{meanSays, cellSays};
 ghost use Rattle.grid_counts.specs.Counts.{nodeFactor, meanFactor};
 ghost use Rattle.grid_counts.specs.Inner.{valuesIn};
-ghost use Rattle.grid_row_refusals.specs.Row.{shiftRowRefusal, shiftRowFilled};
+ghost use Rattle.grid_row_refusals.specs.ShiftRow.{shiftRowRefusal, shiftRowFilled};
 ghost use Rattle.grid_rows.specs.Private.{Split, Run, numberOf, cellCounts, Standing, Answered, Filled, countAt};
 
-mod going;
+mod increments;
 
 // A sum of at most 2,560 areas, raised by so many that it is not negative.
 fn raised(sum: i64, area: u64) -> u64
@@ -29,20 +29,20 @@ fn raised(sum: i64, area: u64) -> u64
 }
 
 // A sum of at most 2,560 areas as a whole number of areas and a rest.
-fn part_of(sum: i64, area: u64) -> Part
+fn part_of(sum: i64, area: u64) -> Quotient
     requires { ⌜ (natAbs sum ≤ 2560 * area) × (0 < area) × (area ≤ 1676902500000000) ⌝ }
     ensures { λ r. ⌜ Split area sum r × (natAbs (r .whole) ≤ 2560) ⌝ }
 {
     let n = raised(sum, area);
     let whole = n / area;
-    Part {
+    Quotient {
         whole: whole as i64 - 2560,
         rest: n - whole * area,
     }
 }
 
 // What a sum grows by, as parts: b minus a.
-fn growth(a: Part, b: Part, area: u64) -> Part
+fn growth(a: Quotient, b: Quotient, area: u64) -> Quotient
     requires { ⌜ (a .rest < area) × (b .rest < area) × (natAbs (a .whole) ≤ 2560) × (natAbs (b .whole) ≤ 2560) ⌝ }
     ensures { λ r. ⌜ Split area (numberOf area (b .whole) (b .rest) -ℤ numberOf area (a .whole) (a .rest)) r ⌝ }
 {
@@ -50,19 +50,19 @@ fn growth(a: Part, b: Part, area: u64) -> Part
     let rest = b.rest;
     let less = a.rest;
     if rest < less {
-        return Part {
+        return Quotient {
             whole: whole - 1,
             rest: area - less + rest,
         };
     }
-    Part {
+    Quotient {
         whole,
         rest: rest - less,
     }
 }
 
 // The weighted sum of a cell's nodes as parts.
-fn part_at(factor: u64, n: Corners, h: u64, w: u64, y: u64, x: u64) -> Part
+fn part_at(factor: u64, n: Corners, h: u64, w: u64, y: u64, x: u64) -> Quotient
     requires { ⌜ Within h w y x × Most 256 n × (factor ≤ 10) ⌝ }
     ensures { λ r. ⌜ Split (h * w) (sumOf factor h w y x n) r × (natAbs (r .whole) ≤ 2560) ⌝ }
 {
@@ -87,11 +87,11 @@ fn fill_cell(
     let area = h * w;
     let first = part_at(factor, n, h, w, y, x);
     if row.len() < 2 {
-        going::fill(row, mean, first, Part { whole: 0, rest: 0 }, area);
+        increments::fill(row, mean, first, Quotient { whole: 0, rest: 0 }, area);
         return;
     }
     let second = part_at(factor, n, h, w, y, x + step);
-    going::fill(row, mean, first, growth(first, second, area), area);
+    increments::fill(row, mean, first, growth(first, second, area), area);
 }
 
 // Fills a run of places in the cell of p, which is the first.
@@ -121,7 +121,7 @@ fn fill_from(
     i: usize,
     count: usize,
     message: &[u8],
-    f: Frame,
+    f: Settings,
     component: u8,
     north: i64,
     east: i64,
@@ -142,7 +142,7 @@ fn fill_row(
     row: &mut [i64],
     count: usize,
     message: &[u8],
-    f: Frame,
+    f: Settings,
     component: u8,
     north: i64,
     east: i64,
@@ -182,7 +182,7 @@ pub fn shift_row(
     if refusal != 0 {
         return refusal;
     }
-    let f = grid_fields::frame_at(message);
+    let f = grid_fields::settings_at(message);
     fill_row(row, count, message, f, component, north, east, step as u64);
     0
 }

@@ -1,8 +1,8 @@
 pub mod Floats
 pub mod Parts
 pub mod Accepted
-pub mod Sides
+pub mod TwoPlaces
 pub mod Said
-pub mod BothSides
+pub mod BothLongitudes
 pub mod Lipschitz
 pub mod Calls

@@ -7,7 +7,7 @@ use native.Mathlib.Nat.{min-le-right}
 use native.Mathlib.Omega.{arith}
 use borrow.Author.Tests.{ne-eqb, lt-ltb, le-ltb}
 use lib.IntN.{pos}
-use Rattle.arith.proofs.Rows.{getD-upTo}
+use Rattle.arith.proofs.Lists.{getD-upTo}
 use Rattle.field.specs.declared.Reading.{Reading}
 use Rattle.field.specs.declared.Reading.the-variants.{Value}
 use Rattle.layout.specs.Layout.{valueIn}
@@ -15,8 +15,8 @@ use Rattle.record_rows.specs.Numbers.{says, pairAt}
 use Rattle.record_grids.specs.declared.Grid.{Grid}
 use Rattle.record_grids.specs.declared.Shifts.{Shifts}
 use Rattle.record_grids.specs.Grids.{originAt, spacingAt, shiftsAt, nodesAt, gridOf, frameOf}
-use Rattle.record_grids.specs.Inner.{frameAt}
-use Rattle.record_grids.proofs.Inverse.{frame-of-grid}
+use Rattle.record_grids.specs.Inner.{settingsAt}
+use Rattle.record_grids.proofs.Inverse.{settings-of-grid}
 use Rattle.message_rows.specs.Message.{row, kindRefusal}
 use Rattle.grid_fields.specs.Inner.{gridSays, meanSays, nodeSays, cellSays}
 use Rattle.grid_fields.proofs.Says.{grid-says}
@@ -25,8 +25,8 @@ use Rattle.grid_shifts.specs.Private.{nodesIn}
 use Rattle.grid_fields.specs.declared.Nodes.{Nodes}
 
 -- places that say the same give the same frame
-frame-same : (v w : ℕ → Reading) → ((k : ℕ) → k < 64 → v k ≡ w k) → frameAt v ≡ frameAt w
-unfolding frameAt pairAt originAt spacingAt
+frame-same : (v w : ℕ → Reading) → ((k : ℕ) → k < 64 → v k ≡ w k) → settingsAt v ≡ settingsAt w
+unfolding settingsAt pairAt originAt spacingAt
 frame-same v w e =
     λ i. record {
       number = valueIn (e 0 (omega arith) i);
@@ -51,8 +51,8 @@ module _ (s : List ℕ) (h : kindRefusal 1023 1024 s ≡ 0) where
   abbrev g : Grid
   g = gridOf v
 
-  pub frame-said : frameAt (gridSays s) ≡ frameOf g
-  frame-said = frame-same (gridSays s) v (grid-says s h) ∙ sym (frame-of-grid v)
+  pub frame-said : settingsAt (gridSays s) ≡ frameOf g
+  frame-said = frame-same (gridSays s) v (grid-says s h) ∙ sym (settings-of-grid v)
 
   pub mean-said : (c : ℕ) → meanSays s c ≡ part c (g .mean)
   unfolding meanSays gridOf

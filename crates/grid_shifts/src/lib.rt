@@ -176,9 +176,9 @@ pub fn shifts_at(message: &[u8], north: i64, east: i64) -> ThreeShifts
     if message.len() < 71 {
         return all_refused(3);
     }
-    let f = grid_fields::frame_at(message);
+    let f = grid_fields::settings_at(message);
     let number = f.number;
-    let p = grid_place::locate_sides(f, north, east);
+    let p = grid_place::locate_both(f, north, east);
     let t = p.place;
     let k = grid_cell::weights_in(t.height, t.width, t.north, t.east);
     let n = grid_fields::cells_at(message, t.row, t.column);
@@ -200,9 +200,9 @@ pub fn shifts_of(grid: Grid, north: i64, east: i64) -> ThreeShifts
     if !message_records::grid_held(grid) {
         return all_refused(5);
     }
-    let frame = record_grids::frame_of(grid);
+    let frame = record_grids::settings_of(grid);
     let number = frame.number;
-    let p = grid_place::locate_sides(frame, north, east);
+    let p = grid_place::locate_both(frame, north, east);
     let t = p.place;
     let k = grid_cell::weights_in(t.height, t.width, t.north, t.east);
     let nodes = grid.nodes;

@@ -165,7 +165,7 @@ pub fn write_heights(values: &[i64], present: &[u8], wanted: &[i64], out: &mut [
         };
     }
     let chosen = heights_mean::smallest_mean(wanted);
-    let Mean::Found(mean) = chosen else {
+    let Mean::Is(mean) = chosen else {
         return Written {
             refusal: 23,
             length: 0,

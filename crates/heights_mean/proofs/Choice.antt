@@ -10,13 +10,13 @@ use native.Mathlib.Omega.{arith}
 use lib.IntN.{ℤ, pos, negsuc, natAbs, _+ℤ_, _-ℤ_, _*ℤ_, +ℤ-idr}
 use lib.Signed.{ltZ, _<ℤ_, _≤ℤ_, ltZ-yes, clashℤ, <ℤ-≤ℤ-trans}
 use lib.Dec.{T}
-use Rattle.arith.specs.Row.{allBelow}
-use Rattle.arith.specs.Row as Row
+use Rattle.arith.specs.Lists.{allBelow}
+use Rattle.arith.specs.Lists as Lists
 use Rattle.arith.proofs.Int.{at, nat, _⊞_, _⊟_, _⊠_, ring, known, known-lt, order, order-lt, abs-parts, abs-within, within-abs, under-zero, not-less}
 use Rattle.arith.proofs.Tests.{false-ne-true, all-stops}
 use Rattle.heights_mean.specs.Means.{nearAt, fits, firstFrom, smallestMean}
 use Rattle.heights_mean.specs.Private.{greatest, Least}
-use Rattle.heights_mean.specs.declared.Mean.the-variants.{Found, Missing}
+use Rattle.heights_mean.specs.declared.Mean.the-variants.{Is, Missing}
 use Rattle.heights_mean.proofs.Near.{near-below, near-above, far, greatest-most, greatest-one}
 
 -- ---- trying one mean after the other
@@ -45,15 +45,15 @@ module _ (test : ℤ → Bool) where
   missing-of zero m h = refl
   missing-of (suc n) m h = rw (none-first n m h) (missing-of n (m +ℤ pos 1) (none-rest n m h))
 
-  pub found-of : (n d : ℕ) (m : ℤ) → d < n → test (m +ℤ pos d) ≡ true → None d m → firstFrom test n m ≡ Found (m +ℤ pos d)
+  pub found-of : (n d : ℕ) (m : ℤ) → d < n → test (m +ℤ pos d) ≡ true → None d m → firstFrom test n m ≡ Is (m +ℤ pos d)
   unfolding firstFrom
   found-of zero d m l p h = absurd (not-suc-le-zero l)
   found-of (suc n) zero m l p h =
       let e : test m ≡ true = subst (λ (z : ℤ). test z ≡ true) (+ℤ-idr m) p in
-      rw e (ap Found (sym (+ℤ-idr m)))
+      rw e (ap Is (sym (+ℤ-idr m)))
   found-of (suc n) (suc d) m l p h =
       rw (none-first d m h)
-      (found-of n d (m +ℤ pos 1) (omega arith) (subst (λ (z : ℤ). test z ≡ true) (sym (step m d)) p) (none-rest d m h) ∙ ap Found (step m d))
+      (found-of n d (m +ℤ pos 1) (omega arith) (subst (λ (z : ℤ). test z ≡ true) (sym (step m d)) p) (none-rest d m h) ∙ ap Is (step m d))
 
   -- either the first that passes is found, or none passes
   pub record At (n : ℕ) (m : ℤ) : Type 0 where
@@ -130,20 +130,20 @@ module _ (wanted : List ℤ) where
   unfolding smallestMean
   smallest-missing h = missing-of (fits wanted) 32767 lowest (fits-none h)
 
-  pub smallest-found : (m : ℤ) → Smallest wanted m → smallestMean wanted ≡ Found m
+  pub smallest-found : (m : ℤ) → Smallest wanted m → smallestMean wanted ≡ Is m
   unfolding smallestMean
   smallest-found m h =
       let s = step-of m (h .range) in
       found-of (fits wanted) 32767 (s .steps) lowest (s .small) (subst (λ (z : ℤ). fits wanted z ≡ true) (s .value) (h .fitting))
       (λ e l. h .least (lowest +ℤ pos e) (in-range e (omega (arith, s .small))) (subst (λ (z : ℤ). (lowest +ℤ pos e) <ℤ z) (sym (s .value)) (less-step e (s .steps) l)))
-      ∙ ap Found (sym (s .value))
+      ∙ ap Is (sym (s .value))
 
   -- what is found by trying
-  pub found-at : (a : At (fits wanted) 32767 lowest) → smallestMean wanted ≡ Found (lowest +ℤ pos (a .steps))
+  pub found-at : (a : At (fits wanted) 32767 lowest) → smallestMean wanted ≡ Is (lowest +ℤ pos (a .steps))
   unfolding smallestMean
   found-at a = found-of (fits wanted) 32767 (a .steps) lowest (a .small) (a .passes) (a .before)
 
-  pub smallest-at : At (fits wanted) 32767 lowest → (m : ℤ) → smallestMean wanted ≡ Found m → Smallest wanted m
+  pub smallest-at : At (fits wanted) 32767 lowest → (m : ℤ) → smallestMean wanted ≡ Is m → Smallest wanted m
   smallest-at a m e =
       let v : m ≡ lowest +ℤ pos (a .steps) = cc (found-at a) in
       subst (Smallest wanted) (sym v)
@@ -172,17 +172,17 @@ fails-at f (suc n) e = by (allBelow f n) refl (fails-at f n) e
     by true p h e = record { place = n; small = omega arith; value = e }
     by false p h e = let r = h p in record { place = r .place; small = omega (arith, r .small); value = r .value }
 
-module _ (wanted : List ℤ) (m : ℤ) (l : Least (greatest (Row.at wanted) 16) m) where
+module _ (wanted : List ℤ) (m : ℤ) (l : Least (greatest (Lists.at wanted) 16) m) where
   abbrev top : ℤ
-  top = greatest (Row.at wanted) 16
+  top = greatest (Lists.at wanted) 16
 
   -- a mean that lets the greatest height lie above 255 mm
   above-top : (k : ℤ) → (pos 10 *ℤ k +ℤ pos 255) <ℤ top → fits wanted k ≡ false
   unfolding fits
   above-top k h =
-      let o = greatest-one (Row.at wanted) 16 in
+      let o = greatest-one (Lists.at wanted) 16 in
       all-stops (nearAt wanted k) (o .place) 16
-      (near-above k (Row.at wanted (o .place)) (subst (λ (z : ℤ). (pos 10 *ℤ k +ℤ pos 255) <ℤ z) (o .value) h)) (omega (arith, o .small))
+      (near-above k (Lists.at wanted (o .place)) (subst (λ (z : ℤ). (pos 10 *ℤ k +ℤ pos 255) <ℤ z) (o .value) h)) (omega (arith, o .small))
 
   smaller : (k : ℤ) → natAbs k ≤ 16383 → k <ℤ m → fits wanted k ≡ false
   smaller k r h = ⊎-elim low high (l .smallest)
@@ -197,7 +197,7 @@ module _ (wanted : List ℤ) (m : ℤ) (l : Least (greatest (Row.at wanted) 16) 
           above-top k
           (order-lt (nat 10 ⊠ at k ⊞ nat 255) (at top) (omega (arith, known-lt (nat 10 ⊠ at m ⊞ nat 245) (at top) g, known-lt (at k) (at m) h)))
 
-  pub chosen : fits wanted m ≡ true → Found m ≡ smallestMean wanted
+  pub chosen : fits wanted m ≡ true → Is m ≡ smallestMean wanted
   chosen f = sym (smallest-found wanted m (record { range = l .range; fitting = f; least = smaller }))
 
   -- a mean from m on does not fit where m does not: the height above 255 mm is above the greatest mean too, the one below stays below
@@ -205,11 +205,11 @@ module _ (wanted : List ℤ) (m : ℤ) (l : Least (greatest (Row.at wanted) 16) 
   larger k r h p = ⊎-elim above below (far m z (p .value))
     where
       z : ℤ
-      z = Row.at wanted (p .place)
+      z = Lists.at wanted (p .place)
 
       above : (pos 10 *ℤ m +ℤ pos 255) <ℤ z → fits wanted k ≡ false
       above g =
-          let over : (pos 10 *ℤ m +ℤ pos 255) <ℤ top = <ℤ-≤ℤ-trans g (greatest-most (Row.at wanted) 16 (p .place) (p .small)) in
+          let over : (pos 10 *ℤ m +ℤ pos 255) <ℤ top = <ℤ-≤ℤ-trans g (greatest-most (Lists.at wanted) 16 (p .place) (p .small)) in
           ⊎-elim
           (λ (e : m ≡ pos 16383).
           above-top k
@@ -242,7 +242,7 @@ module _ (wanted : List ℤ) where
   abbrev Fitting : Type 0
   Fitting = At (fits wanted) 32767 lowest
 
-  pub smallest : (m : ℤ) → smallestMean wanted ≡ Found m → Smallest wanted m
+  pub smallest : (m : ℤ) → smallestMean wanted ≡ Is m → Smallest wanted m
   smallest m e =
       ⊎-elim
       (λ (a : Fitting). smallest-at wanted a m e)
@@ -253,7 +253,7 @@ module _ (wanted : List ℤ) where
       never h = let z : _≡_ {A = ℕ} 0 1 = cc (smallest-missing wanted h) in omega arith
 
   -- a mean is found, or none fits
-  pub found-or-none : ((m : ℤ) × (smallestMean wanted ≡ Found m)) ⊎ NoneFits wanted
+  pub found-or-none : ((m : ℤ) × (smallestMean wanted ≡ Is m)) ⊎ NoneFits wanted
   found-or-none =
       ⊎-elim
       (λ (a : Fitting). inl (lowest +ℤ pos (a .steps), found-at wanted a))

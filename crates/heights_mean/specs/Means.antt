@@ -5,9 +5,9 @@ use mathlib.Core.Bool.{Bool, cond}
 use mathlib.Core.List.{List}
 use lib.Dec.{leb}
 use lib.IntN.{ℤ, pos, negsuc, natAbs, _+ℤ_, _-ℤ_, _*ℤ_}
-use Rattle.arith.specs.Row.{at, allBelow}
+use Rattle.arith.specs.Lists.{at, allBelow}
 use Rattle.heights_mean.specs.declared.Mean.{Mean}
-use Rattle.heights_mean.specs.declared.Mean.the-variants.{Found, Missing}
+use Rattle.heights_mean.specs.declared.Mean.the-variants.{Is, Missing}
 
 -- a height less the mean, in the resolution of DF201, 0.001 m: that of DF198 is 0.01 m
 unfoldable pub less : ℤ → ℤ → ℤ
@@ -27,7 +27,7 @@ fits wanted mean = allBelow (nearAt wanted mean) 16
 -- the first of the n means from m on that passes the test
 unfoldable pub firstFrom : (ℤ → Bool) → ℕ → ℤ → Mean
 firstFrom test zero m = Missing
-firstFrom test (suc n) m = cond (test m) (Found m) (firstFrom test n (m +ℤ pos 1))
+firstFrom test (suc n) m = cond (test m) (Is m) (firstFrom test n (m +ℤ pos 1))
 
 -- "the smallest mean DF198 from -16,383 to 16,383": 32,767 numbers
 unfoldable pub smallestMean : List ℤ → Mean

@@ -3,13 +3,13 @@ ghost use mathlib.Core.Path.{_≡_};
 ghost use mathlib.Core.Bool.{true};
 ghost use Prim.Native.Nat.{_≤_};
 ghost use lib.IntN.{natAbs};
-ghost use Rattle.arith.specs.Row.{at};
+ghost use Rattle.arith.specs.Lists.{at};
 ghost use Rattle.heights_mean.specs.Means.{less, near, fits, smallestMean};
 ghost use Rattle.heights_mean.specs.Private.{greater, greatest, Least};
 
 // A mean, DF198, or that there is none.
 pub enum Mean {
-    Found(i64),
+    Is(i64),
     Missing,
 }
 
@@ -102,7 +102,7 @@ pub fn smallest_mean(wanted: &[i64]) -> Mean
 {
     let m = least_mean(greatest_of(wanted));
     if all_near(wanted, m) {
-        return Mean::Found(m);
+        return Mean::Is(m);
     }
     Mean::Missing
 }

@@ -14,7 +14,7 @@ use Rattle.layout.specs.Layout.{rowOf, answered, stored}
 use Rattle.layout.specs.declared.Written.{Written}
 use Rattle.record_rows.specs.declared.Numbers.{Numbers}
 use Rattle.record_rows.specs.Numbers.{says, valuesOf, presentOf}
-use Rattle.record_rows.specs.Inner.{marked, buffers, numbers}
+use Rattle.record_rows.specs.Inner.{presentPadded, buffers, numbers}
 use Rattle.message_rows.specs.Message.{valuesRead, presentRead, kindRefusal, kindRow, kindWriteRefusal, Outcome, writeKind}
 use Rattle.message_rows.specs.Inner.{kindRoomRefusal}
 use Rattle.message_rows.proofs.OneKind.{kind-room, kind-says}
@@ -51,7 +51,7 @@ module _ (n : Numbers) (good : Bool) (v : List Reading) (e : n ≡ numbers good 
   present-within = rw e (by good)
     where
       by : (g : Bool) → numbers g v .count ≤ length (numbers g v .present)
-      by true = unfold buffers marked in simp length-append (omega (arith, same-count v))
+      by true = unfold buffers presentPadded in simp length-append (omega (arith, same-count v))
       by false = unfold buffers in omega arith
 
   pub numbers-within : (n .count ≤ length (n .values)) × (n .count ≤ length (n .present))
@@ -68,7 +68,7 @@ module _ (n : Numbers) (good : Bool) (v : List Reading) (e : n ≡ numbers good 
   present-row = rw e (by good)
     where
       by : (g : Bool) → take (numbers g v .count) (numbers g v .present) ≡ cond g (presentOf v) []
-      by true = unfold buffers marked in ap (λ (k : ℕ). take k (marked (presentOf v))) (sym (same-count v)) ∙ take-append-seam (presentOf v) _
+      by true = unfold buffers presentPadded in ap (λ (k : ℕ). take k (presentPadded (presentOf v))) (sym (same-count v)) ∙ take-append-seam (presentOf v) _
       by false = unfold buffers in refl
 
   -- a record with a bad name is refused whatever its row is

@@ -14,7 +14,7 @@ use Rattle.field.specs.declared.Reading.{Reading}
 use Rattle.field.specs.declared.Reading.the-variants.{Value}
 use Rattle.layout.specs.Layout.{valueIn, presentIn}
 use Rattle.record_rows.specs.Numbers.{valuesOf, presentOf, pairRow}
-use Rattle.record_rows.specs.Inner.{marked, buffers, numbers}
+use Rattle.record_rows.specs.Inner.{presentPadded, buffers, numbers}
 use Rattle.record_grids.specs.declared.Shifts.{Shifts}
 use Rattle.record_grids.specs.declared.Grid.{Grid}
 use Rattle.record_grids.specs.Grids.{shiftsRow, nodesRow, originRow, spacingRow, gridRow}
@@ -44,8 +44,8 @@ module _ {A : Type 0} (f : Reading → A) where
 
 -- ---- ones behind presence bytes are there before they are stored
 
-pub marked-more : (b : List ℕ) (n : ℕ) → length b + n ≤ 96 → marked b ≡ marked (b ++ replicate n 1)
-unfolding marked
+pub marked-more : (b : List ℕ) (n : ℕ) → length b + n ≤ 96 → presentPadded b ≡ presentPadded (b ++ replicate n 1)
+unfolding presentPadded
 marked-more b n h =
     let c : List ℕ = b ++ replicate n 1 in
     let l : length c ≡ length b + n = length-append b (replicate n 1) ∙ ap (λ (m : ℕ). length b + m) (length-replicate n 1) in

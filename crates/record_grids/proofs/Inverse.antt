@@ -4,15 +4,15 @@ use Prim.Native.Nat.{ℕ}
 use mathlib.Core.Path.{_≡_, refl, sym, subst}
 use mathlib.Core.List.{List}
 use lib.ListN.{length, getD}
-use Rattle.arith.specs.Row.{upTo}
-use Rattle.arith.proofs.Rows.{is-upTo}
+use Rattle.arith.specs.Lists.{upTo}
+use Rattle.arith.proofs.Lists.{is-upTo}
 use Rattle.field.specs.declared.Reading.{Reading}
 use Rattle.record_rows.specs.Numbers.{says, pairAt, pairRow}
 use Rattle.record_rows.proofs.Rows.{Valued, all-of}
 use Rattle.record_grids.specs.declared.Shifts.{Shifts}
 use Rattle.record_grids.specs.declared.Grid.{Grid}
 use Rattle.record_grids.specs.Grids.{originAt, originRow, spacingAt, spacingRow, shiftsAt, shiftsRow, nodesAt, nodesRow, gridOf, gridRow, frameOf}
-use Rattle.record_grids.specs.Inner.{frameAt}
+use Rattle.record_grids.specs.Inner.{settingsAt}
 use Rattle.record_grids.proofs.Appends.{zeroShifts}
 
 -- two unsigned places from place k on
@@ -65,6 +65,6 @@ grid-of-row r e =
     subst (λ (ns : List Shifts). gridOf (says (gridRow (with-nodes r ns))) ≡ with-nodes r ns)
     (sym (is-upTo f 16 zeroShifts (r .nodes) e (λ i h. refl))) (sixteen r f)
 
-pub frame-of-grid : (v : ℕ → Reading) → frameOf (gridOf v) ≡ frameAt v
-unfolding frameOf gridOf frameAt
-frame-of-grid v = refl
+pub settings-of-grid : (v : ℕ → Reading) → frameOf (gridOf v) ≡ settingsAt v
+unfolding frameOf gridOf settingsAt
+settings-of-grid v = refl

@@ -3,7 +3,7 @@
 -- Assumes nothing.
 use Prim.Native.Nat.{ℕ, _+_, _*_}
 use mathlib.Core.List.{List, [], _∷_, _++_}
-use Rattle.arith.specs.Row.{upTo}
+use Rattle.arith.specs.Lists.{upTo}
 use Rattle.field.specs.declared.Reading.{Reading}
 use Rattle.field.specs.declared.Reading.the-variants.{Value}
 use Rattle.record_rows.specs.Numbers.{numberAt, pairAt, pairRow}
@@ -11,7 +11,7 @@ use Rattle.record_grids.specs.declared.Origin.{Origin}
 use Rattle.record_grids.specs.declared.Spacing.{Spacing}
 use Rattle.record_grids.specs.declared.Shifts.{Shifts}
 use Rattle.record_grids.specs.declared.Grid.{Grid}
-use Rattle.record_grids.specs.declared.Frame.{Frame}
+use Rattle.record_grids.specs.declared.Settings.{Settings}
 
 -- ---- parts of records: from place k on, and as a row
 
@@ -73,6 +73,6 @@ gridRow r =
 
 -- ---- what a grid says besides its shifts
 
-unfoldable pub frameOf : Grid → Frame
+unfoldable pub frameOf : Grid → Settings
 frameOf g =
     record { number = g .number; indicators = g .indicators; origin = g .origin; spacing = g .spacing; methods = g .methods }

@@ -48,7 +48,7 @@ pub struct Grid {
 }
 
 // What a grid says besides its shifts, its quality and its day.
-pub struct Frame {
+pub struct Settings {
     pub number: i64, // DF002
     pub indicators: Pair, // DF190, DF191
     pub origin: Origin,
@@ -257,14 +257,14 @@ fn end_row(methods: Pair, quality: Pair, day: i64) -> [i64; 5]
 }
 
 // The nodes between the values before and behind them. All behind them are present.
-fn numbers_around(start: &[i64], marks: &[u8], nodes: [Shifts; 16], end: &[i64]) -> Numbers
-    requires { ⌜ (length (now start) ≡ length (now marks)) × (length (now start) + length (now end) ≤ 48) ⌝ }
-    ensures { λ n. ⌜ n ≡ buffers true (now (start .entry) ++ valuesOf (nodesRow nodes) ++ now (end .entry)) (now (marks .entry) ++ presentOf (nodesRow nodes) ++ replicate (length (now (end .entry))) 1) ⌝ }
+fn numbers_around(start: &[i64], start_present: &[u8], nodes: [Shifts; 16], end: &[i64]) -> Numbers
+    requires { ⌜ (length (now start) ≡ length (now start_present)) × (length (now start) + length (now end) ≤ 48) ⌝ }
+    ensures { λ n. ⌜ n ≡ buffers true (now (start .entry) ++ valuesOf (nodesRow nodes) ++ now (end .entry)) (now (start_present .entry) ++ presentOf (nodesRow nodes) ++ replicate (length (now (end .entry))) 1) ⌝ }
 {
     let mut values = [0i64; 96];
     let mut present = [1u8; 96];
     append(&mut values, 0, start);
-    let a = append_bytes(&mut present, 0, marks);
+    let a = append_bytes(&mut present, 0, start_present);
     let b = append_nodes(&mut values, &mut present, a, nodes);
     let count = append(&mut values, b, end);
     Numbers {
@@ -287,20 +287,20 @@ pub fn grid_row(r: Grid) -> Numbers
     let methods = r.methods;
     let quality = r.quality;
     let start = start_row(r.number, r.sin, indicators, origin, spacing, mean);
-    let marks = start_present(origin, mean);
+    let start_present = start_present(origin, mean);
     let end = end_row(methods, quality, r.day);
-    numbers_around(&start, &marks, nodes, &end)
+    numbers_around(&start, &start_present, nodes, &end)
 }
 
 // What a grid says besides its shifts, its quality and its day.
-pub fn frame_of(r: Grid) -> Frame
+pub fn settings_of(r: Grid) -> Settings
     ensures { λ f. ⌜ f ≡ frameOf r ⌝ }
 {
     let indicators = r.indicators;
     let origin = r.origin;
     let spacing = r.spacing;
     let methods = r.methods;
-    Frame {
+    Settings {
         number: r.number,
         indicators,
         origin,

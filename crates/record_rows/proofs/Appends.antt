@@ -11,9 +11,9 @@ use lib.ListN.{length, drop, replicate, length-append}
 use lib.Seq.{paste, length-paste, paste-zero, take-length}
 use Rattle.arith.specs.Inner.{padded}
 use Rattle.arith.proofs.Store.{paste-paste}
-use Rattle.arith.proofs.Rows.{drop-replicate}
+use Rattle.arith.proofs.Lists.{drop-replicate}
 use Rattle.record_rows.specs.declared.Numbers.{Numbers}
-use Rattle.record_rows.specs.Inner.{marked, buffers, appended, placeBehind}
+use Rattle.record_rows.specs.Inner.{presentPadded, buffers, appended, placeBehind}
 use Rattle.record_rows.specs.Private.{Appended}
 
 -- ---- the two answers of a row stored in another
@@ -82,9 +82,9 @@ unfolding buffers
 none g z b p q = p ∙ rw q
 
 -- values from place 0 of 96 zeros on, and presence bytes from place 0 of 96 ones on
-pub all-good : (z : List ℤ) (b : List ℕ) {k l : ℕ} {e : List ℤ} {f : List ℕ} → Appended (padded []) 0 z k e → Appended (marked []) 0 b l f
+pub all-good : (z : List ℤ) (b : List ℕ) {k l : ℕ} {e : List ℤ} {f : List ℕ} → Appended (padded []) 0 z k e → Appended (presentPadded []) 0 b l f
     → _≡_ {A = Numbers} (record { good = true; count = k; values = e; present = f }) (buffers true z b)
-unfolding buffers padded marked
+unfolding buffers padded presentPadded
 all-good z b {k} {l} {e} {f} p q =
     let n : k ≡ length z = omega (arith, p .place) in
     λ i. record {

@@ -10,9 +10,9 @@ use borrow.Author.Tests.{leb-true, ltb-true, ltb-false}
 use lib.Dec.{leb, ltb}
 use lib.IntN.{ℤ, pos}
 use lib.ListN.{length, getD, replicate}
-use Rattle.arith.specs.Row.{upTo, at}
+use Rattle.arith.specs.Lists.{upTo, at}
 use Rattle.arith.specs.Whole.{natural}
-use Rattle.arith.proofs.Rows.{is-upTo}
+use Rattle.arith.proofs.Lists.{is-upTo}
 use Rattle.field.specs.declared.Reading.{Reading}
 use Rattle.field.specs.declared.Reading.the-variants.{Value, Absent}
 use Rattle.layout.specs.Layout.{valueIn, presentIn, readingIn, rowOf}

@@ -15,8 +15,8 @@ use Rattle.record_rows.specs.declared.Numbers.{Numbers}
 -- ---- the answer of a record's row in both buffers: none of a bad name
 
 -- presence bytes, and ones up to 96 places: no message has more
-unfoldable pub marked : List ℕ → List ℕ
-marked b = b ++ replicate (96 - length b) 1
+unfoldable pub presentPadded : List ℕ → List ℕ
+presentPadded b = b ++ replicate (96 - length b) 1
 
 -- values and presence bytes as the answer: none where they are not good
 unfoldable pub buffers : Bool → List ℤ → List ℕ → Numbers
@@ -25,7 +25,7 @@ buffers good z b =
       good = good;
       count = cond good (length z) 0;
       values = padded (cond good z []);
-      present = marked (cond good b []);
+      present = presentPadded (cond good b []);
     }
 
 abbrev pub numbers : Bool → List Reading → Numbers

@@ -8,9 +8,9 @@ use native.Mathlib.Nat.{not-suc-le-zero, le-of-suc-le-suc, sub-zero, suc-sub-suc
 use native.Mathlib.Omega.{arith}
 use lib.IntN.{ℤ, pos}
 use lib.ListN.{length, length-map, length-replicate, replicate}
-use Rattle.arith.specs.Row.{upTo}
+use Rattle.arith.specs.Lists.{upTo}
 use Rattle.arith.specs.Inner.{padded}
-use Rattle.arith.proofs.Rows.{length-upTo}
+use Rattle.arith.proofs.Lists.{length-upTo}
 use Rattle.arith.proofs.Tests.{both-first, both-second}
 use Rattle.field.specs.declared.Reading.{Reading}
 use Rattle.layout.specs.Layout.{valueIn, presentIn}
@@ -18,7 +18,7 @@ use Rattle.record_rows.specs.declared.Numbers.{Numbers}
 use Rattle.record_rows.specs.declared.Pair.{Pair}
 use Rattle.record_rows.specs.Private.{Appended}
 use Rattle.record_rows.specs.Numbers.{pairRow, valuesOf, presentOf}
-use Rattle.record_rows.specs.Inner.{numbers, buffers, marked}
+use Rattle.record_rows.specs.Inner.{numbers, buffers, presentPadded}
 use Rattle.record_rows.proofs.Appends.{behind, all-good, paste-filled}
 use Rattle.record_transformations.specs.declared.Name.{Name}
 use Rattle.record_transformations.specs.declared.Ellipsoids.{Ellipsoids}
@@ -79,15 +79,15 @@ pub names-most : {z : ℤ} (s t : Name) {d e : List ℤ} {k : ℕ} → s .length
 names-most {z} s t a b p = omega (arith, p .place, length-map (names z s t) valueIn, length-names z s t)
 
 -- they stand at the front of 96 ones
-ones-there : (b : List ℕ) → Ones b → length b ≤ 96 → Appended (marked []) 0 b (length b) (marked [])
-unfolding marked
+ones-there : (b : List ℕ) → Ones b → length b ≤ 96 → Appended (presentPadded []) 0 b (length b) (presentPadded [])
+unfolding presentPadded
 ones-there b p h = record { room = rw (length-replicate {A = ℕ} 96 1) (omega arith); place = omega arith; stored = ones-filled 96 b p h ∙ sym (paste-filled 96 1 b) }
 
-pub names-there : {z : ℤ} (s t : Name) {d e : List ℤ} {k : ℕ} → s .length ≤ 31 → t .length ≤ 31 → Appended d 0 (valuesOf (names z s t)) k e → Appended (marked []) 0 (presentOf (names z s t)) k (marked [])
+pub names-there : {z : ℤ} (s t : Name) {d e : List ℤ} {k : ℕ} → s .length ≤ 31 → t .length ≤ 31 → Appended d 0 (valuesOf (names z s t)) k e → Appended (presentPadded []) 0 (presentOf (names z s t)) k (presentPadded [])
 names-there {z} s t {k = k} a b p =
     let n = length-map (names z s t) presentIn in
     let l : length (presentOf (names z s t)) ≡ k = omega (arith, p .place, length-map (names z s t) valueIn) in
-    subst (λ (m : ℕ). Appended (marked []) 0 (presentOf (names z s t)) m (marked [])) l
+    subst (λ (m : ℕ). Appended (presentPadded []) 0 (presentOf (names z s t)) m (presentPadded [])) l
     (ones-there (presentOf (names z s t)) (ones-names z s t) (omega (arith, length-names z s t)))
 
 -- ---- the answer
@@ -105,7 +105,7 @@ pub good-lengths : (s t : Name) → (goodName s && goodName t) ≡ true → (s .
 good-lengths s t g = (good-length s (both-first (goodName s) (goodName t) g), good-length t (both-second (goodName s) (goodName t) g))
 
 -- a row from place 0 of fresh buffers on
-pub answer : (g : Bool) {z : List ℤ} {b : List ℕ} {k l : ℕ} {e : List ℤ} {f : List ℕ} → g ≡ true → Appended (padded []) 0 z k e → Appended (marked []) 0 b l f
+pub answer : (g : Bool) {z : List ℤ} {b : List ℕ} {k l : ℕ} {e : List ℤ} {f : List ℕ} → g ≡ true → Appended (padded []) 0 z k e → Appended (presentPadded []) 0 b l f
     → _≡_ {A = Numbers} (record { good = true; count = k; values = e; present = f }) (buffers g z b)
 answer g {z} {b} p v w = all-good z b v w ∙ ap (λ (x : Bool). buffers x z b) (sym p)
 

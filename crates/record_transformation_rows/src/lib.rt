@@ -7,7 +7,7 @@ use record_transformations::Helmert;
 use record_transformations::MolodenskiBadekas;
 use record_transformations::Name;
 use record_transformations::Parameters;
-use record_transformations::Point;
+use record_transformations::RotationPoint;
 use record_transformations::System;
 ghost use mathlib.Core.Path.{_≡_};
 ghost use mathlib.Core.Bool.{_&&_};
@@ -15,7 +15,7 @@ ghost use mathlib.Core.List.{_++_};
 ghost use Prim.Native.Nat.{_+_, _≤_, _<_};
 ghost use lib.ListN.{length};
 ghost use lib.IntN.{pos};
-ghost use Rattle.arith.specs.Row.{upTo};
+ghost use Rattle.arith.specs.Lists.{upTo};
 ghost use Rattle.record_rows.specs.Numbers.{valuesOf, presentOf};
 ghost use Rattle.record_rows.specs.Inner.{buffers, numbers};
 ghost use Rattle.record_rows.specs.Private.{Appended};
@@ -202,7 +202,7 @@ fn last_values(e: Ellipsoids, q: Pair) -> [i64; 6]
 }
 
 // The values of the last nine places of a 1022.
-fn point_values(o: Point, e: Ellipsoids, q: Pair) -> [i64; 9]
+fn point_values(o: RotationPoint, e: Ellipsoids, q: Pair) -> [i64; 9]
     ensures { λ v. ⌜ v ≡ valuesOf (pointRow o ++ last e q) ⌝ }
 {
     let x = o.x;
@@ -222,7 +222,7 @@ fn point_values(o: Point, e: Ellipsoids, q: Pair) -> [i64; 9]
 }
 
 // Their presence bytes.
-fn point_present(o: Point, e: Ellipsoids, q: Pair) -> [u8; 9]
+fn point_present(o: RotationPoint, e: Ellipsoids, q: Pair) -> [u8; 9]
     ensures { λ b. ⌜ b ≡ presentOf (pointRow o ++ last e q) ⌝ }
 {
     let x = o.x;
@@ -247,12 +247,12 @@ fn named_row(
     source: Name,
     target: Name,
     shared: &[i64],
-    said: &[u8],
+    shared_present: &[u8],
     tail: &[i64],
-    told: &[u8],
+    tail_present: &[u8],
 ) -> Numbers
-    requires { ⌜ (length (now shared) ≡ 16) × ((length (now said) ≡ 16) × ((length (now tail) ≤ 9) × (length (now told) ≡ length (now tail)))) ⌝ }
-    ensures { λ n. ⌜ n ≡ buffers (goodName source && goodName target) (valuesOf (names number source target) ++ now (shared .entry) ++ now (tail .entry)) (presentOf (names number source target) ++ now (said .entry) ++ now (told .entry)) ⌝ }
+    requires { ⌜ (length (now shared) ≡ 16) × ((length (now shared_present) ≡ 16) × ((length (now tail) ≤ 9) × (length (now tail_present) ≡ length (now tail)))) ⌝ }
+    ensures { λ n. ⌜ n ≡ buffers (goodName source && goodName target) (valuesOf (names number source target) ++ now (shared .entry) ++ now (tail .entry)) (presentOf (names number source target) ++ now (shared_present .entry) ++ now (tail_present .entry)) ⌝ }
 {
     if !good_names(source, target) {
         return record_rows::no_numbers();
@@ -262,8 +262,8 @@ fn named_row(
     let a = append_names(&mut values, number, source, target);
     let b = append(&mut values, a, shared);
     let count = append(&mut values, b, tail);
-    let k = append_bytes(&mut present, a, said);
-    append_bytes(&mut present, k, told);
+    let k = append_bytes(&mut present, a, shared_present);
+    append_bytes(&mut present, k, tail_present);
     Numbers {
         good: true,
         count,
@@ -284,10 +284,18 @@ pub fn helmert_row(r: Helmert) -> Numbers
     let ellipsoids = r.ellipsoids;
     let quality = r.quality;
     let shared = shared_values(system, area, parameters);
-    let said = shared_present(system, area, parameters);
+    let shared_present = shared_present(system, area, parameters);
     let tail = last_values(ellipsoids, quality);
-    let told = [1u8; 6];
-    named_row(r.number, source, target, &shared, &said, &tail, &told)
+    let tail_present = [1u8; 6];
+    named_row(
+        r.number,
+        source,
+        target,
+        &shared,
+        &shared_present,
+        &tail,
+        &tail_present,
+    )
 }
 
 // The row of a 1022: none where a name is bad.
@@ -303,8 +311,16 @@ pub fn molodenski_badekas_row(r: MolodenskiBadekas) -> Numbers
     let ellipsoids = r.ellipsoids;
     let quality = r.quality;
     let shared = shared_values(system, area, parameters);
-    let said = shared_present(system, area, parameters);
+    let shared_present = shared_present(system, area, parameters);
     let tail = point_values(point, ellipsoids, quality);
-    let told = point_present(point, ellipsoids, quality);
-    named_row(r.number, source, target, &shared, &said, &tail, &told)
+    let tail_present = point_present(point, ellipsoids, quality);
+    named_row(
+        r.number,
+        source,
+        target,
+        &shared,
+        &shared_present,
+        &tail,
+        &tail_present,
+    )
 }

@@ -9,9 +9,9 @@ use mathlib.Core.List.{List, [], _∷_, _++_, append-assoc}
 use lib.IntN.{ℤ, pos}
 use lib.ListN.{length}
 use lib.Seq.{getD-append-add}
-use Rattle.arith.specs.Row.{upTo}
+use Rattle.arith.specs.Lists.{upTo}
 use Rattle.arith.specs.Whole.{natural}
-use Rattle.arith.proofs.Rows.{is-upTo}
+use Rattle.arith.proofs.Lists.{is-upTo}
 use Rattle.field.specs.declared.Reading.{Reading}
 use Rattle.field.specs.declared.Reading.the-variants.{Value}
 use Rattle.layout.specs.Layout.{valueIn}

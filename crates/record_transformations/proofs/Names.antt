@@ -12,10 +12,10 @@ use lib.Dec.{leb, ltb}
 use lib.IntN.{pos}
 use lib.ListN.{length, getD, take, drop, replicate, length-drop, length-replicate, getD-replicate, take-append-drop, List·getD-append, List·getD-eq-default}
 use lib.Seq.{getD-take, getD-drop, ext-getD, length-take-le, getD-append-add}
-use Rattle.arith.specs.Row.{upTo, allBelow}
+use Rattle.arith.specs.Lists.{upTo, allBelow}
 use Rattle.arith.specs.Whole.{natural}
 use Rattle.arith.proofs.Tests.{all-at, both-second}
-use Rattle.arith.proofs.Rows.{upTo-add, upTo-same, is-upTo, length-upTo, getD-upTo, getD-filled, all-true}
+use Rattle.arith.proofs.Lists.{upTo-add, upTo-same, is-upTo, length-upTo, getD-upTo, getD-filled, all-true}
 use Rattle.field.specs.declared.Reading.{Reading}
 use Rattle.field.specs.declared.Reading.the-variants.{Value}
 use Rattle.layout.specs.Layout.{valueIn}

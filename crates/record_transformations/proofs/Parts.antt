@@ -9,9 +9,9 @@ use borrow.Author.Tests.{leb-true}
 use lib.Dec.{leb}
 use lib.IntN.{ℤ}
 use lib.ListN.{length, length-append}
-use Rattle.arith.specs.Row.{allBelow}
+use Rattle.arith.specs.Lists.{allBelow}
 use Rattle.arith.proofs.Tests.{both-first}
-use Rattle.arith.proofs.Rows.{length-upTo}
+use Rattle.arith.proofs.Lists.{length-upTo}
 use Rattle.field.specs.declared.Reading.{Reading}
 use Rattle.record_rows.specs.Numbers.{pairRow}
 use Rattle.record_transformations.specs.declared.Name.{Name}

@@ -7,7 +7,7 @@ use mathlib.Core.List.{List, [], _∷_, _++_}
 use lib.Dec.{eqb, leb, ltb}
 use lib.ListN.{length, getD, replicate}
 use lib.IntN.{pos}
-use Rattle.arith.specs.Row.{upTo, allBelow}
+use Rattle.arith.specs.Lists.{upTo, allBelow}
 use Rattle.arith.specs.Whole.{natural}
 use Rattle.field.specs.declared.Reading.{Reading}
 use Rattle.field.specs.declared.Reading.the-variants.{Value}
@@ -16,7 +16,7 @@ use Rattle.record_transformations.specs.declared.Name.{Name}
 use Rattle.record_transformations.specs.declared.System.{System}
 use Rattle.record_transformations.specs.declared.Area.{Area}
 use Rattle.record_transformations.specs.declared.Parameters.{Parameters}
-use Rattle.record_transformations.specs.declared.Point.{Point}
+use Rattle.record_transformations.specs.declared.RotationPoint.{RotationPoint}
 use Rattle.record_transformations.specs.declared.Ellipsoids.{Ellipsoids}
 use Rattle.record_transformations.specs.declared.Helmert.{Helmert}
 use Rattle.record_transformations.specs.declared.MolodenskiBadekas.{MolodenskiBadekas}
@@ -67,10 +67,10 @@ parametersAt v k =
 unfoldable pub parametersRow : Parameters → List Reading
 parametersRow r = r .dx ∷ r .dy ∷ r .dz ∷ r .rx ∷ r .ry ∷ r .rz ∷ r .ds ∷ []
 
-unfoldable pub pointAt : (ℕ → Reading) → ℕ → Point
+unfoldable pub pointAt : (ℕ → Reading) → ℕ → RotationPoint
 pointAt v k = record { x = v k; y = v (k + 1); z = v (k + 2) }
 
-unfoldable pub pointRow : Point → List Reading
+unfoldable pub pointRow : RotationPoint → List Reading
 pointRow r = r .x ∷ r .y ∷ r .z ∷ []
 
 unfoldable pub ellipsoidsAt : (ℕ → Reading) → ℕ → Ellipsoids

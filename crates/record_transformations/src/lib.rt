@@ -43,7 +43,7 @@ pub struct Parameters {
 }
 
 // The rotation point.
-pub struct Point {
+pub struct RotationPoint {
     pub x: Reading, // DF163
     pub y: Reading, // DF164
     pub z: Reading, // DF165
@@ -77,7 +77,7 @@ pub struct MolodenskiBadekas {
     pub system: System,
     pub area: Area,
     pub parameters: Parameters,
-    pub point: Point,
+    pub point: RotationPoint,
     pub ellipsoids: Ellipsoids,
     pub quality: Pair, // DF214, DF215
 }
@@ -159,11 +159,11 @@ fn parameters_at(values: &[i64], present: &[u8], k: usize) -> Parameters
     }
 }
 
-fn point_at(values: &[i64], present: &[u8], k: usize) -> Point
+fn point_at(values: &[i64], present: &[u8], k: usize) -> RotationPoint
     requires { ⌜ k + 3 ≤ 96 ⌝ }
     ensures { λ r. ⌜ r ≡ pointAt (says (rowOf (now (values .entry)) (now (present .entry)))) k ⌝ }
 {
-    Point {
+    RotationPoint {
         x: record_rows::says_at(values, present, k),
         y: record_rows::says_at(values, present, k + 1),
         z: record_rows::says_at(values, present, k + 2),

@@ -89,8 +89,8 @@ fn add_points(
 ) -> State {
     let mut state = start(component);
     let mut place = behind;
-    let mut turns: usize = TURNS;
-    while turns > 0 {
+    let mut rounds: usize = TURNS;
+    while rounds > 0 {
         let got = input::read_line(chunk, line, place);
         if got.ended {
             return state;
@@ -100,7 +100,7 @@ fn add_points(
         if state.bad != 0 {
             return state;
         }
-        turns -= 1;
+        rounds -= 1;
     }
     state
 }

@@ -69,10 +69,10 @@ module _ (s : List ℕ) (c : ℕ) where
   outcomes-length (p ∷ ps) = ap suc (outcomes-length ps)
 
   -- with refusal 0
-  abbrev pub told : List Point → Report
-  told ps = record { refusal = 0; tally = tallyOf (outcomes s c ps) }
+  abbrev pub reportSoFar : List Point → Report
+  reportSoFar ps = record { refusal = 0; tally = tallyOf (outcomes s c ps) }
 
-  step-is : (ps : List Point) (p : Point) → length ps < 10000 → stepOf (told ps) s (keptOf s) c p (length ps) ≡ told (ps ++ (p ∷ []))
+  step-is : (ps : List Point) (p : Point) → length ps < 10000 → stepOf (reportSoFar ps) s (keptOf s) c p (length ps) ≡ reportSoFar (ps ++ (p ∷ []))
   unfolding stepOf
   step-is ps p few =
       let os = outcomes s c ps in
@@ -88,13 +88,13 @@ module _ (s : List ℕ) (c : ℕ) where
   nil-right [] = refl
   nil-right (p ∷ ps) = ap (λ (l : List Point). p ∷ l) (nil-right ps)
 
-  report-from : (qs ps : List Point) → length qs + length ps ≤ 10000 → reportFrom s (keptOf s) c (length qs) ps (told qs) ≡ told (qs ++ ps)
-  report-from qs [] h = ap told (nil-right qs)
+  report-from : (qs ps : List Point) → length qs + length ps ≤ 10000 → reportFrom s (keptOf s) c (length qs) ps (reportSoFar qs) ≡ reportSoFar (qs ++ ps)
+  report-from qs [] h = ap reportSoFar (nil-right qs)
   report-from qs (p ∷ ps) h =
       let l : length qs + 1 ≡ length (qs ++ (p ∷ [])) = sym (length-append qs (p ∷ [])) in
       (λ i. reportFrom s (keptOf s) c (l i) ps (step-is qs p (omega arith) i))
       ∙ report-from (qs ++ (p ∷ [])) ps (omega (arith, length-append qs (p ∷ [])))
-      ∙ ap told (append-assoc qs (p ∷ []) ps)
+      ∙ ap reportSoFar (append-assoc qs (p ∷ []) ps)
 
   -- a refused report stays
   stays : (kept : Kept) (before : ℕ) (ps : List Point) (r : Report) → eqb (r .refusal) 0 ≡ false → reportFrom s kept c before ps r ≡ r

@@ -13,10 +13,10 @@ use lib.Signed.{_≤ℤ_, _<ℤ_}
 use Rattle.arith.specs.First.{Test, first}
 use Rattle.arith.proofs.First.{passed, or-false}
 use Rattle.arith.proofs.Int.{at, nat, minus, _⊞_, _⊟_, _⊠_, ring, order, order-lt, known, abs-above, abs-within, within-abs, abs-most}
-use Rattle.arith.proofs.Rows.{getD-upTo}
+use Rattle.arith.proofs.Lists.{getD-upTo}
 use Rattle.arith.proofs.Tests.{all-at, both-first, both-second}
 use Rattle.layout.specs.Layout.{valueIn}
-use Rattle.record_grids.specs.declared.Frame.{Frame}
+use Rattle.record_grids.specs.declared.Settings.{Settings}
 use Rattle.grid_refusals.specs.Refusals.{beyond, ellipsoidal, available, fieldTests}
 use Rattle.grid_bilinear.specs.Bilinear.{fromEdge, outside, cell, lacks}
 use Rattle.grid_bilinear.proofs.Place.{steps-are, cell-le}
@@ -28,7 +28,7 @@ use Rattle.grid_direction.proofs.Placed.{along-steps, along-cell}
 use Rattle.grid_fields.specs.Inner.{meanSays, nodeSays, nodesSaid, cellSays}
 use Rattle.grid_fields.specs.declared.Nodes.{Nodes}
 use Rattle.grid_place.specs.Position.{turn, halfTurn, byTurns, stepsOf}
-use Rattle.grid_place.specs.Inner.{heightOf, widthOf, northFrom, eastFrom, frameHeld, placeTests, placeOf, heldPlace}
+use Rattle.grid_place.specs.Inner.{heightOf, widthOf, northFrom, eastFrom, settingsHeld, placeTests, placeOf, heldPlace}
 use Rattle.grid_place.specs.Private.{Fields}
 use Rattle.grid_place.specs.declared.Located.{Located}
 use Rattle.grid_place.proofs.Antimeridian.{turnsOf, turned-same, turned-only}
@@ -125,7 +125,7 @@ other a b c ts h e = let p = passed 7 a _ h in rw (p .0, e) (passed 8 b _ (p .1)
 
 -- ---- the place
 
-module _ (f : Frame) (c : ℕ) (n₀ e₀ : ℤ) (z : heldPlace f c n₀ e₀ .refusal ≡ 0) where
+module _ (f : Settings) (c : ℕ) (n₀ e₀ : ℤ) (z : heldPlace f c n₀ e₀ .refusal ≡ 0) where
   abbrev h : ℕ
   h = heightOf f
 
@@ -141,13 +141,13 @@ module _ (f : Frame) (c : ℕ) (n₀ e₀ : ℤ) (z : heldPlace f c n₀ e₀ .r
   abbrev q : Located
   q = heldPlace f c n₀ e₀
 
-  is-held : frameHeld f ≡ true
-  is-held = by (frameHeld f) refl
+  is-held : settingsHeld f ≡ true
+  is-held = by (settingsHeld f) refl
     where
-      none : frameHeld f ≡ false → ⊥
+      none : settingsHeld f ≡ false → ⊥
       none y = let five : _≡_ {A = ℕ} 5 0 = ap (λ (p : Located). p .refusal) (no-frame f y c n₀ e₀) ∙ z in absurd (omega arith)
 
-      by : (b : Bool) → frameHeld f ≡ b → frameHeld f ≡ true
+      by : (b : Bool) → settingsHeld f ≡ b → settingsHeld f ≡ true
       by true y = y
       by false y = absurd (none y)
 
@@ -314,7 +314,7 @@ module _ (s : List ℕ) (c : ℕ) (all : nodesAvailable s c ≡ true) where
 
 module _ (s : List ℕ) (kept : Kept) (c : ℕ) (accepted : kept .refusal ≡ 0) (mean : available (meanSays s c) ≡ true) (nodes : nodesAvailable s c ≡ true) (n₀ e₀ : ℤ)
     (z : heldPlace (kept .frame) c n₀ e₀ .refusal ≡ 0) where
-  abbrev f : Frame
+  abbrev f : Settings
   f = kept .frame
 
   abbrev p : Prepared
@@ -372,7 +372,7 @@ module _ (s : List ℕ) (kept : Kept) (c : ℕ) where
   tested true p h = h refl
   tested false p h = none-serves s kept c (nodeValues s c)
 
-  abbrev frame : Frame
+  abbrev frame : Settings
   frame = kept .frame
 
   within : (n e : ℤ) → eqb (refusalAt (frame .number) c n e) 0 ≡ true → beyond (frame .number) n e ≡ false

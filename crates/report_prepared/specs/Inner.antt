@@ -7,7 +7,7 @@ use lib.Dec.{eqb, ltb}
 use lib.IntN.{ℤ, pos, natAbs, _+ℤ_, _-ℤ_, _*ℤ_}
 use Rattle.arith.specs.First.{first}
 use Rattle.layout.specs.Layout.{valueIn}
-use Rattle.record_grids.specs.declared.Frame.{Frame}
+use Rattle.record_grids.specs.declared.Settings.{Settings}
 use Rattle.grid_refusals.specs.Refusals.{available, beyond}
 use Rattle.grid_place.specs.Position.{stepsOf}
 use Rattle.grid_place.specs.Inner.{heldPlace}
@@ -16,7 +16,7 @@ use Rattle.grid_fields.specs.Inner.{meanSays, nodeSays}
 use Rattle.grid_counts.specs.Counts.{nodeFactor, meanFactor}
 use Rattle.grid_component.specs.declared.Kept.{Kept}
 use Rattle.report_prepared.specs.declared.Prepared.{Prepared}
-use Rattle.arith.specs.Row.{upTo, allBelow}
+use Rattle.arith.specs.Lists.{upTo, allBelow}
 
 -- the origin in steps along one direction, or 0 where no message has such a one
 unfoldable pub middleOf : ℤ → ℤ → ℤ
@@ -47,7 +47,7 @@ abbrev pub refusalAt : ℤ → ℕ → ℤ → ℤ → ℕ
 refusalAt number c n e = first ((8, ltb 2 c) ∷ (9, beyond number n e) ∷ [])
 
 -- the edges around the place of a position n, e: none where it has no place, or where a corner, south-western or north-eastern, is beyond document 01's limits
-unfoldable pub edgesAt : List ℕ → Frame → ℕ → ℤ → ℤ → Prepared
+unfoldable pub edgesAt : List ℕ → Settings → ℕ → ℤ → ℤ → Prepared
 edgesAt s f c n e =
     let q = heldPlace f c n e in
     let p = aroundOf q n e (pos meanFactor *ℤ valueIn (meanSays s c)) (nodeFactor (f .number) c) in

@@ -5,7 +5,7 @@ use mathlib.Core.List.{List}
 use Prim.Native.Nat.{ℕ, _+_, _-_, _*_, _≤_, _<_}
 use lib.IntN.{ℤ, natAbs, _-ℤ_}
 use lib.Signed.{_≤ℤ_}
-use Rattle.arith.specs.Row.{at}
+use Rattle.arith.specs.Lists.{at}
 use Rattle.grid_bilinear.specs.Bilinear.{cell}
 use Rattle.grid_cell.specs.Inner.{weightsIn, countBy}
 use Rattle.grid_cell.specs.declared.Corners.{Corners}

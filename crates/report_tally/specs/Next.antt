@@ -7,7 +7,7 @@ use lib.Dec.{eqb, leb, ltb}
 use lib.IntN.{ℤ, natAbs}
 use Rattle.arith.specs.First.{first}
 use Rattle.grid_shifts.specs.Shift.{messageShift}
-use Rattle.grid_component.specs.Part.{counted}
+use Rattle.grid_component.specs.Component.{counted}
 use Rattle.grid_counts.specs.declared.Counted.{Counted}
 use Rattle.report_update.specs.declared.Tally.{Tally}
 use Rattle.report_update.specs.declared.Report.{Report}

@@ -12,8 +12,8 @@ use lib.IntN.{ℤ, natAbs, _+ℤ_}
 use lib.ListN.{length, getD, set, length-set}
 use lib.Seq.{getD-set-same, getD-set-other}
 use borrow.Author.Tests.{eqb-true, eqb-false, eq-eqb, ne-eqb, lt-ltb, le-leb}
-use Rattle.arith.specs.Row.{upTo}
-use Rattle.arith.proofs.Rows.{getD-upTo, is-upTo, upTo-same}
+use Rattle.arith.specs.Lists.{upTo}
+use Rattle.arith.proofs.Lists.{getD-upTo, is-upTo, upTo-same}
 use Rattle.arith.proofs.Int.{abs-add}
 use Rattle.grid_counts.specs.declared.Counted.{Counted}
 use Rattle.report_update.specs.declared.Tally.{Tally}

@@ -6,7 +6,7 @@ use mathlib.Core.List.{List, [], _∷_}
 use lib.Dec.{eqb}
 use lib.IntN.{ℤ, pos, _+ℤ_}
 use lib.Signed.{ltZ}
-use Rattle.arith.specs.Row.{upTo}
+use Rattle.arith.specs.Lists.{upTo}
 use Rattle.arith.specs.Whole.{eqZ}
 use Rattle.grid_counts.specs.declared.Counted.{Counted}
 use Rattle.report_update.specs.declared.Tally.{Tally}

@@ -1,6 +1,6 @@
 // Checking a vendor's sample answers against the shifts of their message. The functions with a requires are private.
 use grid_component::Kept;
-use sample_files::Point;
+use sample_files::SamplePoint;
 ghost use mathlib.Core.Path.{_≡_};
 ghost use Rattle.grid_component.specs.Inner.{keptOf};
 ghost use Rattle.sample_files.specs.File.{pointsOf};
@@ -19,7 +19,7 @@ pub struct Checked {
 }
 
 // Whether a point is answered 0 with the count that it claims.
-fn right_point(message: &[u8], kept: Kept, p: Point) -> bool
+fn right_point(message: &[u8], kept: Kept, p: SamplePoint) -> bool
     requires { ⌜ kept ≡ keptOf (now message) ⌝ }
     ensures { λ r. ⌜ r ≡ right (now (message .entry)) p ⌝ }
 {

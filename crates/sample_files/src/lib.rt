@@ -11,7 +11,7 @@ const POINT_SIZE: usize = 28;
 const MOST_POINTS: usize = 1000;
 
 // A component, a position and the count that is claimed there.
-pub struct Point {
+pub struct SamplePoint {
     pub component: u8,
     pub north: i64,
     pub east: i64,
@@ -111,11 +111,11 @@ pub fn point_count(file: &[u8]) -> usize
 }
 
 // The point of the field that begins at byte a.
-fn point_in(s: &[u8], a: usize) -> Point
+fn point_in(s: &[u8], a: usize) -> SamplePoint
     requires { ⌜ a + pointSize ≤ length (now s) ⌝ }
     ensures { λ r. ⌜ r ≡ pointOf (drop a (now (s .entry))) ⌝ }
 {
-    Point {
+    SamplePoint {
         component: s[a + 3],
         north: sample_numbers::whole_at(s, a + 4),
         east: sample_numbers::whole_at(s, a + 12),
@@ -123,12 +123,12 @@ fn point_in(s: &[u8], a: usize) -> Point
     }
 }
 
-// Point i of a file, from 0; all zero where there is none.
-pub fn point_at(file: &[u8], i: usize) -> Point
+// SamplePoint i of a file, from 0; all zero where there is none.
+pub fn point_at(file: &[u8], i: usize) -> SamplePoint
     ensures { λ r. ⌜ r ≡ pointAt (now (file .entry)) i ⌝ }
 {
     if point_count(file) <= i {
-        return Point {
+        return SamplePoint {
             component: 0,
             north: 0,
             east: 0,

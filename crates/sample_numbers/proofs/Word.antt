@@ -24,12 +24,12 @@ use Rattle.sample_numbers.proofs.Number.{room-suc, length-bytesOf, put-
 pub fits-word : (x i : ℕ) → i ≤ 8 → x < 2 ^ (8 * i) → x < 2 ^ 64
 fits-word x i h l = let p : 2 ^ (8 * i) ≤ 2 ^ 64 = pow-mono {i = 8 * i} {j = 64} (omega arith) in omega arith
 
-pub turn-room : (r b i : ℕ) → r < 2 ^ (8 * i) → b < 256 → r * 256 + b < 2 ^ (8 * (i + 1))
-turn-room r b i h l = rw (add-one i, room-suc i) (omega arith)
+pub round-room : (r b i : ℕ) → r < 2 ^ (8 * i) → b < 256 → r * 256 + b < 2 ^ (8 * (i + 1))
+round-room r b i h l = rw (add-one i, room-suc i) (omega arith)
 
-pub turn-number : (s : List ℕ) (a r i : ℕ) → r ≡ number i (drop a s) → r * 256 + getD s (a + i) 0 ≡ number (i + 1) (drop a s)
+pub round-number : (s : List ℕ) (a r i : ℕ) → r ≡ number i (drop a s) → r * 256 + getD s (a + i) 0 ≡ number (i + 1) (drop a s)
 unfolding number
-turn-number s a r i e = rw (add-one i, e, getD-drop a s i 0)
+round-number s a r i e = rw (add-one i, e, getD-drop a s i 0)
 
 -- ---- two's complement of 64 bits
 
@@ -62,8 +62,8 @@ store-byte out v j h =
     ∙ ap (λ (l : List ℕ). bytesOf j (v / 256) ++ l)
     (sym (ap (drop j) (set-split out j (v % 256) h) ∙ drop-at (take j out) (v % 256 ∷ drop (suc j) out) j (length-take-le j out (omega arith))))
 
-pub turn-byte : (out : List ℕ) (v k : ℕ) → 0 < k → k ≤ length out → bytesOf k v ++ drop k out ≡ bytesOf (k - 1) (v / 256) ++ drop (k - 1) (set out (k - 1) (v % 256))
-turn-byte out v k p h =
+pub round-byte : (out : List ℕ) (v k : ℕ) → 0 < k → k ≤ length out → bytesOf k v ++ drop k out ≡ bytesOf (k - 1) (v / 256) ++ drop (k - 1) (set out (k - 1) (v % 256))
+round-byte out v k p h =
     let e : k ≡ suc (k - 1) = omega arith in
     ap (λ (n : ℕ). bytesOf n v ++ drop n out) e ∙ store-byte out v (k - 1) (omega arith)
 

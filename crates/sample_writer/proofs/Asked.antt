@@ -16,7 +16,7 @@ use Rattle.arith.proofs.Order.{none-first, none-rest}
 use Rattle.arith.proofs.Tests.{both-first, both-second}
 use Rattle.message_rows.specs.Message.{kindRefusal}
 use Rattle.grid_counts.specs.declared.Counted.{Counted}
-use Rattle.grid_component.specs.Part.{counted}
+use Rattle.grid_component.specs.Component.{counted}
 use Rattle.sample_files.specs.File.{mostPoints}
 use Rattle.sample_writer.specs.Refusals.{Asked, answerAt, askedOf, pointTest, firstRefused, pointsRefusal}
 
@@ -41,13 +41,13 @@ module _ (cs : List ℕ) (ns es : List ℤ) (i : ℕ) (h : i < length cs) (p : l
     refusal-is : a .refusal ≡ answerAt m (point cs ns es i) .refusal
     refusal-is = ap (λ (k : Counted). k .refusal) e
 
-    pub turn-refused : (a .refusal ≡ 0 → ⊥) → firstRefused m (from cs ns es i) ≡ a .refusal
+    pub round-refused : (a .refusal ≡ 0 → ⊥) → firstRefused m (from cs ns es i) ≡ a .refusal
     unfolding firstRefused pointTest
-    turn-refused r = rw (from-point, ← refusal-is, ne-eqb (a .refusal) 0 r)
+    round-refused r = rw (from-point, ← refusal-is, ne-eqb (a .refusal) 0 r)
 
-    pub turn-answered : a .refusal ≡ 0 → firstRefused m (from cs ns es i) ≡ firstRefused m (from cs ns es (i + 1))
+    pub round-answered : a .refusal ≡ 0 → firstRefused m (from cs ns es i) ≡ firstRefused m (from cs ns es (i + 1))
     unfolding firstRefused pointTest
-    turn-answered r = rw (from-point, ← refusal-is, eq-eqb (a .refusal) 0 r)
+    round-answered r = rw (from-point, ← refusal-is, eq-eqb (a .refusal) 0 r)
 
 pub end-refused : (cs : List ℕ) (ns es : List ℤ) (i : ℕ) (m : List ℕ) → length cs ≤ i → firstRefused m (from cs ns es i) ≡ 0
 unfolding firstRefused pointTest

@@ -11,7 +11,7 @@ use borrow.Author.Tests.{eq-eqb, ne-eqb}
 use Rattle.message_rows.specs.Message.{refusal}
 use Rattle.table_slots.specs.Slots.{slots, isOwner, key, keyOf, joined}
 use Rattle.table.specs.Table.{wellFormed, put, storePlace, storeRefusal, storeTable, keyPlace, findRefusal, removeTable}
-use Rattle.table_history.specs.History.{Ask, store, find, remove, Call, number, after, afterAll, logOf, told, lastOf}
+use Rattle.table_history.specs.History.{Ask, store, find, remove, Call, number, after, afterAll, logOf, leftUnder, lastOf}
 use Rattle.table.proofs.Whole.{Formed, formed, well-formed}
 use Rattle.table.proofs.Calls.{Store, Find, store-kept, remove-kept, store-owner, store-refused, store-full, store-done, find-owner, find-none, find-done}
 use Rattle.table_slots.proofs.Owner.{joined-same}
@@ -21,36 +21,36 @@ use Rattle.table_history.proofs.Step.{store-formed, store-same, store-o
 -- what one call leaves: with n and t′ its number and the table after it
 abbrev pub Kept : List ℕ → ℕ → List ℕ → ℕ → Ask → Type 0
 Kept t n t′ o a =
-    Formed t′ × ((p k : ℕ) → isOwner p ≡ true → look t′ (joined p k) ≡ cond (eqb o p && eqb n 0) (told k (look t (joined p k)) a) (look t (joined p k)))
+    Formed t′ × ((p k : ℕ) → isOwner p ≡ true → look t′ (joined p k) ≡ cond (eqb o p && eqb n 0) (leftUnder k (look t (joined p k)) a) (look t (joined p k)))
 
 -- a refused call
 refused : (t : List ℕ) (n o : ℕ) (a : Ask) → Formed t → (n ≡ 0 → ⊥) → Kept t n t o a
-refused t n o a f h = (f, λ p k u. rw (ne-eqb n 0 h) (by (eqb o p) (told k (look t (joined p k)) a) (look t (joined p k))))
+refused t n o a f h = (f, λ p k u. rw (ne-eqb n 0 h) (by (eqb o p) (leftUnder k (look t (joined p k)) a) (look t (joined p k))))
   where
     by : (b : Bool) (x y : List ℕ) → y ≡ cond (b && false) x y
     by true x y = refl
     by false x y = refl
 
 -- a call answered 0, which changes what is under the caller's key j from one thing to another
-done : (t t′ : List ℕ) (o j : ℕ) (m : List ℕ) (a : Ask) → isOwner o ≡ true → ((k : ℕ) (old : List ℕ) → told k old a ≡ cond (eqb j k) m old)
+done : (t t′ : List ℕ) (o j : ℕ) (m : List ℕ) (a : Ask) → isOwner o ≡ true → ((k : ℕ) (old : List ℕ) → leftUnder k old a ≡ cond (eqb j k) m old)
     → look t′ (joined o j) ≡ m → ((k : ℕ) → (k ≡ joined o j → ⊥) → look t′ k ≡ look t k)
-    → (p k : ℕ) → isOwner p ≡ true → look t′ (joined p k) ≡ cond (eqb o p && true) (told k (look t (joined p k)) a) (look t (joined p k))
+    → (p k : ℕ) → isOwner p ≡ true → look t′ (joined p k) ≡ cond (eqb o p && true) (leftUnder k (look t (joined p k)) a) (look t (joined p k))
 done t t′ o j m a v tells same other p k u = go (ℕ-discrete o p) (ℕ-discrete j k)
   where
-    go : Dec (o ≡ p) → Dec (j ≡ k) → look t′ (joined p k) ≡ cond (eqb o p && true) (told k (look t (joined p k)) a) (look t (joined p k))
+    go : Dec (o ≡ p) → Dec (j ≡ k) → look t′ (joined p k) ≡ cond (eqb o p && true) (leftUnder k (look t (joined p k)) a) (look t (joined p k))
     go (no n) d = rw (ne-eqb o p n) (other (joined p k) (λ z. n (sym (joined-same p o k j u v z .0))))
     go (yes q) (yes e) = rw (eq-eqb o p q, tells k (look t (joined p k)), eq-eqb j k e) (ap (look t′) (ap (λ (x : ℕ). joined x k) (sym q) ∙ ap (joined o) (sym e)) ∙ same)
     go (yes q) (no n) = rw (eq-eqb o p q, tells k (look t (joined p k)), ne-eqb j k n) (other (joined p k) (λ z. n (sym (joined-same p o k j u v z .1))))
 
 stored : (t : List ℕ) (o : ℕ) (m : List ℕ) (f : Formed t) (v : isOwner o ≡ true) (a : refusal m ≡ 0) (l : storePlace t o m < slots)
     → Kept t 0 (put t (storePlace t o m) o m) o (store m)
-unfolding told
+unfolding leftUnder
 stored t o m f v a l =
     (store-formed t o m f v a l, done t _ o (keyOf m) m (store m) v (λ k old. refl) (store-same t o m f v a l) (store-other t o m f v a l))
 
 removed : (t : List ℕ) (o s g : ℕ) (f : Formed t) (v : isOwner o ≡ true) (l : keyPlace t o s g < slots)
     → Kept t 0 (put t (keyPlace t o s g) 0 []) o (remove s g)
-unfolding told
+unfolding leftUnder
 removed t o s g f v l =
     (remove-formed t o s g f v l, done t _ o (key s g) [] (remove s g) v (λ k old. refl) (remove-same t o s g f v l) (remove-other t o s g f v l))
 
@@ -58,7 +58,7 @@ move : (t : List ℕ) (n n′ : ℕ) (u u′ : List ℕ) (o : ℕ) (a : Ask) →
 move t n n′ u u′ o a p q k = (rw q (k .0), λ r j w. rw (p, q) (k .1 r j w))
 
 pub keep : (t : List ℕ) → Formed t → (o : ℕ) (a : Ask) → Kept t (number t o a) (after t o a) o a
-unfolding number after told
+unfolding number after leftUnder
 keep t f o (store m) = go (isOwner o) refl (ℕ-discrete (refusal m) 0) (decLt (storePlace t o m) slots)
   where
     keeps : (n : ℕ) → Store t o m n t → (n ≡ 0 → ⊥) → Kept t (storeRefusal t o m) (storeTable t o m) o (store m)

@@ -7,4 +7,4 @@ pub mod Answers
 pub mod Dict
 pub mod Replies
 pub mod Others
-pub mod Neighbour
+pub mod Isolation

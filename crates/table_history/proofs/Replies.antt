@@ -15,7 +15,7 @@ use Rattle.message_rows.specs.Message.{refusal}
 use Rattle.message_rows.proofs.Limits.{accepted-size}
 use Rattle.table_slots.specs.Slots.{slots, most, isOwner, wellSlot, allZero, key, keyOf, joined, slot, ownerAt, held, tag}
 use Rattle.table.specs.Table.{flawed, wellSlots, countOf, newKey, place, owns, holding, isUsed, usedSlots, wellFormed, put, storePlace, storeTable, keyPlace, findRefusal, removeTable, found}
-use Rattle.table_history.specs.History.{fresh, Ask, store, find, remove, Call, number, after, told}
+use Rattle.table_history.specs.History.{fresh, Ask, store, find, remove, Call, number, after, leftUnder}
 use Rattle.table_history.specs.Dict.{Dict, storedUnder, without, isNew, keyNumber, freeNumber, freeShown, changed, Dicts, total, full, dictNumber, dictShown, changedFor, dictAfter, shown, Reply, reply, replies, dictReplies, entriesTo, entries}
 use Rattle.table_slots.proofs.Owner.{not-none, by-owner}
 use Rattle.table.proofs.Count.{count-all, count-lt}
@@ -48,8 +48,8 @@ pub record Step (t : List ℕ) (ds : Dicts) (o : ℕ) (a : Ask) : Type 0 where
   pub next : Same (after t o a) (dictAfter ds o a)
 
 -- what an answer of 0 changes in a dictionary
-changed-told : (a : Ask) (d : Dict) (k : ℕ) → storedUnder (changed d a) k ≡ told k (storedUnder d k) a
-unfolding changed told
+changed-told : (a : Ask) (d : Dict) (k : ℕ) → storedUnder (changed d a) k ≡ leftUnder k (storedUnder d k) a
+unfolding changed leftUnder
 changed-told (store m) d k = lookup-stored m d k
 changed-told (find s g) d k = refl
 changed-told (remove s g) d k = lookup-removed d (key s g) k
@@ -99,7 +99,7 @@ module _ (t : List ℕ) (ds : Dicts) (o : ℕ) (a : Ask) (s : Same t ds) where
       looks : (r k : ℕ) → isOwner r ≡ true → Dec (o ≡ r) → storedUnder (changedFor ds o a r) k ≡ look (after t o a) (joined r k)
       looks r k u (yes q) =
           let h = keep t (s .whole) o a .1 r k u in
-          rw (eq-eqb o r q) (changed-told a (ds r) k ∙ ap (λ (m : List ℕ). told k m a) (s .looks r k u) ∙ sym (rw (eq-eqb o r q, z) at h))
+          rw (eq-eqb o r q) (changed-told a (ds r) k ∙ ap (λ (m : List ℕ). leftUnder k m a) (s .looks r k u) ∙ sym (rw (eq-eqb o r q, z) at h))
       looks r k u (no n) =
           let h = keep t (s .whole) o a .1 r k u in
           rw (ne-eqb o r n) (s .looks r k u ∙ sym (rw (ne-eqb o r n) at h))

@@ -52,12 +52,12 @@ logOf t [] = []
 logOf t (c ∷ cs) = record { call = c; answer = number t (c .owner) (c .ask) } ∷ logOf (after t (c .owner) (c .ask)) cs
 
 -- what an owner's call that was answered 0 leaves under its key k, where old stood before
-unfoldable pub told : ℕ → List ℕ → Ask → List ℕ
-told k old (store m) = cond (eqb (keyOf m) k) m old
-told k old (find s g) = old
-told k old (remove s g) = cond (eqb (key s g) k) [] old
+unfoldable pub leftUnder : ℕ → List ℕ → Ask → List ℕ
+leftUnder k old (store m) = cond (eqb (keyOf m) k) m old
+leftUnder k old (find s g) = old
+leftUnder k old (remove s g) = cond (eqb (key s g) k) [] old
 
 -- what owner o last stored under k and did not remove since, where old counts as stored: only its calls answered 0 count
 unfoldable pub lastOf : ℕ → ℕ → List ℕ → List Entry → List ℕ
 lastOf o k old [] = old
-lastOf o k old (e ∷ es) = lastOf o k (cond (eqb (e .call .owner) o && eqb (e .answer) 0) (told k old (e .call .ask)) old) es
+lastOf o k old (e ∷ es) = lastOf o k (cond (eqb (e .call .owner) o && eqb (e .answer) 0) (leftUnder k old (e .call .ask)) old) es

@@ -1,3 +1,3 @@
 pub mod History
 pub mod Dict
-pub mod Neighbour
+pub mod Isolation

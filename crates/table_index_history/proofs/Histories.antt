@@ -10,7 +10,7 @@ use lib.Dec.{ltb, eqb}
 use lib.ListN.{length, getD}
 use borrow.Author.Tests.{eq-eqb, ne-eqb, eqb-true}
 use Rattle.arith.specs.First.{first}
-use Rattle.arith.proofs.Rows.{getD-filled}
+use Rattle.arith.proofs.Lists.{getD-filled}
 use Rattle.arith.proofs.First.{passed, not-false}
 use Rattle.arith.proofs.Tests.{both-first, both-second}
 use Rattle.table_slots.specs.Slots.{slots, slotSize, tableSize, isOwner, slot}
@@ -27,7 +27,7 @@ use Rattle.table_index_search.specs.Agree.{agree}
 use Rattle.table_index_search.specs.Means.{markIn}
 use Rattle.table_index_search.specs.declared.Probe.{Probe}
 use Rattle.table_index_search.proofs.Agree.{tests}
-use Rattle.table_index_search.proofs.Turns.{search-looks}
+use Rattle.table_index_search.proofs.Rounds.{search-looks}
 use Rattle.table_index.specs.Change.{zeros, rebuilt}
 use Rattle.table_index.proofs.Rebuilt.{empty-agrees}
 use Rattle.table_index.proofs.Laws.{rebuilt-whole}

@@ -9,7 +9,7 @@ use mathlib.Core.List.{List, []}
 use lib.ListN.{length, getD, set, length-set, List·getD-eq-default}
 use lib.Seq.{ext-getD, getD-set-same, getD-set-other}
 use borrow.Author.Tests.{ne-eqb}
-use Rattle.arith.proofs.Rows.{length-upTo, getD-upTo}
+use Rattle.arith.proofs.Lists.{length-upTo, getD-upTo}
 use Rattle.message_rows.specs.Message.{numberOf, sinOf}
 use Rattle.message_rows.proofs.Limits.{sin-most}
 use Rattle.table_slots.specs.Slots.{slots, messageSize, tableSize, isOwner, groupOf, key, keyOf, joined, slot, held, wellSlot, tag, slotOf}

@@ -1,4 +1,4 @@
--- The search counts the entries that it names and depends on no other. Rests on the rule's turns.
+-- The search counts the entries that it names and depends on no other. Rests on the rule's rounds.
 -- Assumes nothing.
 use Prim.Native.Nat.{ℕ, zero, suc, _+_, _*_, _<_}
 use native.Mathlib.Omega.{arith}
@@ -14,26 +14,26 @@ use Rattle.table_index_search.specs.Index.{entries, entrySize, indexSize, byteA
 use Rattle.table_index_search.specs.Search.{middle, missedAfter, metAfter, binarySearch, searched}
 use Rattle.table_index_history.specs.Named.{namedAmong, named, entryAt, entriesAt}
 use Rattle.table_index_search.specs.declared.Probe.{Probe}
-use Rattle.table_index_search.proofs.Turns.{probe-none, probe-met, probe-behind, probe-before, searched-sized, searched-other}
+use Rattle.table_index_search.proofs.Rounds.{probe-none, probe-met, probe-behind, probe-before, searched-sized, searched-other}
 
 -- ---- the list by cases
 
-module _ (x : List ℕ) (key : ℕ) (turns lo end : ℕ) where
-  named-none : end < suc lo → namedAmong (suc turns) x key lo end ≡ []
+module _ (x : List ℕ) (key : ℕ) (rounds lo end : ℕ) where
+  named-none : end < suc lo → namedAmong (suc rounds) x key lo end ≡ []
   unfolding namedAmong
   named-none h = rw (le-ltb lo end (omega arith), namedAmong)
 
-  named-met : lo < end → eqb (keyAt x (middle lo end)) key ≡ true → namedAmong (suc turns) x key lo end ≡ middle lo end ∷ []
+  named-met : lo < end → eqb (keyAt x (middle lo end)) key ≡ true → namedAmong (suc rounds) x key lo end ≡ middle lo end ∷ []
   unfolding namedAmong
   named-met h e = rw (lt-ltb lo end h, e, namedAmong)
 
   named-behind : lo < end → eqb (keyAt x (middle lo end)) key ≡ false → ltb (keyAt x (middle lo end)) key ≡ true
-      → namedAmong (suc turns) x key lo end ≡ middle lo end ∷ namedAmong turns x key (suc (middle lo end)) end
+      → namedAmong (suc rounds) x key lo end ≡ middle lo end ∷ namedAmong rounds x key (suc (middle lo end)) end
   unfolding namedAmong
   named-behind h e l = rw (lt-ltb lo end h, e, l, namedAmong)
 
   named-before : lo < end → eqb (keyAt x (middle lo end)) key ≡ false → ltb (keyAt x (middle lo end)) key ≡ false
-      → namedAmong (suc turns) x key lo end ≡ middle lo end ∷ namedAmong turns x key lo (middle lo end)
+      → namedAmong (suc rounds) x key lo end ≡ middle lo end ∷ namedAmong rounds x key lo (middle lo end)
   unfolding namedAmong
   named-before h e l = rw (lt-ltb lo end h, e, l, namedAmong)
 
@@ -58,9 +58,9 @@ module _ (x y : List ℕ) (j : ℕ) (same : entryAt x j ≡ entryAt y j) where
 
 -- ---- the search of two indexes that are equal in the entries named
 
-pub search-local : (turns : ℕ) (x y : List ℕ) (key lo end n : ℕ)
-    → entriesAt x (namedAmong turns x key lo end) ≡ entriesAt y (namedAmong turns x key lo end)
-    → binarySearch turns x key lo end n ≡ binarySearch turns y key lo end n
+pub search-local : (rounds : ℕ) (x y : List ℕ) (key lo end n : ℕ)
+    → entriesAt x (namedAmong rounds x key lo end) ≡ entriesAt y (namedAmong rounds x key lo end)
+    → binarySearch rounds x key lo end n ≡ binarySearch rounds y key lo end n
 unfolding binarySearch entriesAt
 search-local zero x y key lo end n s = refl
 search-local (suc t) x y key lo end n s = by (decLt lo end) (λ lo′ end′. search-local t x y key lo′ end′ (suc n))
@@ -77,7 +77,7 @@ search-local (suc t) x y key lo end n s = by (decLt lo end) (λ lo′ end′. se
         let q : entryAt x m ∷ entriesAt x js ≡ entryAt y m ∷ entriesAt y js = ap (entriesAt x) (sym e) ∙ s ∙ ap (entriesAt y) e in
         (cc, cc)
 
-    -- what holds after this turn
+    -- what holds after this round
     Rest : Type 0
     Rest = (lo′ end′ : ℕ) → entriesAt x (namedAmong t x key lo′ end′) ≡ entriesAt y (namedAmong t x key lo′ end′) → binarySearch t x key lo′ end′ (suc n) ≡ binarySearch t y key lo′ end′ (suc n)
 
@@ -106,7 +106,7 @@ search-local (suc t) x y key lo end n s = by (decLt lo end) (λ lo′ end′. se
 
 -- ---- how many are named
 
-pub search-count : (turns : ℕ) (x : List ℕ) (key lo end n : ℕ) → binarySearch turns x key lo end n .probes ≡ n + length (namedAmong turns x key lo end)
+pub search-count : (rounds : ℕ) (x : List ℕ) (key lo end n : ℕ) → binarySearch rounds x key lo end n .probes ≡ n + length (namedAmong rounds x key lo end)
 unfolding binarySearch namedAmong
 search-count zero x key lo end n = omega arith
 search-count (suc t) x key lo end n = by (decLt lo end) (λ lo′ end′. search-count t x key lo′ end′ (suc n))

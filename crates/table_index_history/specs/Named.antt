@@ -11,14 +11,14 @@ use Rattle.table_index_search.specs.Search.{middle}
 -- their places among the entries lo to end - 1, in the order in which they are looked at
 unfoldable pub namedAmong : ℕ → List ℕ → ℕ → ℕ → ℕ → List ℕ
 namedAmong zero x key lo end = []
-namedAmong (suc turns) x key lo end =
+namedAmong (suc rounds) x key lo end =
     elim (ltb lo end) [
       | false ↦ []
       | true ↦ middle lo end ∷ elim (eqb (keyAt x (middle lo end)) key) [
         | true ↦ []
         | false ↦ elim (ltb (keyAt x (middle lo end)) key) [
-          | true ↦ namedAmong turns x key (suc (middle lo end)) end
-          | false ↦ namedAmong turns x key lo (middle lo end)
+          | true ↦ namedAmong rounds x key (suc (middle lo end)) end
+          | false ↦ namedAmong rounds x key lo (middle lo end)
         ]
       ]
     ]

@@ -9,8 +9,8 @@ use mathlib.Core.List.{List}
 use lib.Dec.{eqb, ltb}
 use lib.ListN.{length, getD}
 use borrow.Author.Tests.{eq-eqb, lt-ltb, eqb-true, ltb-true}
-use Rattle.arith.specs.Row.{allBelow}
-use Rattle.arith.proofs.Rows.{all-true}
+use Rattle.arith.specs.Lists.{allBelow}
+use Rattle.arith.proofs.Lists.{all-true}
 use Rattle.arith.proofs.Tests.{both-first, both-second, all-at, false-ne-true}
 use Rattle.table_index_search.specs.Index.{entries, entrySize, indexSize, byteAt, ownerAt, slotAt, above, numberAt, keyAt}
 use Rattle.table_index_search.specs.Agree.{zeroAt, blankAt, inOrder, isTrue, isEntry, entryPlace, isListed, agreeAt, agree}

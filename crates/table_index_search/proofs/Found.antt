@@ -1,4 +1,4 @@
--- Where index and table agree, the halving rule finds a key exactly where a slot has it. Rests on the rule's turns and on what agreement means.
+-- Where index and table agree, the halving rule finds a key exactly where a slot has it. Rests on the rule's rounds and on what agreement means.
 -- Assumes nothing.
 use Prim.Native.Nat.{ℕ, zero, suc, _-_, _≤_, _<_}
 use native.Mathlib.Omega.{arith}
@@ -12,14 +12,14 @@ use Rattle.table_index_search.specs.Search.{middle, binarySearch, search
 use Rattle.table_index_search.specs.Private.{Keys}
 use Rattle.table_index_search.specs.Means.{Entry, Agrees}
 use Rattle.table_index_search.proofs.Entry.{used-if}
-use Rattle.table_index_search.proofs.Turns.{turn, searched-sized}
+use Rattle.table_index_search.proofs.Rounds.{round, searched-sized}
 
 -- what is found is an entry of the key, in any index
-pub probe-entry : (turns : ℕ) (x : List ℕ) (key lo end n : ℕ) → end ≤ entries → binarySearch turns x key lo end n .found ≡ true → Entry x key (binarySearch turns x key lo end n .slot)
+pub probe-entry : (rounds : ℕ) (x : List ℕ) (key lo end n : ℕ) → end ≤ entries → binarySearch rounds x key lo end n .found ≡ true → Entry x key (binarySearch rounds x key lo end n .slot)
 unfolding binarySearch
 probe-entry zero x key lo end n h f = absurd (false-ne-true f)
 probe-entry (suc t) x key lo end n h f =
-    turn (λ r. r .found ≡ true → Entry x key (r .slot)) x key t lo end n
+    round (λ r. r .found ≡ true → Entry x key (r .slot)) x key t lo end n
     (λ l e. absurd (false-ne-true e))
     (λ l e g. record { place = middle lo end; low = omega arith; key-is = e; slot-is = refl })
     (λ l e. probe-entry t x key (suc (middle lo end)) end (suc n) h)
@@ -48,13 +48,13 @@ module _ (mark : ℕ → ℕ) (x : List ℕ) (a : Agrees mark x) where
       by (no d) (no e′) = omega arith
 
   -- an entry between the ends is met
-  pub meets : (turns : ℕ) (key slot lo end n : ℕ) (e : Entry x key slot) → key < above → lo ≤ e .place → e .place < end → end ≤ entries → end - lo ≤ turns
-      → (binarySearch turns x key lo end n .found ≡ true) × (binarySearch turns x key lo end n .slot ≡ slot)
+  pub meets : (rounds : ℕ) (key slot lo end n : ℕ) (e : Entry x key slot) → key < above → lo ≤ e .place → e .place < end → end ≤ entries → end - lo ≤ rounds
+      → (binarySearch rounds x key lo end n .found ≡ true) × (binarySearch rounds x key lo end n .slot ≡ slot)
   meets zero key slot lo end n e k l h s t = absurd (omega arith)
   meets (suc t) key slot lo end n e k l h s room =
       let m = middle lo end in
       let p = e .place in
-      turn (λ r. (r .found ≡ true) × (r .slot ≡ slot)) x key t lo end n
+      round (λ r. (r .found ≡ true) × (r .slot ≡ slot)) x key t lo end n
       (λ z. absurd (omega arith))
       (λ z q. (refl, ap (slotAt x) (one-place m p (omega arith) (e .low) (q ∙ sym (e .key-is)) (omega arith)) ∙ e .slot-is))
       (λ z q. meets t key slot (suc m) end (suc n) e k (places m p (omega arith) (e .low) (omega (arith, e .key-is)) (omega arith)) h s (omega arith))

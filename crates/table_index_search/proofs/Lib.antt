@@ -1,5 +1,5 @@
 pub mod Entry
-pub mod Turns
+pub mod Rounds
 pub mod Tests
 pub mod Agree
 pub mod Found

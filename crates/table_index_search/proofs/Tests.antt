@@ -8,7 +8,7 @@ use mathlib.Core.List.{List}
 use lib.Dec.{eqb, ltb}
 use lib.ListN.{length, getD, List·getD-eq-default}
 use borrow.Author.Tests.{eq-eqb, ne-eqb}
-use Rattle.arith.specs.Row.{allBelow}
+use Rattle.arith.specs.Lists.{allBelow}
 use Rattle.table_index_search.specs.Index.{entries, indexSize, ownerAt, slotAt, numberAt, keyAt}
 use Rattle.table_index_search.specs.Agree.{blankAt, inOrder, isTrue, isEntry, entryPlace, isListed, agreeAt, agree}
 use Rattle.table_index_search.proofs.Entry.{key-used}

@@ -6,7 +6,7 @@ use mathlib.Core.Bool.{Bool, cond, _&&_, _||_}
 use mathlib.Core.List.{List}
 use lib.ListN.{length, getD}
 use lib.Dec.{eqb, ltb}
-use Rattle.arith.specs.Row.{allBelow}
+use Rattle.arith.specs.Lists.{allBelow}
 use Rattle.table_index_search.specs.Index.{entries, entrySize, indexSize, byteAt, ownerAt, slotAt, keyAt}
 use Rattle.arith.specs.Places.{firstOf}
 

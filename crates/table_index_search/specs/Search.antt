@@ -18,17 +18,17 @@ missedAfter n = record { found = false; slot = 0; probes = n }
 abbrev pub metAfter : ℕ → ℕ → Probe
 metAfter slot n = record { found = true; slot = slot; probes = n }
 
--- the rule among the entries lo to end - 1, with n looked at before: each turn leaves fewer, so that as many turns as entries are enough
+-- the rule among the entries lo to end - 1, with n looked at before: each round leaves fewer, so that as many rounds as entries are enough
 unfoldable pub binarySearch : ℕ → List ℕ → ℕ → ℕ → ℕ → ℕ → Probe
 binarySearch zero x key lo end n = missedAfter n
-binarySearch (suc turns) x key lo end n =
+binarySearch (suc rounds) x key lo end n =
     elim (ltb lo end) [
       | false ↦ missedAfter n
       | true ↦ elim (eqb (keyAt x (middle lo end)) key) [
         | true ↦ metAfter (slotAt x (middle lo end)) (suc n)
         | false ↦ elim (ltb (keyAt x (middle lo end)) key) [
-          | true ↦ binarySearch turns x key (suc (middle lo end)) end (suc n)
-          | false ↦ binarySearch turns x key lo (middle lo end) (suc n)
+          | true ↦ binarySearch rounds x key (suc (middle lo end)) end (suc n)
+          | false ↦ binarySearch rounds x key lo (middle lo end) (suc n)
         ]
       ]
     ]

@@ -3,7 +3,7 @@ ghost use mathlib.Core.Path.{_≡_};
 ghost use Prim.Native.Nat.{_<_};
 ghost use lib.ListN.{length};
 ghost use lib.Dec.{eqb, ltb};
-ghost use Rattle.arith.specs.Row.{allBelow};
+ghost use Rattle.arith.specs.Lists.{allBelow};
 ghost use Rattle.table_index_search.specs.Index.{entries, entrySize, indexSize, byteAt, numberAt, keyAt};
 ghost use Rattle.table_index_search.specs.Search.{missedAfter, metAfter, binarySearch, searched};
 ghost use Rattle.table_index_search.specs.Agree.{blankAt, inOrder, isTrue, isEntry, entryPlace, isListed, agreeAt, agree};

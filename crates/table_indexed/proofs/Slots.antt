@@ -9,8 +9,8 @@ use mathlib.Core.List.{List}
 use lib.Dec.{eqb}
 use lib.ListN.{getD, replicate, getD-replicate}
 use borrow.Author.Tests.{eq-eqb, ne-eqb}
-use Rattle.arith.specs.Row.{upTo}
-use Rattle.arith.proofs.Rows.{upTo-same}
+use Rattle.arith.specs.Lists.{upTo}
+use Rattle.arith.proofs.Lists.{upTo-same}
 use Rattle.message_rows.specs.Message.{numberOf, sinOf}
 use Rattle.message_rows.proofs.Limits.{sin-most}
 use Rattle.table_slots.specs.Slots.{slots, isOwner, groupOf, key, keyOf, joined, slot, held, allZero, used, wellSlot, tag}

@@ -5,7 +5,7 @@ use mathlib.Core.Bool.{not, cond}
 use mathlib.Core.List.{List, [], _∷_}
 use lib.ListN.{length, getD}
 use lib.Dec.{eqb}
-use Rattle.arith.specs.Row.{upTo}
+use Rattle.arith.specs.Lists.{upTo}
 use Rattle.arith.specs.First.{first}
 use Rattle.message_rows.specs.Message.{numberOf, sinOf}
 use Rattle.table_slots.specs.Slots.{slots, groupOf, slot, held}

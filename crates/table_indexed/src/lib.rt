@@ -1,7 +1,7 @@
 // The table of messages with its index: each call takes both buffers. Find reads the entries of a binary search and one slot.
 ghost use mathlib.Core.Path.{_≡_};
 ghost use lib.ListN.{length};
-ghost use Rattle.arith.specs.Row.{upTo};
+ghost use Rattle.arith.specs.Lists.{upTo};
 ghost use Rattle.table_slots.specs.Slots.{slots, tableSize};
 ghost use Rattle.table.specs.Inner.{checkedMarks};
 ghost use Rattle.table_indexed.specs.Indexed.{entryKey, agreesRefusal, writeRefusal, writeIndex, storeNumber, storedTable, storedIndex, removeNumber, removedTable, removedIndex};

@@ -9,8 +9,8 @@ use mathlib.Core.List.{List}
 use lib.Dec.{leb}
 use lib.ListN.{length, getD, replicate, getD-replicate, List·getD-eq-default}
 use borrow.Author.Tests.{eq-eqb, ne-eqb}
-use Rattle.arith.specs.Row.{upTo}
-use Rattle.arith.proofs.Rows.{getD-upTo}
+use Rattle.arith.specs.Lists.{upTo}
+use Rattle.arith.proofs.Lists.{getD-upTo}
 use Rattle.message_rows.specs.declared.Header.{Header}
 use Rattle.message_rows.specs.Message.{numberOf, refusal, header}
 use Rattle.message_rows.proofs.Limits.{sin-most}

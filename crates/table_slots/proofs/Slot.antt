@@ -9,8 +9,8 @@ use native.Mathlib.Omega.{arith}
 use native.Mathlib.Decide.{ℕ-discrete}
 use lib.ListN.{length, getD, take, drop, replicate, length-drop, length-take, length-append, length-replicate, getD-replicate, drop-of-length-le, List·getD-append}
 use lib.Seq.{drop-cons, take-all, getD-append-add}
-use Rattle.arith.specs.Row.{upTo}
-use Rattle.arith.proofs.Rows.{is-upTo}
+use Rattle.arith.specs.Lists.{upTo}
+use Rattle.arith.proofs.Lists.{is-upTo}
 use Rattle.arith.proofs.Tests.{both-first, both-second, false-ne-true}
 use Rattle.table_slots.proofs.Owner.{not-none, joined-same}
 use lib.Dec.{eqb}
@@ -19,7 +19,7 @@ use Rattle.message_rows.specs.Message.{refusal}
 use Rattle.message_rows.proofs.Limits.{accepted-size}
 use Rattle.table_slots.specs.Slots.{slots, messageSize, bodySize, slotSize, tableSize, isOwner, keyOf, joined, allZero, held, used, wellSlot, tag, slot, slotOf}
 
--- a loop's turn over zeros
+-- a loop's round over zeros
 pub zero-on : (s : List ℕ) (i : ℕ) → i < length s → allZero (drop i s) ≡ (eqb (getD s i 0) 0 && allZero (drop (i + 1) s))
 unfolding allZero
 zero-on s i h = rw (drop-cons s i 0, add-one i)

@@ -5,7 +5,7 @@ use mathlib.Core.List.{List}
 use mathlib.Core.Bool.{cond, Bool, not, _||_}
 use lib.ListN.{length, replicate, getD}
 use lib.Dec.{eqb, ltb}
-use Rattle.arith.specs.Row.{upTo}
+use Rattle.arith.specs.Lists.{upTo}
 use Rattle.table_slots.specs.Slots.{slots, tableSize, slot, wellSlot, tag, most}
 use Rattle.arith.specs.Places.{firstOf}
 

@@ -3,7 +3,7 @@ use record_transformations::Area;
 use record_transformations::Ellipsoids;
 use record_transformations::Name;
 use record_transformations::Parameters;
-use record_transformations::Point;
+use record_transformations::RotationPoint;
 use record_transformations::System;
 use text_lines::output;
 use text_lines::output::Out;
@@ -52,7 +52,7 @@ fn put_parameters(r: Parameters, out: &mut Out, at: usize) -> usize {
     field_texts::put_reading(b" 162=", ds, out, to)
 }
 
-pub fn put_point(r: Point, out: &mut Out, at: usize) -> usize {
+pub fn put_point(r: RotationPoint, out: &mut Out, at: usize) -> usize {
     let x = r.x;
     let y = r.y;
     let z = r.z;

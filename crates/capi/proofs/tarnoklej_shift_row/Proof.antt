@@ -4,7 +4,7 @@ use mathlib.Core.Path.{_≡_, _∙_}
 use borrow.Author.Needs.{needs}
 use lib.ListN.{length}
 use Rattle.arith.proofs.Machine.{is-back}
-use Rattle.grid_row_refusals.specs.Row.{shiftRowRefusal, shiftRowFilled}
+use Rattle.grid_row_refusals.specs.ShiftRow.{shiftRowRefusal, shiftRowFilled}
 use Rattle.capi.proofs.tarnoklej_shift_row.Statement.{statement}
 use Rattle.capi.proofs.tarnoklej_shift_row.Tie as tie
 

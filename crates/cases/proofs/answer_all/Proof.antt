@@ -7,11 +7,11 @@ use Rattle.cases.proofs.answer_all.Statement.{statement}
 use Rattle.cases.proofs.answer_all.Tie as tie
 
 abbrev Inv-loop : tie.InvT-loop
-Inv-loop chunk₀ line₀ held₀ size₀ listed₀ entries₀ out₀ place₀ at₀ turns₀ chunk line held size listed entries out place at turns =
+Inv-loop chunk₀ line₀ held₀ size₀ listed₀ entries₀ out₀ place₀ at₀ turns₀ chunk line held size listed entries out place at rounds =
     (length held ≡ length held₀) × (length listed ≡ length listed₀)
 
 abbrev μ-loop : tie.MeasureT-loop
-μ-loop chunk₀ line₀ held₀ size₀ listed₀ entries₀ out₀ place₀ at₀ turns₀ chunk line held size listed entries out place at turns = turns
+μ-loop chunk₀ line₀ held₀ size₀ listed₀ entries₀ out₀ place₀ at₀ turns₀ chunk line held size listed entries out place at rounds = rounds
 
 pub answer-all-spec : {M : Type 1} → statement M
 answer-all-spec =

@@ -7,7 +7,7 @@ use lib.Dec.{lit<, lit≤}
 use lib.IntN.{ℤ, natAbs, _*ℤ_}
 use mir.Syntax.{w64}
 use mir.Val.{toZ}
-use Rattle.datum_formula.specs.Formula.{turn, moved, About}
+use Rattle.datum_formula.specs.Formula.{rotation, moved, About}
 use Rattle.datum_formula.specs.Private.{rotated}
 use Rattle.datum_formula.proofs.Error.{answer-about}
 use Rattle.arith.proofs.Machine.{Num, any, arg, lit, mul, add, sub, fits, passed}
@@ -38,24 +38,24 @@ module _ (s : tie.Start) where
   d = mul (arg (s .args .d) (2 ^ 22) (s .pre .translation) tt) (lit 100000000 tt) tt
 
 -- a rotation and a coordinate as a call reads them
-turned-by : (r v : Num) {t : ℤ} → About (10 ^ 17) t (turn (toZ w64 (r .bits)) *ℤ toZ w64 (v .bits)) (10 ^ 22 + 2 * 10 ^ 17)
-    → About (10 ^ 17) t (turn (r .z) *ℤ v .z) (10 ^ 22 + 2 * 10 ^ 17)
-turned-by r v {t} p = subst (λ (z : ℤ). About (10 ^ 17) t z (10 ^ 22 + 2 * 10 ^ 17)) (λ i. turn (r .held i) *ℤ v .held i) p
+rotated-by-by : (r v : Num) {t : ℤ} → About (10 ^ 17) t (rotation (toZ w64 (r .bits)) *ℤ toZ w64 (v .bits)) (10 ^ 22 + 2 * 10 ^ 17)
+    → About (10 ^ 17) t (rotation (r .z) *ℤ v .z) (10 ^ 22 + 2 * 10 ^ 17)
+rotated-by-by r v {t} p = subst (λ (z : ℤ). About (10 ^ 17) t z (10 ^ 22 + 2 * 10 ^ 17)) (λ i. rotation (r .held i) *ℤ v .held i) p
 
-module _ (c : tie.After-turned) where
+module _ (c : tie.After-rotated-by) where
   abbrev first : Num
-  first = arg (c .turned .result) (3 * 10 ^ 17) (c .turned .ensures .1) tt
+  first = arg (c .rotated-by .result) (3 * 10 ^ 17) (c .rotated-by .ensures .1) tt
 
   abbrev two : Num
   two = add (own (c .before)) first tt
 
 -- the steps of the code
-module _ (c : tie.After-turned2) where
+module _ (c : tie.After-rotated-by2) where
   abbrev s : tie.Start
   s = c .before .before
 
   abbrev second : Num
-  second = arg (c .turned2 .result) (3 * 10 ^ 17) (c .turned2 .ensures .1) tt
+  second = arg (c .rotated-by2 .result) (3 * 10 ^ 17) (c .rotated-by2 .ensures .1) tt
 
   abbrev whole : Num
   whole = sub (two (c .before)) second tt
@@ -85,7 +85,7 @@ returns c =
     passed (any (c .nearest .result) (record { sfits = c .nearest .ok }))
     (λ z. About (10 ^ 35) z (moved (i .args .ds) (rotated (i .args .own) (i .args .a) (i .args .b) (i .args .ra) (i .args .rb)) (i .args .d)) (521 * 10 ^ 32))
     (answer-about (i .args .own) (i .args .a) (i .args .b) (i .args .ra) (i .args .rb) (i .args .ds) (i .args .d) (first (k .before) .z) (second k .z)
-    (turned-by (ra i) (a i) (k .before .turned .ensures .0)) (turned-by (rb i) (b i) (k .turned2 .ensures .0)) (i .pre .scale) (c .nearest .result)
+    (rotated-by-by (ra i) (a i) (k .before .rotated-by .ensures .0)) (rotated-by-by (rb i) (b i) (k .rotated-by2 .ensures .0)) (i .pre .scale) (c .nearest .result)
     (subst (λ (z : ℤ). About 10000000 (c .nearest .result) z 5000000) (sum k .held) (c .nearest .ensures)))
 
 pub coordinate-spec : {M : Type 1} → statement M

@@ -3,7 +3,7 @@
 use Prim.Native.Nat.{_≤_, _+_, _*_, _^_}
 use lib.Dec.{lit<}
 use lib.IntN.{natAbs}
-use Rattle.datum_formula.specs.Formula.{turn, About}
+use Rattle.datum_formula.specs.Formula.{rotation, About}
 use Rattle.datum_formula.proofs.Error.{radians-about}
 use Rattle.arith.proofs.Machine.{Num, arg, lit, mul, add, fits, passed}
 use Rattle.datum_formula.proofs.Quotient.{quot}
@@ -25,7 +25,7 @@ module _ (c : tie.Start) where
   angle = quot (add high low tt) 100000 (21 * 10 ^ 11) tt tt tt
 
 returns : tie.Need-returns
-returns c = passed (angle c) (λ z. About (10 ^ 11) z (turn (c .args .r)) (10 ^ 11 + 10 ^ 6) × (natAbs z ≤ 21 * 10 ^ 11)) (radians-about (c .args .r), angle c .le)
+returns c = passed (angle c) (λ z. About (10 ^ 11) z (rotation (c .args .r)) (10 ^ 11 + 10 ^ 6) × (natAbs z ≤ 21 * 10 ^ 11)) (radians-about (c .args .r), angle c .le)
 
 pub radians-spec : {M : Type 1} → statement M
 radians-spec =

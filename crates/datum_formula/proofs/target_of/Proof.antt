@@ -11,7 +11,7 @@ use mir.Val.{toZ, ofZ}
 use Rattle.arith.proofs.Back.{held}
 use Rattle.arith.proofs.Int.{ring, at, _⊞_, _⊟_}
 use Rattle.datum_formula.specs.declared.Values.{Values}
-use Rattle.datum_formula.specs.Formula.{turn, rotatedX, rotatedY, rotatedZ, moved, About}
+use Rattle.datum_formula.specs.Formula.{rotation, rotatedX, rotatedY, rotatedZ, moved, About}
 use Rattle.datum_formula.specs.Private.{rotated}
 use Rattle.arith.proofs.Machine.{Num, arg}
 use Rattle.datum_formula.proofs.target_of.Statement.{statement}
@@ -37,7 +37,7 @@ module _ (p : Values) (x y z : ℤ) where
 
   row-y : rotated y z x (p .rx) (p .rz) ≡ rotatedY p x y z
   unfolding rotatedY
-  row-y = exchange (pos (10 ^ 24) *ℤ y) (turn (p .rx) *ℤ z) (turn (p .rz) *ℤ x)
+  row-y = exchange (pos (10 ^ 24) *ℤ y) (rotation (p .rx) *ℤ z) (rotation (p .rz) *ℤ x)
     where
       exchange : (a b c : ℤ) → a +ℤ b -ℤ c ≡ a -ℤ c +ℤ b
       exchange a b c = ring (at a ⊞ at b ⊟ at c) (at a ⊟ at c ⊞ at b) (omega arith)

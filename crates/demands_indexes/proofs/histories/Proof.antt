@@ -13,15 +13,15 @@ use Rattle.table_history.specs.History as plain
 use Rattle.table_history.specs.Dict.{Reply, total}
 use Rattle.table_history.proofs.Replies.{replies-same}
 use Rattle.table_history.proofs.Answers.{find-last}
-use Rattle.table_history.specs.Neighbour.{ofOwner, repliesTo, keptAfter, none, noKeyTwice}
-use Rattle.table_history.proofs.Neighbour.{neighbour-unseen, used-are-kept, held-are-kept, kept-once}
+use Rattle.table_history.specs.Isolation.{ofOwner, repliesTo, keptAfter, none, noKeyTwice}
+use Rattle.table_history.proofs.Isolation.{non-interference, used-are-kept, held-are-kept, kept-once}
 use Rattle.table_indexed.specs.Indexed.{agreesRefusal}
 use Rattle.table_indexed.specs.Find.{partAt, partLength, part, foundBy}
 use Rattle.table_indexed.proofs.Calls.{agrees-passed}
 use Rattle.table_index_history.specs.Calls.{Both, afterAll, logOf, byteCalls}
 use Rattle.table_index_history.proofs.Found.{find-same}
 use Rattle.table_index_history.proofs.Histories.{same, fresh-agrees}
-use Rattle.demands_indexes.specs.Indexes.{Agreed, freshBoth, FindsLikeTheWalk, DictionaryKept, Finds, LastStored, NeighbourUnseen, SlotsCounted}
+use Rattle.demands_indexes.specs.Indexes.{Agreed, freshBoth, FindsLikeTheWalk, DictionaryKept, Finds, LastStored, NonInterference, SlotsCounted}
 use Rattle.demands_indexes.proofs.histories.Statement.{statement}
 use Rattle.demands_indexes.proofs.histories.Tie as tie
 
@@ -62,11 +62,11 @@ last b e cs h o s g v small few =
       number = z .number ∙ ap (λ (u : List ℕ). findRefusal u o s g) (r .table) ∙ f .number;
     })
 
-unseen : NeighbourUnseen
+unseen : NonInterference
 unfolding repliesTo
 unseen o v cs cs′ h h′ e few =
     ap (ofOwner o cs) (same cs freshBoth fresh-agrees h .answers)
-    ∙ neighbour-unseen o v cs cs′ e few
+    ∙ non-interference o v cs cs′ e few
     ∙ sym (ap (ofOwner o cs′) (same cs′ freshBoth fresh-agrees h′ .answers))
 
 counted : (cs : List Call) → byteCalls cs ≡ true → SlotsCounted cs

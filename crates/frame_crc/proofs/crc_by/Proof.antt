@@ -5,7 +5,7 @@ use mathlib.Core.Path.{_≡_, refl, _∙_}
 use native.Mathlib.Omega.{arith}
 use lib.ListN.{length, drop}
 use Rattle.frame_crc.specs.Crc.{crcFrom, crc}
-use Rattle.frame_crc.proofs.Linear.{four-lt, turn-four}
+use Rattle.frame_crc.proofs.Linear.{four-lt, round-four}
 use Rattle.frame_crc.proofs.crc_by.Statement.{statement}
 use Rattle.frame_crc.proofs.crc_by.Tie as tie
 
@@ -27,7 +27,7 @@ loop-again c =
     let s = c .before .before .before .before .before .before .before .before .args .s .now in
     let l = c .before .before .before .before .before .before .loop in
     let e = c .crc-four .ensures in
-    (omega arith, (rw e (four-lt (l .c) _ _ _ _ (l .inv .1 .0)), rw e (turn-four (l .c) s (l .i) (omega arith)) ∙ l .inv .1 .1))
+    (omega arith, (rw e (four-lt (l .c) _ _ _ _ (l .inv .1 .0)), rw e (round-four (l .c) s (l .i) (omega arith)) ∙ l .inv .1 .1))
 
 returns : tie.Need-returns Inv-loop μ-loop
 returns c = c .crc-end .ensures ∙ c .before .before .loop .inv .1 .1

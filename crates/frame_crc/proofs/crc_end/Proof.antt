@@ -5,7 +5,7 @@ use mathlib.Core.Path.{_≡_, refl, sym, _∙_}
 use native.Mathlib.Omega.{arith}
 use lib.ListN.{length, drop, getD}
 use Rattle.frame_crc.specs.Crc.{crcFrom}
-use Rattle.frame_crc.proofs.Linear.{byte-lt, turn, done}
+use Rattle.frame_crc.proofs.Linear.{byte-lt, round, done}
 use Rattle.frame_crc.proofs.crc_end.Statement.{statement}
 use Rattle.frame_crc.proofs.crc_end.Tie as tie
 
@@ -20,7 +20,7 @@ loop-again c =
     let s = c .before .before .before .before .before .args .s .now in
     let l = c .before .before .before .loop in
     let e = c .crc-byte .ensures in
-    (rw e (byte-lt (l .c) (getD s (l .i) 0) (l .inv .0)), rw e (turn (l .c) s (l .i) (omega arith)) ∙ l .inv .1)
+    (rw e (byte-lt (l .c) (getD s (l .i) 0) (l .inv .0)), rw e (round (l .c) s (l .i) (omega arith)) ∙ l .inv .1)
 
 returns : tie.Need-returns Inv-loop μ-loop
 returns c =

@@ -5,8 +5,8 @@ use native.Mathlib.Omega.{arith}
 use mathlib.Core.Path.{_≡_, refl, ap, _∙_}
 use mathlib.Core.List.{_++_}
 use lib.ListN.{length, drop, length-set}
-use Rattle.arith.specs.Row.{upTo}
-use Rattle.arith.proofs.Rows.{fill-turn}
+use Rattle.arith.specs.Lists.{upTo}
+use Rattle.arith.proofs.Lists.{fill-turn}
 use Rattle.frame_search.proofs.Moved.{source, still, all-moved}
 use Rattle.frame_search.proofs.move_down.Statement.{statement}
 use Rattle.frame_search.proofs.move_down.Tie as tie

@@ -15,21 +15,21 @@ use Rattle.grid_cell.specs.Inner.{nodesHeld}
 use Rattle.grid_cell.proofs.nodes_held.Statement.{statement}
 use Rattle.grid_cell.proofs.nodes_held.Tie as tie
 
-told : (z : ℤ) {r t : Bool} → mag z < 2 ^ 63 → r ≡ leb (natAbs (toZ w64 (ofZ w64 z))) 256 → r ≡ t → leb (natAbs z) 256 ≡ t
-told z h e f = sym (ap (λ (y : ℤ). leb (natAbs y) 256) (held z h)) ∙ sym e ∙ f
+known : (z : ℤ) {r t : Bool} → mag z < 2 ^ 63 → r ≡ leb (natAbs (toZ w64 (ofZ w64 z))) 256 → r ≡ t → leb (natAbs z) 256 ≡ t
+known z h e f = sym (ap (λ (y : ℤ). leb (natAbs y) 256) (held z h)) ∙ sym e ∙ f
 
 -- what each call says
 first : (k : tie.After-no-larger) {t : Bool} → k .no-larger .result ≡ t → leb (natAbs (k .before .before .args .n .sw)) 256 ≡ t
-first k e = told (k .before .before .args .n .sw) (k .before .struct-told .given .0 .1) (k .no-larger .ensures) e
+first k e = known (k .before .before .args .n .sw) (k .before .struct-told .given .0 .1) (k .no-larger .ensures) e
 
 second : (k : tie.After-no-larger2) {t : Bool} → k .no-larger2 .result ≡ t → leb (natAbs (k .before .before .before .before .before .args .n .se)) 256 ≡ t
-second k e = told (k .before .before .before .before .before .args .n .se) (k .before .struct-told2 .given .1 .0 .1) (k .no-larger2 .ensures) e
+second k e = known (k .before .before .before .before .before .args .n .se) (k .before .struct-told2 .given .1 .0 .1) (k .no-larger2 .ensures) e
 
 third : (k : tie.After-no-larger3) {t : Bool} → k .no-larger3 .result ≡ t → leb (natAbs (k .before .before .before .before .before .before .before .before .args .n .nw)) 256 ≡ t
-third k e = told (k .before .before .before .before .before .before .before .before .args .n .nw) (k .before .struct-told3 .given .1 .1 .0 .1) (k .no-larger3 .ensures) e
+third k e = known (k .before .before .before .before .before .before .before .before .args .n .nw) (k .before .struct-told3 .given .1 .1 .0 .1) (k .no-larger3 .ensures) e
 
 fourth : (k : tie.After-no-larger4) → leb (natAbs (k .before .before .before .before .before .before .before .before .before .before .before .args .n .ne)) 256 ≡ k .no-larger4 .result
-fourth k = told (k .before .before .before .before .before .before .before .before .before .before .before .args .n .ne) (k .before .struct-told4 .given .1 .1 .1 .0 .1) (k .no-larger4 .ensures) refl
+fourth k = known (k .before .before .before .before .before .before .before .before .before .before .before .args .n .ne) (k .before .struct-told4 .given .1 .1 .1 .0 .1) (k .no-larger4 .ensures) refl
 
 returns : tie.Need-returns
 unfolding nodesHeld

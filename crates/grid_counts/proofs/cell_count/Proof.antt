@@ -46,12 +46,12 @@ module _ (t : tie.After-known-told) where
 
 -- ---- the south-western node
 
-module _ (k : tie.After-weighted) where
+module _ (k : tie.After-needed) where
   abbrev s1 : tie.Start
   s1 = k .before .before .before .before
 
-  sw-says : k .weighted .result ≡ asked (ws s1 .sw) (n s1 .sw)
-  sw-says = k .weighted .ensures
+  sw-says : k .needed .result ≡ asked (ws s1 .sw) (n s1 .sw)
+  sw-says = k .needed .ensures
 
 returns-2 : tie.Need-returns-2
 returns-2 c =
@@ -62,7 +62,7 @@ returns-2 c =
     (c .refused2 .ensures)
 
 module _ (t : tie.After-known-told2) where
-  abbrev k1 : tie.After-weighted
+  abbrev k1 : tie.After-needed
   k1 = t .before .before .before
 
   sw-has : lacks (ws (s1 k1) .sw) (available (n (s1 k1) .sw)) ≡ false
@@ -75,12 +75,12 @@ module _ (t : tie.After-known-told2) where
 
 -- ---- the south-eastern node
 
-module _ (k : tie.After-weighted2) where
+module _ (k : tie.After-needed2) where
   abbrev s2 : tie.Start
   s2 = k .before .before .before .before .before .before .before .before
 
-  se-says : k .weighted2 .result ≡ asked (ws s2 .se) (n s2 .se)
-  se-says = k .weighted2 .ensures
+  se-says : k .needed2 .result ≡ asked (ws s2 .se) (n s2 .se)
+  se-says = k .needed2 .ensures
 
 returns-3 : tie.Need-returns-3
 returns-3 c =
@@ -91,7 +91,7 @@ returns-3 c =
     (c .refused3 .ensures)
 
 module _ (t : tie.After-known-told3) where
-  abbrev k2 : tie.After-weighted2
+  abbrev k2 : tie.After-needed2
   k2 = t .before .before .before
 
   se-has : lacks (ws (s2 k2) .se) (available (n (s2 k2) .se)) ≡ false
@@ -104,12 +104,12 @@ module _ (t : tie.After-known-told3) where
 
 -- ---- the north-western node
 
-module _ (k : tie.After-weighted3) where
+module _ (k : tie.After-needed3) where
   abbrev s3 : tie.Start
   s3 = k .before .before .before .before .before .before .before .before .before .before .before .before
 
-  nw-says : k .weighted3 .result ≡ asked (ws s3 .nw) (n s3 .nw)
-  nw-says = k .weighted3 .ensures
+  nw-says : k .needed3 .result ≡ asked (ws s3 .nw) (n s3 .nw)
+  nw-says = k .needed3 .ensures
 
 returns-4 : tie.Need-returns-4
 returns-4 c =
@@ -120,7 +120,7 @@ returns-4 c =
     (c .refused4 .ensures)
 
 module _ (t : tie.After-known-told4) where
-  abbrev k3 : tie.After-weighted3
+  abbrev k3 : tie.After-needed3
   k3 = t .before .before .before
 
   nw-has : lacks (ws (s3 k3) .nw) (available (n (s3 k3) .nw)) ≡ false
@@ -133,12 +133,12 @@ module _ (t : tie.After-known-told4) where
 
 -- ---- the north-eastern node
 
-module _ (k : tie.After-weighted4) where
+module _ (k : tie.After-needed4) where
   abbrev s4 : tie.Start
   s4 = k .before .before .before .before .before .before .before .before .before .before .before .before .before .before .before .before
 
-  ne-says : k .weighted4 .result ≡ asked (ws s4 .ne) (n s4 .ne)
-  ne-says = k .weighted4 .ensures
+  ne-says : k .needed4 .result ≡ asked (ws s4 .ne) (n s4 .ne)
+  ne-says = k .needed4 .ensures
 
 returns-5 : tie.Need-returns-5
 returns-5 c =
@@ -149,7 +149,7 @@ returns-5 c =
     (c .refused5 .ensures)
 
 module _ (t : tie.After-known-told5) where
-  abbrev k4 : tie.After-weighted4
+  abbrev k4 : tie.After-needed4
   k4 = t .before .before .before
 
   ne-has : lacks (ws (s4 k4) .ne) (available (n (s4 k4) .ne)) ≡ false

@@ -11,7 +11,7 @@ use Rattle.grid_counts.proofs.cell_lacks.Tie as tie
 returns : tie.Need-returns
 returns c = rw (ap available (c .enum-told2 .given .1))
 
--- what each call has told
+-- what each call has known
 module _ (k : tie.After-node-lacks) where
   abbrev s : tie.Start
   s = k .before .before .before

@@ -5,7 +5,7 @@ use mathlib.Core.Bool.{true}
 use borrow.Author.Needs.{needs}
 use borrow.Author.Tests.{not-true, not-false}
 use Rattle.arith.proofs.Machine.{is-back}
-use Rattle.grid_place.specs.Inner.{frameHeld, located}
+use Rattle.grid_place.specs.Inner.{settingsHeld, located}
 use Rattle.grid_place.proofs.Held.{held-fields, place-held, no-frame}
 use Rattle.grid_place.proofs.locate.Statement.{statement}
 use Rattle.grid_place.proofs.locate.Tie as tie
@@ -14,10 +14,10 @@ returns : tie.Need-returns
 returns c =
     let k = c .before .before in
     let a = k .before .args in
-    c .no-place .ensures ∙ no-frame (a .f) (sym (k .frame-held .ensures) ∙ not-true _ (c .before .if1 .taken)) (a .component) (a .north) (a .east)
+    c .no-place .ensures ∙ no-frame (a .f) (sym (k .settings-held .ensures) ∙ not-true _ (c .before .if1 .taken)) (a .component) (a .north) (a .east)
 
-framed : (c : tie.Else1) → frameHeld (c .before .before .args .f) ≡ true
-framed c = sym (c .before .frame-held .ensures) ∙ not-false _ (c .if1 .left)
+framed : (c : tie.Else1) → settingsHeld (c .before .before .args .f) ≡ true
+framed c = sym (c .before .settings-held .ensures) ∙ not-false _ (c .if1 .left)
 
 place-of-requires : tie.Need-place-of-requires
 place-of-requires c κs = held-fields (c .before .before .args .f) (framed c)

@@ -13,9 +13,9 @@ use Rattle.arith.proofs.Machine.{is-back}
 use Rattle.layout.specs.Layout.{valueIn}
 use Rattle.grid_bilinear.specs.Bilinear.{outside}
 use Rattle.grid_direction.specs.Inner.{alongOf}
-use Rattle.grid_direction.specs.declared.Place.{Place}
+use Rattle.grid_direction.specs.declared.PlaceAlong.{PlaceAlong}
 use Rattle.grid_direction.proofs.Placed.{along-refusal}
-use Rattle.record_grids.specs.declared.Frame.{Frame}
+use Rattle.record_grids.specs.declared.Settings.{Settings}
 use Rattle.grid_refusals.specs.Refusals.{ellipsoidal, fieldTests}
 use Rattle.grid_place.specs.Position.{stepsOf, eastBy}
 use Rattle.grid_place.specs.Inner.{heightOf, widthOf, northFrom, eastFrom, placeOf}
@@ -44,7 +44,7 @@ east-asks : {n n′ z z′ o o′ : ℤ} {q q′ : ℕ} → n′ ≡ n → z′ 
 east-asks a b c d h = rw (a, b, c, d) h
 
 -- what `place_in` asks
-along-asks : (d : ℕ) (u : ℤ) {h : ℕ} {p : Place} → Spaced d → outside d u ≡ false → p ≡ alongOf d u → h ≡ d → p .cell * h ≤ p .steps
+along-asks : (d : ℕ) (u : ℤ) {h : ℕ} {p : PlaceAlong} → Spaced d → outside d u ≡ false → p ≡ alongOf d u → h ≡ d → p .cell * h ≤ p .steps
 along-asks d u s o e k = rw (e, k) (in-cell d u s o .1)
 
 -- ---- the fields
@@ -53,7 +53,7 @@ module _ (k : tie.After-early-refusal) where
   abbrev s : tie.Start
   s = k .before
 
-  abbrev f : Frame
+  abbrev f : Settings
   f = s .args .f
 
   abbrev c : ℕ
@@ -65,13 +65,13 @@ module _ (k : tie.After-early-refusal) where
   abbrev e : ℤ
   e = s .args .east
 
-  told : k .early-refusal .result ≡ first (fieldTests f c n e)
-  told = k .early-refusal .ensures ∙ (λ i. first (fieldTests f c (is-back (s .fits .north) i) (is-back (s .fits .east) i)))
+  known : k .early-refusal .result ≡ first (fieldTests f c n e)
+  known = k .early-refusal .ensures ∙ (λ i. first (fieldTests f c (is-back (s .fits .north) i) (is-back (s .fits .east) i)))
 
 returns : tie.Need-returns
 returns q =
     let k = q .before .before in
-    q .no-place .ensures ∙ early-out (f k) (c k) (n k) (e k) (told k) (q .before .if1 .taken)
+    q .no-place .ensures ∙ early-out (f k) (c k) (n k) (e k) (known k) (q .before .if1 .taken)
 
 -- ---- north-south
 
@@ -80,7 +80,7 @@ module _ (b : tie.After-struct-told2) where
   k = b .before .before .before .before .before .before
 
   none : first (fieldTests (f k) (c k) (n k) (e k)) ≡ 0
-  none = sym (told k) ∙ b .before .before .before .before .before .if1 .left
+  none = sym (known k) ∙ b .before .before .before .before .before .if1 .left
 
   known : Early (f k) (n k) (e k)
   known = early (f k) (c k) (n k) (e k) none
@@ -143,7 +143,7 @@ module _ (a : tie.After-along) where
   placed-north = a .along .ensures ∙ (λ i. alongOf (height (a .before .before) i) (apart-north i))
 
   refusal-north : a .along .result .refusal ≡ cond (outside (h d) (u d)) 14 0
-  refusal-north = ap (λ (p : Place). p .refusal) placed-north ∙ along-refusal (h d) (u d) (sizes d .0 .0) (sizes d .0 .1)
+  refusal-north = ap (λ (p : PlaceAlong). p .refusal) placed-north ∙ along-refusal (h d) (u d) (sizes d .0 .0) (sizes d .0 .1)
 
 returns-2 : tie.Need-returns-2
 returns-2 q =
@@ -204,7 +204,7 @@ module _ (q : tie.After-along2) where
   placed-east = q .along2 .ensures ∙ (λ i. alongOf (width (q .before .before) i) (apart-east i))
 
   refusal-east : q .along2 .result .refusal ≡ cond (outside (w o) (v o)) 14 0
-  refusal-east = ap (λ (p : Place). p .refusal) placed-east ∙ along-refusal (w o) (v o) (sizes o .1 .0) (sizes o .1 .1)
+  refusal-east = ap (λ (p : PlaceAlong). p .refusal) placed-east ∙ along-refusal (w o) (v o) (sizes o .1 .0) (sizes o .1 .1)
 
 returns-3 : tie.Need-returns-3
 returns-3 t =

@@ -10,7 +10,7 @@ use lib.IntN.{ℤ, natAbs, pos, _+ℤ_, _*ℤ_}
 use Rattle.arith.proofs.Int.{abs-most}
 use Rattle.grid_refusals.specs.Refusals.{beyond}
 use Rattle.arith.proofs.Machine.{Num, any, arg, cast, lit, mul, add, fits, is-back, less, not-less}
-use Rattle.grid_row_refusals.specs.Row.{anyBeyond}
+use Rattle.grid_row_refusals.specs.ShiftRow.{anyBeyond}
 use Rattle.grid_row_refusals.proofs.Ends.{near-most, first-beyond, one-fine, step-beyond, last-tells, nine, yes-nine, no-nine}
 use Rattle.grid_row_refusals.proofs.ends_refusal.Statement.{statement}
 use Rattle.grid_row_refusals.proofs.ends_refusal.Tie as tie
@@ -22,8 +22,8 @@ module _ (c : tie.After-position-refusal) where
   abbrev first : Bool
   first = beyond (s .args .number) (s .args .north) (s .args .east)
 
-  told : c .position-refusal .result ≡ cond first 9 0
-  told =
+  known : c .position-refusal .result ≡ cond first 9 0
+  known =
       nine first (s .pre .0)
       (c .position-refusal .ensures
       ∙ (λ i. cond (ltb 2 (s .args .component)) 8 (cond (beyond (is-back (s .fits .number) i) (is-back (s .fits .north) i) (is-back (s .fits .east) i)) 9 0)))
@@ -32,14 +32,14 @@ returns : tie.Need-returns
 returns c =
     let a = c .before .before .args in
     let p = c .before .before .pre in
-    let e = first-beyond (a .number) (a .north) (a .east) (a .step) (a .count) (p .3) (p .1) (yes-nine (first (c .before)) (told (c .before)) (c .if1 .taken)) in
+    let e = first-beyond (a .number) (a .north) (a .east) (a .step) (a .count) (p .3) (p .1) (yes-nine (first (c .before)) (known (c .before)) (c .if1 .taken)) in
     rw e
 
 returns-2 : tie.Need-returns-2
 returns-2 c =
     let k = c .before .before in
     let a = k .before .args in
-    let e = one-fine (a .number) (a .north) (a .east) (a .step) (a .count) (k .before .pre .3) (c .if2 .taken) (no-nine (first k) (told k) (c .before .if1 .left)) in
+    let e = one-fine (a .number) (a .north) (a .east) (a .step) (a .count) (k .before .pre .3) (c .if2 .taken) (no-nine (first k) (known k) (c .before .if1 .left)) in
     rw e
 
 module _ (c : tie.Else2) where
@@ -47,7 +47,7 @@ module _ (c : tie.Else2) where
   k = c .before .before
 
   fine : first k ≡ false
-  fine = no-nine (first k) (told k) (c .before .if1 .left)
+  fine = no-nine (first k) (known k) (c .before .if1 .left)
 
 returns-3 : tie.Need-returns-3
 returns-3 c =

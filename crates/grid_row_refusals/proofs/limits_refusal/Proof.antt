@@ -10,7 +10,7 @@ use mir.Syntax.{w64}
 use mir.Val.{toZ, ofZ}
 use Rattle.arith.proofs.Int.{not-less}
 use Rattle.arith.proofs.Machine.{any, lit, test, is-back}
-use Rattle.grid_row_refusals.specs.Row.{anyBeyond, misplaced}
+use Rattle.grid_row_refusals.specs.ShiftRow.{anyBeyond, misplaced}
 use Rattle.grid_row_refusals.proofs.limits_refusal.Statement.{statement}
 use Rattle.grid_row_refusals.proofs.limits_refusal.Tie as tie
 

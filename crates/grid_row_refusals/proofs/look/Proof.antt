@@ -6,7 +6,7 @@ use mathlib.Core.List.{List}
 use Prim.Native.Nat.{ℕ, _*_, _+_, _-_, _≤_}
 use native.Mathlib.Omega.{arith}
 use borrow.Author.Needs.{needs}
-use Rattle.arith.specs.Row.{allBelow}
+use Rattle.arith.specs.Lists.{allBelow}
 use Rattle.arith.proofs.Machine.{is-back}
 use Rattle.grid_cell.specs.Private.{Within}
 use Rattle.grid_place.specs.Inner.{heldPlace}

@@ -13,10 +13,10 @@ use Rattle.arith.proofs.Back.{held}
 use Rattle.arith.proofs.Machine.{is-back}
 use Rattle.arith.proofs.Whole.{cast-natural}
 use Rattle.record_rows.specs.Numbers.{says}
-use Rattle.record_grids.specs.declared.Frame.{Frame}
+use Rattle.record_grids.specs.declared.Settings.{Settings}
 use Rattle.record_grids.specs.Grids.{gridOf}
 use Rattle.message_rows.specs.Message.{row, kindRefusal}
-use Rattle.grid_row_refusals.specs.Row.{misplaced}
+use Rattle.grid_row_refusals.specs.ShiftRow.{misplaced}
 use Rattle.grid_row_refusals.specs.Private.{firstRefused}
 use Rattle.grid_row_refusals.proofs.Order.{Fit, natural-step, number-said, ready, kind-refuses, limits-refuse, row-fit, places-refuse, room-refuses, none-refuses}
 use Rattle.grid_row_refusals.proofs.row_refusal.Statement.{statement}
@@ -35,18 +35,18 @@ module _ (k : tie.After-limits-refusal) where
   abbrev m : List ℕ
   m = s .args .message .now
 
-  abbrev frame : Frame
-  frame = k .before .before .frame-at .result
+  abbrev frame : Settings
+  frame = k .before .before .settings-at .result
 
   none : kindRefusal 1023 1024 m ≡ 0
   none = sym (k .before .before .before .before .check-kind .ensures) ∙ k .before .before .before .if1 .left
 
   number : frame .number ≡ gridOf (says (row m)) .number
-  number = number-said m none (k .before .before .frame-at .ensures)
+  number = number-said m none (k .before .before .settings-at .ensures)
 
-  told : k .limits-refusal .result
+  known : k .limits-refusal .result
       ≡ first ((8, ltb 2 (s .args .component)) ∷ (9, misplaced (gridOf (says (row m)) .number) (s .args .north) (s .args .east) (s .args .step) (s .args .count)) ∷ [])
-  told =
+  known =
       k .limits-refusal .ensures
       ∙ (λ i. first ((8, ltb 2 (s .args .component))
       ∷ (9, misplaced ((held (frame .number) (k .before .struct-told .given .0 .1) ∙ number) i) (is-back (s .fits .north) i) (is-back (s .fits .east) i) (is-back (s .fits .step) i) (s .args .count))
@@ -56,14 +56,14 @@ returns-2 : tie.Need-returns-2
 returns-2 c =
     let k = c .before in
     let a = s k .args in
-    limits-refuse (m k) (a .component) (a .north) (a .east) (a .step) (a .count) (a .room) (none k) (told k) (c .if2 .taken)
+    limits-refuse (m k) (a .component) (a .north) (a .east) (a .step) (a .count) (a .room) (none k) (known k) (c .if2 .taken)
 
 module _ (c : tie.Else2) where
   abbrev k : tie.After-limits-refusal
   k = c .before
 
   within : first ((8, ltb 2 (s k .args .component)) ∷ (9, misplaced (gridOf (says (row (m k))) .number) (s k .args .north) (s k .args .east) (s k .args .step) (s k .args .count)) ∷ []) ≡ 0
-  within = sym (told k) ∙ c .if2 .left
+  within = sym (known k) ∙ c .if2 .left
 
   fits : Fit (gridOf (says (row (m k))) .number) (s k .args .north) (s k .args .east) (s k .args .step) (s k .args .count)
   fits = row-fit (m k) (s k .args .component) (s k .args .north) (s k .args .east) (s k .args .step) (s k .args .count) (s k .args .room) (none k) within
@@ -80,7 +80,7 @@ cast-places-refusal c =
 places-refusal-requires : tie.Need-places-refusal-requires
 places-refusal-requires c κs =
     let k = k c in
-    rw (is-back (s k .fits .north), is-back (s k .fits .east), back c) (ready (none k) (k .before .before .frame-at .ensures) (fits c))
+    rw (is-back (s k .fits .north), is-back (s k .fits .east), back c) (ready (none k) (k .before .before .settings-at .ensures) (fits c))
 
 module _ (q : tie.After-places-refusal) where
   abbrev b : tie.Else2

@@ -8,7 +8,7 @@ use borrow.Author.Needs.{needs}
 use borrow.Rule.Slice.PartMut.{putMid, midOf, mid-len, post-is}
 use lib.IntN.{ℤ, pos, _*ℤ_}
 use lib.ListN.{length, take, drop}
-use Rattle.arith.specs.Row.{upTo}
+use Rattle.arith.specs.Lists.{upTo}
 use Rattle.arith.proofs.Back.{held}
 use Rattle.arith.proofs.Machine.{Num, cast, fits, is-back}
 use Rattle.layout.specs.Layout.{valueIn}
@@ -17,7 +17,7 @@ use Rattle.grid_place.specs.Inner.{heldPlace}
 use Rattle.grid_place.specs.declared.Located.{Located}
 use Rattle.grid_counts.specs.Counts.{nodeFactor, meanFactor}
 use Rattle.grid_counts.specs.Inner.{valuesIn}
-use Rattle.grid_row_refusals.specs.Row.{eastAt}
+use Rattle.grid_row_refusals.specs.ShiftRow.{eastAt}
 use Rattle.grid_row_refusals.proofs.Reaches.{Reaches, reaches}
 use Rattle.grid_row_refusals.proofs.Rest.{stands, way-most}
 use Rattle.grid_rows.specs.Private.{cellCounts, countAt}

@@ -8,7 +8,7 @@ use lib.IntN.{ℤ, pos}
 use lib.ListN.{length, drop}
 use mir.Syntax.{w64}
 use mir.Val.{toZ, ofZ}
-use Rattle.arith.specs.Row.{upTo}
+use Rattle.arith.specs.Lists.{upTo}
 use Rattle.arith.proofs.Machine.{is-back}
 use Rattle.grid_rows.specs.Private.{Answered, countAt}
 use Rattle.grid_rows.proofs.Fills.{fills-on}

@@ -8,12 +8,12 @@ use lib.IntN.{ℤ, pos, natAbs}
 use lib.ListN.{length, drop}
 use mir.Syntax.{w64}
 use mir.Val.{toZ, ofZ}
-use Rattle.arith.specs.Row.{upTo}
+use Rattle.arith.specs.Lists.{upTo}
 use Rattle.arith.proofs.Machine.{is-back}
 use Rattle.arith.proofs.Whole.{cast-natural}
-use Rattle.record_grids.specs.declared.Frame.{Frame}
+use Rattle.record_grids.specs.declared.Settings.{Settings}
 use Rattle.grid_shifts.specs.Shift.{messageShift}
-use Rattle.grid_row_refusals.specs.Row.{eastAt, shiftRowRefusal, shiftRowFilled}
+use Rattle.grid_row_refusals.specs.ShiftRow.{eastAt, shiftRowRefusal, shiftRowFilled}
 use Rattle.grid_row_refusals.proofs.Order.{Passed, natural-step, ready, row-passes}
 use Rattle.grid_rows.specs.Private.{Answered, countAt}
 use Rattle.grid_rows.proofs.Fills.{keeps, fills}
@@ -30,21 +30,21 @@ module _ (k : tie.After-row-refusal) where
   abbrev full : List ℤ
   full = upTo (countAt m (s .args .component) (s .args .north) (s .args .east) (s .args .step)) (s .args .count) ++ drop (s .args .count) (s .args .row .now)
 
-  told : k .row-refusal .result ≡ shiftRowRefusal m (s .args .component) (s .args .north) (s .args .east) (s .args .step) (s .args .count) (length (s .args .row .now))
-  told =
+  known : k .row-refusal .result ≡ shiftRowRefusal m (s .args .component) (s .args .north) (s .args .east) (s .args .step) (s .args .count) (length (s .args .row .now))
+  known =
       k .row-refusal .ensures
       ∙ (λ i. shiftRowRefusal m (s .args .component) (is-back (s .fits .north) i) (is-back (s .fits .east) i) (is-back (s .fits .step) i) (s .args .count) (length (s .args .row .now)))
 
 returns : tie.Need-returns
 unfolding shiftRowFilled
-returns c = let k = c .before in (told k, keeps (full k) (s k .args .row .now) (told k) (c .if1 .taken))
+returns c = let k = c .before in (known k, keeps (full k) (s k .args .row .now) (known k) (c .if1 .taken))
 
-module _ (c : tie.After-frame-at) where
+module _ (c : tie.After-settings-at) where
   abbrev k : tie.After-row-refusal
   k = c .before .before
 
   none : shiftRowRefusal (m k) (s k .args .component) (s k .args .north) (s k .args .east) (s k .args .step) (s k .args .count) (length (s k .args .row .now)) ≡ 0
-  none = sym (told k) ∙ c .before .if1 .left
+  none = sym (known k) ∙ c .before .if1 .left
 
   passed : Passed (m k) (s k .args .component) (s k .args .north) (s k .args .east) (s k .args .step) (s k .args .count) (length (s k .args .row .now))
   passed = row-passes (m k) (s k .args .component) (s k .args .north) (s k .args .east) (s k .args .step) (s k .args .count) (length (s k .args .row .now)) none
@@ -55,12 +55,12 @@ module _ (c : tie.After-frame-at) where
   up : pos (natAbs (s k .args .step)) ≡ s k .args .step
   up = natural-step (s k .args .step) (passed .within .up)
 
-  answered : Answered (m k) (c .frame-at .result) (s k .args .component) (s k .args .north) (s k .args .east) (natAbs (s k .args .step)) (s k .args .count) (length (s k .args .row .now))
+  answered : Answered (m k) (c .settings-at .result) (s k .args .component) (s k .args .north) (s k .args .east) (natAbs (s k .args .step)) (s k .args .count) (length (s k .args .row .now))
   answered =
       let p = passed in
       let a = s k .args in
       record {
-        ready = ready (p .kind) (c .frame-at .ensures) (p .within);
+        ready = ready (p .kind) (c .settings-at .ensures) (p .within);
         none = λ j l. ap (λ (z : ℤ). messageShift (m k) (a .component) (a .north) (eastAt (a .east) z j) .refusal) up ∙ p .none j l;
         enough = p .enough;
       }
@@ -72,7 +72,7 @@ cast-fill-row c =
     let e = cast-natural (z .args .step) (z .fits .step .sfits) (passed q .within .up) in
     rw (back q) (e .0, record { fits = e .1 })
 
-moved : {m : List ℕ} {f : Frame} {c : ℕ} {n n′ e e′ z z′ : ℤ} {count room : ℕ} → n′ ≡ n → e′ ≡ e → z′ ≡ z → Answered m f c n e (natAbs z) count room → Answered m f c n′ e′ (natAbs z′) count room
+moved : {m : List ℕ} {f : Settings} {c : ℕ} {n n′ e e′ z z′ : ℤ} {count room : ℕ} → n′ ≡ n → e′ ≡ e → z′ ≡ z → Answered m f c n e (natAbs z) count room → Answered m f c n′ e′ (natAbs z′) count room
 moved p q r h = rw (p, q, r) h
 
 fill-row-requires : tie.Need-fill-row-requires

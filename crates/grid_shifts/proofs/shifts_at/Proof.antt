@@ -11,7 +11,7 @@ use Rattle.arith.proofs.Back.{held}
 use Rattle.arith.proofs.Machine.{is-back}
 use Rattle.field.specs.declared.Reading.{Reading}
 use Rattle.record_rows.specs.Numbers.{says}
-use Rattle.record_grids.specs.declared.Frame.{Frame}
+use Rattle.record_grids.specs.declared.Settings.{Settings}
 use Rattle.record_grids.specs.declared.Grid.{Grid}
 use Rattle.record_grids.specs.declared.Shifts.{Shifts}
 use Rattle.record_grids.specs.Grids.{gridOf, frameOf, shiftsAt}
@@ -21,7 +21,7 @@ use Rattle.grid_fields.specs.declared.Nodes.{Nodes}
 use Rattle.grid_fields.specs.declared.Cells.{Cells}
 use Rattle.message_rows.specs.Message.{row, kindRefusal}
 use Rattle.grid_cell.specs.declared.Weights.{Weights}
-use Rattle.grid_place.specs.Inner.{heldSides}
+use Rattle.grid_place.specs.Inner.{heldTwoPlaces}
 use Rattle.grid_place.specs.declared.Located.{Located}
 use Rattle.grid_shifts.specs.Shift.{shiftWith, threeOf, messageShift, messageShifts}
 use Rattle.grid_shifts.specs.Private.{Held, nodesIn, partShift}
@@ -29,7 +29,7 @@ use Rattle.grid_shifts.specs.declared.Shift.{Shift}
 use Rattle.grid_shifts.proofs.Parts.{call-cell, call-part}
 use Rattle.grid_shifts.proofs.Accepted.{message-passed, message-fields}
 use Rattle.grid_shifts.proofs.Said.{frame-said, mean-said, nodes-said}
-use Rattle.grid_shifts.proofs.Sides.{Side, north-side, east-side, height-side, message-none-given}
+use Rattle.grid_shifts.proofs.TwoPlaces.{Side, north-side, east-side, height-side, message-none-given}
 use Rattle.grid_shifts.proofs.shifts_at.Statement.{statement}
 use Rattle.grid_shifts.proofs.shifts_at.Tie as tie
 
@@ -70,7 +70,7 @@ returns-2 q =
 
 -- a grid message: its frame and the sides of the position
 module _ (q : tie.After-means-at) where
-  abbrev l : tie.After-locate-sides
+  abbrev l : tie.After-locate-both
   l = q .before .before .before .before
 
   abbrev s : tie.Start
@@ -82,18 +82,18 @@ module _ (q : tie.After-means-at) where
   fields : Held (g s)
   fields = message-fields (m s) 0 (n s) (e s) none
 
-  frame : l .before .before .frame-at .result ≡ frameOf (g s)
-  frame = l .before .before .frame-at .ensures ∙ frame-said (m s) none
+  frame : l .before .before .settings-at .result ≡ frameOf (g s)
+  frame = l .before .before .settings-at .ensures ∙ frame-said (m s) none
 
-  number : toZ w64 (ofZ w64 (l .before .before .frame-at .result .number)) ≡ g s .number
+  number : toZ w64 (ofZ w64 (l .before .before .settings-at .result .number)) ≡ g s .number
   unfolding frameOf
-  number = held (l .before .before .frame-at .result .number) (l .before .struct-told .given .0 .1) ∙ ap (λ (f : Frame). f .number) frame
+  number = held (l .before .before .settings-at .result .number) (l .before .struct-told .given .0 .1) ∙ ap (λ (f : Settings). f .number) frame
 
-  sides : l .locate-sides .result ≡ heldSides (frameOf (g s)) (n s) (e s)
-  sides = l .locate-sides .ensures ∙ (λ i. heldSides (frame i) (is-back (s .fits .north) i) (is-back (s .fits .east) i))
+  sides : l .locate-both .result ≡ heldTwoPlaces (frameOf (g s)) (n s) (e s)
+  sides = l .locate-both .ensures ∙ (λ i. heldTwoPlaces (frame i) (is-back (s .fits .north) i) (is-back (s .fits .east) i))
 
   abbrev t : Located
-  t = l .locate-sides .result .place
+  t = l .locate-both .result .place
 
   abbrev ws : Weights
   ws = q .before .before .weights-in .result
@@ -105,20 +105,20 @@ module _ (q : tie.After-means-at) where
         let i = call-cell (g s) c (n s) (e s) fields (d .refusal) (d .place) z in
         nodes-said (m s) none c (t .row) (t .column) (i .0) (i .1) b
 
-    gives : {x : Shift} → x ≡ partShift (toZ w64 (ofZ w64 (l .before .before .frame-at .result .number))) c r mean w ws → x ≡ messageShift (m s) c (n s) (e s)
+    gives : {x : Shift} → x ≡ partShift (toZ w64 (ofZ w64 (l .before .before .settings-at .result .number))) c r mean w ws → x ≡ messageShift (m s) c (n s) (e s)
     unfolding messageShift
     gives h =
         call-part (g s) c (n s) (e s) fields (d .refusal) (d .place) (a ∙ mean-said (m s) none c) said
         (q .before .before .weights-in .ensures) h number
         ∙ ap (shiftWith (g s) c (n s) (e s)) (message-passed (m s) c (n s) (e s) none)
 
-  north : Side (g s) 0 (n s) (e s) (l .locate-sides .result .horizontal) t
+  north : Side (g s) 0 (n s) (e s) (l .locate-both .result .horizontal) t
   north = north-side (g s) (n s) (e s) fields sides
 
-  east : Side (g s) 1 (n s) (e s) (l .locate-sides .result .horizontal) t
+  east : Side (g s) 1 (n s) (e s) (l .locate-both .result .horizontal) t
   east = east-side (g s) (n s) (e s) fields sides
 
-  height : Side (g s) 2 (n s) (e s) (l .locate-sides .result .vertical) t
+  height : Side (g s) 2 (n s) (e s) (l .locate-both .result .vertical) t
   height = height-side (g s) (n s) (e s) fields sides
 
   -- what is read of each component

@@ -11,13 +11,13 @@ use mir.Val.{toZ, ofZ}
 use Rattle.arith.proofs.Back.{held}
 use Rattle.arith.proofs.Machine.{is-back}
 use Rattle.field.specs.declared.Reading.{Reading}
-use Rattle.record_grids.specs.declared.Frame.{Frame}
+use Rattle.record_grids.specs.declared.Settings.{Settings}
 use Rattle.record_grids.specs.declared.Grid.{Grid}
 use Rattle.record_grids.specs.Grids.{frameOf}
 use Rattle.grid_fields.specs.declared.Nodes.{Nodes}
 use Rattle.message_records.specs.Kinds.{gridHeld}
 use Rattle.grid_cell.specs.declared.Weights.{Weights}
-use Rattle.grid_place.specs.Inner.{heldSides}
+use Rattle.grid_place.specs.Inner.{heldTwoPlaces}
 use Rattle.grid_place.specs.declared.Located.{Located}
 use Rattle.grid_shifts.specs.Shift.{part, shiftWith, threeOf, recordShift}
 use Rattle.grid_shifts.specs.Inner.{recordShifts}
@@ -25,7 +25,7 @@ use Rattle.grid_shifts.specs.Private.{Held, nodesIn, partShift}
 use Rattle.grid_shifts.specs.declared.Shift.{Shift}
 use Rattle.grid_shifts.proofs.Parts.{call-part}
 use Rattle.grid_shifts.proofs.Accepted.{record-passed, record-fields}
-use Rattle.grid_shifts.proofs.Sides.{Side, north-side, east-side, height-side, some-cell, record-none-given}
+use Rattle.grid_shifts.proofs.TwoPlaces.{Side, north-side, east-side, height-side, some-cell, record-none-given}
 use Rattle.grid_shifts.proofs.shifts_of.Statement.{statement}
 use Rattle.grid_shifts.proofs.shifts_of.Tie as tie
 
@@ -53,7 +53,7 @@ returns q =
     ∙ (λ i. threeOf (record-none-given 0 (n s) (e s) (g s) refl five h i) (record-none-given 1 (n s) (e s) (g s) refl five h i) (record-none-given 2 (n s) (e s) (g s) refl five h i))
 
 -- a record that a message holds, and the sides of the position
-module _ (l : tie.After-locate-sides) where
+module _ (l : tie.After-locate-both) where
   abbrev s : tie.Start
   s = l .before .before .before .before .before
 
@@ -63,18 +63,18 @@ module _ (l : tie.After-locate-sides) where
   fields : Held (g s)
   fields = record-fields (g s) holds
 
-  frame : l .before .before .frame-of .result ≡ frameOf (g s)
-  frame = l .before .before .frame-of .ensures
+  frame : l .before .before .settings-of .result ≡ frameOf (g s)
+  frame = l .before .before .settings-of .ensures
 
-  number : toZ w64 (ofZ w64 (l .before .before .frame-of .result .number)) ≡ g s .number
+  number : toZ w64 (ofZ w64 (l .before .before .settings-of .result .number)) ≡ g s .number
   unfolding frameOf
-  number = held (l .before .before .frame-of .result .number) (l .before .struct-told .given .0 .1) ∙ ap (λ (f : Frame). f .number) frame
+  number = held (l .before .before .settings-of .result .number) (l .before .struct-told .given .0 .1) ∙ ap (λ (f : Settings). f .number) frame
 
-  sides : l .locate-sides .result ≡ heldSides (frameOf (g s)) (n s) (e s)
-  sides = l .locate-sides .ensures ∙ (λ i. heldSides (frame i) (is-back (s .fits .north) i) (is-back (s .fits .east) i))
+  sides : l .locate-both .result ≡ heldTwoPlaces (frameOf (g s)) (n s) (e s)
+  sides = l .locate-both .ensures ∙ (λ i. heldTwoPlaces (frame i) (is-back (s .fits .north) i) (is-back (s .fits .east) i))
 
   abbrev t : Located
-  t = l .locate-sides .result .place
+  t = l .locate-both .result .place
 
 nodes-of-requires : tie.Need-nodes-of-requires
 nodes-of-requires c κs = let l = c .before .before .before in some-cell (g (s l)) (n (s l)) (e (s l)) (fields l) (sides l)
@@ -86,7 +86,7 @@ nodes-of-requires-3 : tie.Need-nodes-of-requires-3
 nodes-of-requires-3 c κs = let l = c .before .before .before .before .before in some-cell (g (s l)) (n (s l)) (e (s l)) (fields l) (sides l)
 
 module _ (q : tie.After-nodes-of3) where
-  abbrev l : tie.After-locate-sides
+  abbrev l : tie.After-locate-both
   l = q .before .before .before .before .before .before
 
   abbrev b : tie.Start
@@ -97,19 +97,19 @@ module _ (q : tie.After-nodes-of3) where
 
   -- one part
   module _ (c r : ℕ) (d : Side (g b) c (n b) (e b) r (t l)) {mean : Reading} {w : Nodes} (a : mean ≡ part c (g b .mean)) (h : w ≡ nodesIn (g b .nodes) c (t l .row) (t l .column)) where
-    gives : {x : Shift} → x ≡ partShift (toZ w64 (ofZ w64 (l .before .before .frame-of .result .number))) c r mean w ws → x ≡ recordShift (g b) c (n b) (e b)
+    gives : {x : Shift} → x ≡ partShift (toZ w64 (ofZ w64 (l .before .before .settings-of .result .number))) c r mean w ws → x ≡ recordShift (g b) c (n b) (e b)
     unfolding recordShift
     gives k =
         call-part (g b) c (n b) (e b) (fields l) (d .refusal) (d .place) a (λ _. h) (q .before .before .before .before .weights-in .ensures) k (number l)
         ∙ ap (shiftWith (g b) c (n b) (e b)) (record-passed (g b) c (n b) (e b) (holds l))
 
-  north : Side (g b) 0 (n b) (e b) (l .locate-sides .result .horizontal) (t l)
+  north : Side (g b) 0 (n b) (e b) (l .locate-both .result .horizontal) (t l)
   north = north-side (g b) (n b) (e b) (fields l) (sides l)
 
-  east : Side (g b) 1 (n b) (e b) (l .locate-sides .result .horizontal) (t l)
+  east : Side (g b) 1 (n b) (e b) (l .locate-both .result .horizontal) (t l)
   east = east-side (g b) (n b) (e b) (fields l) (sides l)
 
-  height : Side (g b) 2 (n b) (e b) (l .locate-sides .result .vertical) (t l)
+  height : Side (g b) 2 (n b) (e b) (l .locate-both .result .vertical) (t l)
   height = height-side (g b) (n b) (e b) (fields l) (sides l)
 
 returns-2 : tie.Need-returns-2

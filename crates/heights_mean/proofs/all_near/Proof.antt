@@ -9,7 +9,7 @@ use borrow.Author.Tests.{not-true, not-false}
 use mir.Syntax.{w64}
 use mir.Val.{toZ, ofZ}
 use lib.IntN.{ℤ}
-use Rattle.arith.specs.Row.{allBelow}
+use Rattle.arith.specs.Lists.{allBelow}
 use Rattle.arith.proofs.Back.{held}
 use Rattle.arith.proofs.Order.{is}
 use Rattle.arith.proofs.Tests.{all-more, all-stops}
@@ -38,22 +38,22 @@ module _ (c : tie.After-is-near Inv-loop μ-loop) where
   mean-back : toZ w64 (ofZ w64 mean) ≡ mean
   mean-back = is-back (l .before .fits .mean)
 
-  told : c .is-near .result ≡ nearAt wanted (toZ w64 (ofZ w64 mean)) (l .loop .i)
-  told =
+  known : c .is-near .result ≡ nearAt wanted (toZ w64 (ofZ w64 mean)) (l .loop .i)
+  known =
       let h = c .before .height-at in
       c .is-near .ensures ∙ ap (near (toZ w64 (ofZ w64 mean))) (held (h .result) (h .ok) ∙ h .ensures)
 
 loop-again : tie.Need-loop-again Inv-loop μ-loop
 loop-again c =
     let k = c .before in
-    (omega arith, all-more (nearAt (wanted k) (toZ w64 (ofZ w64 (mean k)))) (l k .loop .i) (l k .loop .inv .1) (is (told k) (not-false _ (c .if1 .left))))
+    (omega arith, all-more (nearAt (wanted k) (toZ w64 (ofZ w64 (mean k)))) (l k .loop .i) (l k .loop .inv .1) (is (known k) (not-false _ (c .if1 .left))))
 
 returns : tie.Need-returns Inv-loop μ-loop
 unfolding fits
 returns c =
     let k = c .before in
     sym (all-stops (nearAt (wanted k) (mean k)) (l k .loop .i) 16
-    (subst (λ (m : ℤ). nearAt (wanted k) m (l k .loop .i) ≡ false) (mean-back k) (is (told k) (not-true _ (c .if1 .taken)))) (omega arith))
+    (subst (λ (m : ℤ). nearAt (wanted k) m (l k .loop .i) ≡ false) (mean-back k) (is (known k) (not-true _ (c .if1 .taken)))) (omega arith))
 
 returns-2 : tie.Need-returns-2 Inv-loop μ-loop
 unfolding fits

@@ -6,7 +6,7 @@ use native.Mathlib.Omega.{arith}
 use native.Mathlib.Numerals.{add-one}
 use mir.Syntax.{w64}
 use mir.Val.{toZ}
-use Rattle.arith.specs.Row.{at}
+use Rattle.arith.specs.Lists.{at}
 use Rattle.arith.proofs.Back.{held}
 use Rattle.heights_mean.specs.Private.{greater, greatest}
 use Rattle.heights_mean.proofs.greatest_of.Statement.{statement}

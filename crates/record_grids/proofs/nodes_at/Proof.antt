@@ -6,8 +6,8 @@ use mathlib.Core.List.{List, _++_}
 use native.Mathlib.Omega.{arith}
 use lib.IntN.{ℤ}
 use lib.ListN.{drop}
-use Rattle.arith.specs.Row.{upTo}
-use Rattle.arith.proofs.Rows.{fill-turn, fill-done}
+use Rattle.arith.specs.Lists.{upTo}
+use Rattle.arith.proofs.Lists.{fill-turn, fill-done}
 use Rattle.layout.specs.Layout.{rowOf}
 use Rattle.record_rows.specs.Numbers.{says}
 use Rattle.record_grids.specs.declared.Shifts.{Shifts}

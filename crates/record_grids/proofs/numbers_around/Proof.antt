@@ -8,7 +8,7 @@ use lib.ListN.{length, length-append, length-map}
 use Rattle.arith.specs.Inner.{padded}
 use Rattle.layout.specs.Layout.{valueIn, presentIn}
 use Rattle.record_rows.specs.Numbers.{valuesOf, presentOf}
-use Rattle.record_rows.specs.Inner.{marked}
+use Rattle.record_rows.specs.Inner.{presentPadded}
 use Rattle.record_rows.specs.Private.{Appended}
 use Rattle.record_rows.proofs.Appends.{behind, all-good}
 use Rattle.record_grids.specs.Grids.{nodesRow}
@@ -18,7 +18,7 @@ use Rattle.record_grids.proofs.numbers_around.Statement.{statement}
 use Rattle.record_grids.proofs.numbers_around.Tie as tie
 
 returns : tie.Need-returns
-unfolding padded marked
+unfolding padded presentPadded
 returns c =
     let e = c .before in
     let n = e .before .before .before .before in
@@ -26,15 +26,15 @@ returns c =
     let a = b .before .before .before in
     let s = a .before .before .before in
     let start = s .args .start .now in
-    let marks = s .args .marks .now in
+    let start_present = s .args .start_present .now in
     let end = s .args .end .now in
     let row = nodesRow (s .args .nodes) in
     let f : Appended (padded []) 0 start (b .append-bytes .result) _ =
     record { room = a .append .ensures .room; place = omega (arith, b .append-bytes .ensures .place, s .pre .0); stored = a .append .ensures .stored } in
     let p = behind _ _ (behind _ _ f (n .append-nodes .ensures .0)) (e .append2 .ensures) in
     let q = behind _ _ (b .append-bytes .ensures) (n .append-nodes .ensures .1 .0) in
-    let h : length (marks ++ presentOf row) + length end ≤ 96 =
-    omega (arith, p .room, s .pre .0, length-append marks (presentOf row), length-append (start ++ valuesOf row) end, length-append start (valuesOf row), length-map row valueIn, length-map row presentIn) in
+    let h : length (start_present ++ presentOf row) + length end ≤ 96 =
+    omega (arith, p .room, s .pre .0, length-append start_present (presentOf row), length-append (start ++ valuesOf row) end, length-append start (valuesOf row), length-map row valueIn, length-map row presentIn) in
     all-good _ _ p q ∙ more-marked _ _ (length end) h
 
 pub numbers-around-spec : {M : Type 1} → statement M

@@ -2,12 +2,12 @@
 -- Assumes nothing.
 use mathlib.Core.Path.{refl}
 use Rattle.arith.specs.Inner.{padded}
-use Rattle.record_rows.specs.Inner.{marked, buffers}
+use Rattle.record_rows.specs.Inner.{presentPadded, buffers}
 use Rattle.record_rows.proofs.no_numbers.Statement.{statement}
 use Rattle.record_rows.proofs.no_numbers.Tie as tie
 
 returns : tie.Need-returns
-unfolding buffers padded marked
+unfolding buffers padded presentPadded
 returns c = refl
 
 pub no-numbers-spec : {M : Type 1} → statement M

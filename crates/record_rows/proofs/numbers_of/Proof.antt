@@ -4,7 +4,7 @@ use mathlib.Core.Path.{_∙_}
 use borrow.Author.Tests.{lt-leb, le-leb, eq-eqb, ne-eqb}
 use lib.ListN.{length}
 use Rattle.arith.specs.Inner.{padded}
-use Rattle.record_rows.specs.Inner.{marked}
+use Rattle.record_rows.specs.Inner.{presentPadded}
 use Rattle.record_rows.proofs.Appends.{all-good, none}
 use borrow.Author.Needs.{needs}
 use Rattle.record_rows.proofs.numbers_of.Statement.{statement}
@@ -25,7 +25,7 @@ returns-2 c =
     none _ _ _ (c .no-numbers2 .ensures) (rw (eq-eqb z b (c .before .before .if1 .left), lt-leb z 96 (c .before .if2 .taken)))
 
 returns-3 : tie.Need-returns-3
-unfolding padded marked
+unfolding padded presentPadded
 returns-3 c =
     let s = c .before in
     let v = s .before .before .before .before in

@@ -4,7 +4,7 @@ use mathlib.Core.Path.{sym, ap, _∙_}
 use native.Mathlib.Omega.{arith}
 use lib.IntN.{ℤ}
 use lib.ListN.{getD}
-use Rattle.arith.specs.Row.{at}
+use Rattle.arith.specs.Lists.{at}
 use Rattle.arith.proofs.Back.{held}
 use Rattle.layout.specs.Layout.{readingIn}
 use Rattle.record_rows.proofs.Rows.{says-both, says-behind-values, says-behind-bytes}

@@ -1,4 +1,4 @@
--- `record_rows::store` meets its contract: a loop that stores one number a turn.
+-- `record_rows::store` meets its contract: a loop that stores one number a round.
 -- Assumes nothing.
 use Prim.Native.Nat.{_-_, _≤_}
 use mathlib.Core.Path.{_≡_, refl, ap, _∙_}
@@ -6,7 +6,7 @@ use native.Mathlib.Omega.{arith}
 use lib.ListN.{length, length-set}
 use lib.IntN.{pos}
 use lib.Seq.{paste, paste-zero}
-use Rattle.arith.specs.Row.{at as numberAt}
+use Rattle.arith.specs.Lists.{at as numberAt}
 use Rattle.arith.proofs.Back.{held}
 use Rattle.arith.proofs.Store.{paste-more}
 use Rattle.record_rows.proofs.store.Statement.{statement}

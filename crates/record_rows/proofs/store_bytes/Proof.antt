@@ -1,4 +1,4 @@
--- `record_rows::store_bytes` meets its contract: a loop that stores one byte a turn.
+-- `record_rows::store_bytes` meets its contract: a loop that stores one byte a round.
 -- Assumes nothing.
 use Prim.Native.Nat.{_-_, _≤_}
 use mathlib.Core.Path.{_≡_, refl, ap, _∙_}

@@ -1,4 +1,4 @@
--- `record_transformation_rows::append_chars` meets its contract: a loop that stores one character a turn.
+-- `record_transformation_rows::append_chars` meets its contract: a loop that stores one character a round.
 -- Assumes nothing.
 use Prim.Native.Nat.{_-_, _≤_}
 use mathlib.Core.Path.{_≡_, refl, sym, ap, _∙_}
@@ -7,8 +7,8 @@ use lib.ListN.{length, length-set}
 use lib.IntN.{pos}
 use lib.Seq.{paste, paste-zero}
 use Rattle.arith.proofs.Back.{held}
-use Rattle.arith.specs.Row.{upTo}
-use Rattle.arith.proofs.Rows.{length-upTo, getD-upTo}
+use Rattle.arith.specs.Lists.{upTo}
+use Rattle.arith.proofs.Lists.{length-upTo, getD-upTo}
 use Rattle.arith.proofs.Store.{paste-more}
 use Rattle.record_transformation_rows.specs.Private.{charValue}
 use Rattle.record_transformation_rows.proofs.append_chars.Statement.{statement}

@@ -5,7 +5,7 @@ use mathlib.Core.Path.{_≡_, refl, subst}
 use mathlib.Core.Bool.{true}
 use native.Mathlib.Omega.{arith}
 use borrow.Author.Tests.{not-true, not-false, le-leb}
-use Rattle.arith.specs.Row.{allBelow}
+use Rattle.arith.specs.Lists.{allBelow}
 use Rattle.arith.proofs.Order.{tests, is}
 use Rattle.arith.proofs.Tests.{all-more, all-stops}
 use Rattle.record_transformations.specs.Transformations.{charGood, goodName}

@@ -6,7 +6,7 @@ use Rattle.arith.specs.Inner.{padded}
 use Rattle.arith.proofs.Order.{is}
 use Rattle.arith.proofs.Back.{held}
 use Rattle.record_rows.specs.Numbers.{valuesOf, presentOf}
-use Rattle.record_rows.specs.Inner.{marked}
+use Rattle.record_rows.specs.Inner.{presentPadded}
 use Rattle.record_rows.proofs.Appends.{behind, same-row, same-size, none}
 use Rattle.record_transformations.specs.Private.{names}
 use Rattle.record_transformation_rows.proofs.Appends.{good-lengths, names-most, names-there, answer}
@@ -58,7 +58,7 @@ append-bytes-requires-2 c κs =
     omega (arith, m, same-size e, e .place, c .before .before .before .before .before .before .before .before .before .before .before .before .before .before .before .before .before .pre)
 
 returns-2 : tie.Need-returns-2
-unfolding padded marked
+unfolding padded presentPadded
 returns-2 c =
     let s = c .before .before .before .before .before .before .before .before .before .before .before .before .before .before .before .before .before .before .before in
     let a = s .args in

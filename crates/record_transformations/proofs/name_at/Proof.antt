@@ -5,11 +5,11 @@ use mathlib.Core.Path.{_≡_, refl, ap, _∙_}
 use mathlib.Core.List.{List, _++_}
 use native.Mathlib.Omega.{arith}
 use lib.ListN.{drop, replicate}
-use Rattle.arith.specs.Row.{upTo}
+use Rattle.arith.specs.Lists.{upTo}
 use Rattle.arith.specs.Whole.{natural}
 use Rattle.field.specs.declared.Reading.{Reading}
 use Rattle.layout.specs.Layout.{rowOf}
-use Rattle.arith.proofs.Rows.{fill-turn, drop-replicate}
+use Rattle.arith.proofs.Lists.{fill-turn, drop-replicate}
 use Rattle.record_transformations.specs.Transformations.{nameAt}
 use Rattle.record_rows.specs.Numbers.{says, numberAt, counterAt}
 use Rattle.record_rows.proofs.Rows.{counter-most}

@@ -3,13 +3,13 @@
 use Prim.Native.Nat.{ℕ, _+_}
 use mathlib.Core.Path.{_≡_}
 use Rattle.field.specs.declared.Reading.{Reading}
-use Rattle.record_transformations.specs.declared.Point.{Point}
+use Rattle.record_transformations.specs.declared.RotationPoint.{RotationPoint}
 use Rattle.record_transformations.specs.Transformations.{pointAt}
 use borrow.Author.Needs.{needs}
 use Rattle.record_transformations.proofs.point_at.Statement.{statement}
 use Rattle.record_transformations.proofs.point_at.Tie as tie
 
-point-made : (v : ℕ → Reading) (k : ℕ) {x y z : Reading} → x ≡ v k → y ≡ v (k + 1) → z ≡ v (k + 2) → _≡_ {A = Point} (record { x = x; y = y; z = z }) (pointAt v k)
+point-made : (v : ℕ → Reading) (k : ℕ) {x y z : Reading} → x ≡ v k → y ≡ v (k + 1) → z ≡ v (k + 2) → _≡_ {A = RotationPoint} (record { x = x; y = y; z = z }) (pointAt v k)
 unfolding pointAt
 point-made v k p q r = λ i. record { x = p i; y = q i; z = r i }
 

@@ -1,4 +1,4 @@
--- `report_points::report_points` meets its contract: a walk of its MIR, by hand, with a loop over the points. A turn looks into the borrow of the points for one of them, copies it, shuts the borrow, and calls `step` on the report so far.
+-- `report_points::report_points` meets its contract: a walk of its MIR, by hand, with a loop over the points. A round looks into the borrow of the points for one of them, copies it, shuts the borrow, and calls `step` on the report so far.
 -- The loop's invariant: the report so far, with the points that are left, comes to the report of all of them.
 -- All that the proof knows of `grid_component::keep`, `start` and `step` is that each meets its contract.
 -- Assumes nothing.
@@ -119,7 +119,7 @@ module _ {M : Type 1} (𝓤 : URA M) (H : Heap 𝓤) (A : Atoms 𝓤) (mem″ : 
   abbrev Step : Contract 𝓤
   Step = tripleOf 𝓤 H A step.signature (step.spec 𝓤 H A mem″ run)
 
--- where a turn begins: the place of the next point, and the report so far
+-- where a round begins: the place of the next point, and the report so far
 record Turn (bytes : List ℕ) (kept : Kept) (c : ℕ) (ps : List Point) : Type 0 where
   at : ℕ
   got : Report
@@ -127,7 +127,7 @@ record Turn (bytes : List ℕ) (kept : Kept) (c : ℕ) (ps : List Point) : Type 
   is : Is R.the-row got (report-val got ∷ [])
   left : reportFrom bytes kept c at (drop-first at ps) got ≡ reportOf bytes c ps
 
--- the next turn: one point more
+-- the next round: one point more
 abbrev on-one : (bytes : List ℕ) (kept : Kept) (c : ℕ) (ps : List Point) (t : Turn bytes kept c ps) (r : Report) → t .at < length ps → r ≡ stepOf (t .got) bytes kept c (getD ps (t .at) no-point) (t .at)
     → Is R.the-row r (report-val r ∷ []) → Turn bytes kept c ps
 on-one bytes kept c ps t r less e is = record { at = t .at + 1; got = r; most = add-one-le less; is = is; left = one-more bytes kept c ps (t .at) (t .got) r less e ∙ t .left }
@@ -236,19 +236,19 @@ module _ {M : Type 1} (𝓤 : URA M) (H : Heap 𝓤) (A : Atoms 𝓤) (W : Given
     abbrev En : Env 𝓤 H
     En = (R′.mir, l₀) ∷ (bytes, l₁) ∷ (tyInt w8, l₂) ∷ (points, l₃) ∷ (K′.mir, l₄) ∷ (R′.mir, l₅) ∷ (word, l₆) ∷ (word, l₇) ∷ (word, l₈) ∷ (tyBool, l₉) ∷ (tyPtr, l₁₀) ∷ (P′.mir, l₁₁) ∷ []
 
-    -- what stands where a turn begins
+    -- what stands where a round begins
     abbrev At : Turn′ → List (Item 𝓤)
     At t = (‵ (flft κ q) ⊛ ‵ ftrue) ∷ ‵ OwnM ∷ ‵ (flft κ′ q′) ∷ ‵ OwnP
         ∷ ‵ (fat fullShare R′.mir l₅ 0 (report-val (t .got))) ∷ ‵ (fat fullShare word l₆ 0 (vint w64 (t .at))) ∷ ‵ (froom word l₈ 0) ∷ ‵ (froom tyBool l₉ 0) ∷ ‵ (froom tyPtr l₁₀ 0) ∷ ‵ (froom P′.mir l₁₁ 0)
         ∷ ‵ (fat fullShare bytes l₁ 0 vm) ∷ ‵ (fat fullShare points l₃ 0 vp) ∷ ‵ (fat fullShare (tyInt w8) l₂ 0 (vint w8 c)) ∷ ‵ (froom word l₇ 0) ∷ ‵ (froom R′.mir l₀ 0) ∷ ‵ (fat fullShare K′.mir l₄ 0 (kept-val kept))
         ∷ ‵ (fdies R′.mir l₀) ∷ ‵ (fdies bytes l₁) ∷ ‵ (fdies points l₃) ∷ ‵ (fdies (tyInt w8) l₂) ∷ ‵ (fdies R′.mir l₅) ∷ ‵ (fdies word l₆) ∷ ‵ (fdies word l₇) ∷ ‵ (fdies word l₈) ∷ ‵ (fdies tyBool l₉) ∷ ‵ (fdies tyPtr l₁₀) ∷ ‵ (fdies P′.mir l₁₁) ∷ ‵ (fdies K′.mir l₄) ∷ []
 
-    -- a turn's postcondition: it ends nearer to the end, or the loop is left and the rest of the body runs
+    -- a round's postcondition: it ends nearer to the end, or the loop is left and the rest of the body runs
     abbrev Turned : Turn′ → Out → SProp 𝓤
     Turned t = afterTurn 𝓤 H (Below 𝓤 H A Nearer At t) (afterBlock 𝓤 H (afterSeq 𝓤 H (Wp 𝓤 H C Λ En mir.t-6 (atReturn 𝓤 H En Post)) (atReturn 𝓤 H En Post)))
 
-    -- a turn at a point
-    more : (t : Turn′) → ltb (t .at) n ≡ true → t .at < n → Sq W (At t) (runs C Λ En mir.turn-1 (anyQ (Turned t)))
+    -- a round at a point
+    more : (t : Turn′) → ltb (t .at) n ≡ true → t .at < n → Sq W (At t) (runs C Λ En mir.round-1 (anyQ (Turned t)))
     unfolding afterTurn
     more t here less = let i = t .at in let p = getD ps i no-point in
         assigns ! (of-opd ! (load ! (from ! (fld ! refl (stop !))) (look-in ! 11 (sub ! 1 refl (whole !))))) (from ! (stop !)) (init ! 6 refl (tt, record { fits = room .0 })) $
@@ -276,13 +276,13 @@ module _ {M : Type 1} (𝓤 : URA M) (H : Heap 𝓤) (A : Atoms 𝓤) (W : Given
         peeks ! R.the-row (Is R.the-row) (shows 𝓤 H A R.the-row) r (u ∷ []) (λ is.
         -- [what the report owns; the message's token; the message; the points' token; the points; _4; _5; _7; _8; _9; _10; …]
         land ! (from ! (stop !)) (store ! 5 refl (LL.lawful R.the-type R′.the-laws 𝓤 H A W .typed r _ is .0)) $
-        rewrite ! 5 (λ (v : Val). ‵ (fat fullShare R′.mir l₅ 0 v)) (ap only (told r u is)) refl $ drop ! $
+        rewrite ! 5 (λ (v : Val). ‵ (fat fullShare R′.mir l₅ 0 v)) (ap only (reportSoFar r u is)) refl $ drop ! $
         assigns-last ! (bin ! (load ! (from ! (stop !)) (look ! 5 refl)) (lit ! tt) (record { fits = next })) (from ! (stop !)) (store ! 5 refl (tt, record { fits = next })) $
         forget ! 6 refl $ forget ! 7 refl $ forget ! 8 refl $ forget ! 9 refl $
-        again ! Nearer At t (on-one (now m) kept c ps t r less e (subst (Is R.the-row r) (told r u is) is)) (add-one-dec n i less)))))))
+        again ! Nearer At t (on-one (now m) kept c ps t r less e (subst (Is R.the-row r) (reportSoFar r u is) is)) (add-one-dec n i less)))))))
       where
-        told : (r : Report) (u : Val) → Is R.the-row r (u ∷ []) → u ∷ [] ≡ report-val r ∷ []
-        told r u is = LL.tells R.the-type R′.the-laws r (u ∷ []) is
+        reportSoFar : (r : Report) (u : Val) → Is R.the-row r (u ∷ []) → u ∷ [] ≡ report-val r ∷ []
+        reportSoFar r u is = LL.tells R.the-type R′.the-laws r (u ∷ []) is
 
         here′ : t .at < 2 ^ 64
         here′ = omega (arith, less, room .0)
@@ -293,8 +293,8 @@ module _ {M : Type 1} (𝓤 : URA M) (H : Heap 𝓤) (A : Atoms 𝓤) (W : Given
         next : t .at + 1 < 2 ^ 64
         next = lt-of-le-of-lt (add-one-le less) (room .0)
 
-    -- the turn that leaves the loop, and the rest of the body
-    ends : (t : Turn′) → ltb (t .at) n ≡ false → n ≤ t .at → Sq W (At t) (runs C Λ En mir.turn-1 (anyQ (Turned t)))
+    -- the round that leaves the loop, and the rest of the body
+    ends : (t : Turn′) → ltb (t .at) n ≡ false → n ≤ t .at → Sq W (At t) (runs C Λ En mir.round-1 (anyQ (Turned t)))
     unfolding afterTurn
     ends t left over =
         assigns ! (of-opd ! (load ! (from ! (fld ! refl (stop !))) (look-in ! 11 (sub ! 1 refl (whole !))))) (from ! (stop !)) (init ! 6 refl (tt, record { fits = room .0 })) $
@@ -306,11 +306,11 @@ module _ {M : Type 1} (𝓤 : URA M) (H : Heap 𝓤) (A : Atoms 𝓤) (W : Given
         move ! (8 ∷ 9 ∷ []) $ free1 ! $ move ! (4 ∷ 8 ∷ []) $ free1 ! $ move ! (4 ∷ 7 ∷ []) $ free1 ! $ move ! (4 ∷ 6 ∷ []) $ free1 ! $ move ! (4 ∷ 5 ∷ []) $ free1 ! $ free0 ! $
         by ! (exits (t .got) (sym (all-done (now m) kept c ps (t .at) (t .got) over) ∙ t .left) (t .is))
 
-    turns : (t : Turn′) → Sq W (At t) (runs C Λ En mir.turn-1 (anyQ (Turned t)))
-    turns t = tested (ltb (t .at) n) (λ y. more t y (ltb-true (t .at) n y)) (λ z. ends t z (ltb-false (t .at) n z))
+    rounds : (t : Turn′) → Sq W (At t) (runs C Λ En mir.round-1 (anyQ (Turned t)))
+    rounds t = tested (ltb (t .at) n) (λ y. more t y (ltb-true (t .at) n y)) (λ z. ends t z (ltb-false (t .at) n z))
 
     looped : (t : Turn′) → Sq W (At t) (runs C Λ En mir.t-5 (atRet En Post))
-    looped t = first ! $ blocks ! $ loops ! 𝓣 Nearer Nearer-wf At turns t
+    looped t = first ! $ blocks ! $ loops ! 𝓣 Nearer Nearer-wf At rounds t
 
   walk : (𝓣 : Tables 𝓤 H) → FmC 𝓤 H (W .laws) (𝓣 .C) → Triple 𝓤 (𝓣 .C #part·keep) (Keep 𝓤 H A mem″ run) → Triple 𝓤 (𝓣 .C #reports·start) (Start 𝓤 H A mem″ run) → Triple 𝓤 (𝓣 .C #reports·step) (Step 𝓤 H A mem″ run)
       → ent 𝓤 (onEntry 𝓤 H A f.signature (κ, (κ′, tt)) (q, (q′, tt)) x at) (WpFn 𝓤 H (𝓣 .C) (𝓣 .Λ) code.function (vm ∷ vint w8 c ∷ vp ∷ []) Post)

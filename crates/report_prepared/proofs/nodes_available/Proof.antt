@@ -5,7 +5,7 @@ use native.Mathlib.Omega.{arith}
 use mathlib.Core.Path.{_≡_, refl, sym, ap, _∙_}
 use mathlib.Core.Bool.{true}
 use borrow.Author.Tests.{not-true, not-false}
-use Rattle.arith.specs.Row.{allBelow}
+use Rattle.arith.specs.Lists.{allBelow}
 use Rattle.arith.proofs.Tests.{all-more, all-stops}
 use Rattle.grid_refusals.specs.Refusals.{available}
 use Rattle.report_prepared.specs.Inner.{nodeAvailable, nodesAvailable}

@@ -6,9 +6,9 @@ use mathlib.Core.List.{_++_}
 use native.Mathlib.Omega.{arith}
 use lib.IntN.{pos}
 use lib.ListN.{drop}
-use Rattle.arith.specs.Row.{upTo}
+use Rattle.arith.specs.Lists.{upTo}
 use Rattle.arith.proofs.Back.{held}
-use Rattle.arith.proofs.Rows.{fill-turn, fill-done}
+use Rattle.arith.proofs.Lists.{fill-turn, fill-done}
 use Rattle.report_prepared.specs.Inner.{nodeValue, nodeValues}
 use Rattle.report_prepared.proofs.nodes_of.Statement.{statement}
 use Rattle.report_prepared.proofs.nodes_of.Tie as tie

@@ -11,7 +11,7 @@ use mir.Syntax.{w64}
 use mir.Val.{toZ, ofZ}
 use Rattle.arith.proofs.Back.{held}
 use Rattle.layout.specs.Layout.{valueIn}
-use Rattle.record_grids.specs.declared.Frame.{Frame}
+use Rattle.record_grids.specs.declared.Settings.{Settings}
 use Rattle.grid_refusals.specs.Refusals.{available}
 use Rattle.grid_fields.specs.Inner.{meanSays}
 use Rattle.grid_component.specs.declared.Kept.{Kept}
@@ -92,7 +92,7 @@ module _ (b : tie.After-middle2) where
   abbrev h : tie.After-nodes-available
   h = o .before .before .before .before
 
-  abbrev f : Frame
+  abbrev f : Settings
   f = kept (t h) .frame
 
   number : toZ w64 (ofZ w64 (f .number)) ≡ f .number

@@ -11,7 +11,7 @@ use mir.Val.{toZ, ofZ}
 use Rattle.arith.proofs.Back.{held}
 use Rattle.arith.proofs.Machine.{Num, lit, result, mul, fits, is-back}
 use Rattle.layout.specs.Layout.{valueIn}
-use Rattle.record_grids.specs.declared.Frame.{Frame}
+use Rattle.record_grids.specs.declared.Settings.{Settings}
 use Rattle.grid_fields.specs.Inner.{meanSays}
 use Rattle.grid_counts.specs.Counts.{nodeFactor}
 use Rattle.grid_place.specs.Inner.{heldPlace}
@@ -29,7 +29,7 @@ near-back a b c h = rw (a, b, c) h
 
 -- ---- the definition, test by test
 
-module _ (s : List ℕ) (f : Frame) (c : ℕ) (n e : ℤ) where
+module _ (s : List ℕ) (f : Settings) (c : ℕ) (n e : ℤ) where
   abbrev q : Located
   q = heldPlace f c n e
 
@@ -71,7 +71,7 @@ module _ (k : tie.After-locate) where
   abbrev m : List ℕ
   m = s .args .message .now
 
-  abbrev f : Frame
+  abbrev f : Settings
   f = s .args .kept .frame
 
   abbrev c : ℕ

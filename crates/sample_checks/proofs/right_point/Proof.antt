@@ -8,7 +8,7 @@ use borrow.Author.Tests.{eq-eqb, ne-eqb}
 use Rattle.arith.specs.Whole.{sameZ}
 use Rattle.arith.proofs.Back.{held}
 use Rattle.grid_shifts.specs.Shift.{messageShift}
-use Rattle.grid_component.specs.Part.{counted}
+use Rattle.grid_component.specs.Component.{counted}
 use Rattle.grid_component.specs.Inner.{countedBy}
 use Rattle.grid_component.proofs.Counts.{counted-is}
 use Rattle.sample_checks.specs.Check.{right}

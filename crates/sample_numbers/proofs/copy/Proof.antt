@@ -5,8 +5,8 @@ use mathlib.Core.Path.{_≡_, refl, sym, _∙_}
 use mathlib.Core.List.{List, _++_}
 use native.Mathlib.Omega.{arith}
 use lib.ListN.{length, getD, drop, length-set}
-use Rattle.arith.specs.Row.{upTo}
-use Rattle.arith.proofs.Rows.{fill-turn, fill-done, is-upTo}
+use Rattle.arith.specs.Lists.{upTo}
+use Rattle.arith.proofs.Lists.{fill-turn, fill-done, is-upTo}
 use Rattle.sample_numbers.proofs.copy.Statement.{statement}
 use Rattle.sample_numbers.proofs.copy.Tie as tie
 

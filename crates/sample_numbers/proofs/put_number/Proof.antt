@@ -6,7 +6,7 @@ use mathlib.Core.List.{_++_}
 use native.Mathlib.Omega.{arith}
 use lib.ListN.{length, drop, length-set}
 use Rattle.sample_numbers.specs.Number.{bytesOf}
-use Rattle.sample_numbers.proofs.Word.{start-bytes, turn-byte, end-bytes}
+use Rattle.sample_numbers.proofs.Word.{start-bytes, round-byte, end-bytes}
 use Rattle.sample_numbers.proofs.put_number.Statement.{statement}
 use Rattle.sample_numbers.proofs.put_number.Tie as tie
 
@@ -22,7 +22,7 @@ loop-holds c = (omega arith, (refl, start-bytes (c .args .out .now) (c .args .v)
 loop-again : tie.Need-loop-again Inv-loop μ-loop
 loop-again c =
     let l = c .before .loop in
-    (simp length-set (omega arith), (simp length-set (l .inv .1 .0), l .inv .1 .1 ∙ turn-byte (l .out) (l .left) (l .k) (c .loop-test .taken) (l .inv .0)))
+    (simp length-set (omega arith), (simp length-set (l .inv .1 .0), l .inv .1 .1 ∙ round-byte (l .out) (l .left) (l .k) (c .loop-test .taken) (l .inv .0)))
 
 same-length : tie.Need-same-length Inv-loop μ-loop
 same-length c = c .before .loop .inv .1 .0

@@ -6,7 +6,7 @@ use native.Mathlib.Omega.{arith}
 use mathlib.Core.List.{List}
 use lib.ListN.{getD, drop}
 use Rattle.sample_numbers.specs.Number.{number}
-use Rattle.sample_numbers.proofs.Word.{fits-word, turn-room, turn-number}
+use Rattle.sample_numbers.proofs.Word.{fits-word, round-room, round-number}
 use Rattle.sample_numbers.proofs.read_number.Statement.{statement}
 use Rattle.sample_numbers.proofs.read_number.Tie as tie
 
@@ -23,7 +23,7 @@ loop-holds c = (omega arith, (omega arith, refl))
 mul-r : tie.Need-mul-r Inv-loop μ-loop
 mul-r c =
     let l = c .before .loop in
-    let h = fits-word (l .r * 256 + 0) (l .i + 1) (omega arith) (turn-room (l .r) 0 (l .i) (l .inv .1 .0) (omega arith)) in
+    let h = fits-word (l .r * 256 + 0) (l .i + 1) (omega arith) (round-room (l .r) 0 (l .i) (l .inv .1 .0) (omega arith)) in
     record { fits = omega arith }
 
 module _ (c : tie.After-shared-slice-known Inv-loop μ-loop) where
@@ -40,13 +40,13 @@ module _ (c : tie.After-shared-slice-known Inv-loop μ-loop) where
   s = c .before .before .before .args .s .now
 
   next : r * 256 + getD s at 0 < 2 ^ (8 * (i + 1))
-  next = turn-room r (getD s at 0) i (c .before .before .loop .inv .1 .0) (c .shared-slice-known .given at .fits)
+  next = round-room r (getD s at 0) i (c .before .before .loop .inv .1 .0) (c .shared-slice-known .given at .fits)
 
 add-r-2 : tie.Need-add-r-2 Inv-loop μ-loop
 add-r-2 c = record { fits = fits-word _ (i c + 1) (omega arith) (next c) }
 
 loop-again : tie.Need-loop-again Inv-loop μ-loop
-loop-again c = (omega arith, (next c, turn-number (s c) (c .before .before .before .args .a) (r c) (i c) (c .before .before .loop .inv .1 .1)))
+loop-again c = (omega arith, (next c, round-number (s c) (c .before .before .before .args .a) (r c) (i c) (c .before .before .loop .inv .1 .1)))
 
 returns : tie.Need-returns Inv-loop μ-loop
 returns c =

@@ -6,11 +6,11 @@ use native.Mathlib.Omega.{arith}
 use lib.IntN.{ℤ, pos}
 use lib.ListN.{length, getD}
 use Rattle.arith.proofs.Back.{held}
-use Rattle.grid_component.specs.Part.{counted}
+use Rattle.grid_component.specs.Component.{counted}
 use Rattle.grid_component.specs.Inner.{countedBy}
 use Rattle.grid_component.proofs.Counts.{counted-is}
 use Rattle.sample_writer.specs.Refusals.{answerAt, askedOf, firstRefused}
-use Rattle.sample_writer.proofs.Asked.{from, point, turn-refused, turn-answered, end-refused}
+use Rattle.sample_writer.proofs.Asked.{from, point, round-refused, round-answered, end-refused}
 use Rattle.sample_writer.proofs.first_refused.Statement.{statement}
 use Rattle.sample_writer.proofs.first_refused.Tie as tie
 
@@ -48,13 +48,13 @@ returns : tie.Need-returns Inv-loop μ-loop
 returns c =
     let k = c .before in
     let v = l k .loop .inv .1 in
-    sym (v .1 .1 ∙ turn-refused _ _ _ _ (k .before .before .before .before .loop-test .taken) (v .0) (v .1 .0) _ _ (answer k) (c .if1 .taken))
+    sym (v .1 .1 ∙ round-refused _ _ _ _ (k .before .before .before .before .loop-test .taken) (v .0) (v .1 .0) _ _ (answer k) (c .if1 .taken))
 
 loop-again : tie.Need-loop-again Inv-loop μ-loop
 loop-again c =
     let k = c .before in
     let v = l k .loop .inv .1 in
-    (omega arith, (v .0, (v .1 .0, v .1 .1 ∙ turn-answered _ _ _ _ (k .before .before .before .before .loop-test .taken) (v .0) (v .1 .0) _ _ (answer k) (c .if1 .left))))
+    (omega arith, (v .0, (v .1 .0, v .1 .1 ∙ round-answered _ _ _ _ (k .before .before .before .before .loop-test .taken) (v .0) (v .1 .0) _ _ (answer k) (c .if1 .left))))
 
 returns-2 : tie.Need-returns-2 Inv-loop μ-loop
 returns-2 c = sym (c .before .loop .inv .1 .1 .1 ∙ end-refused _ _ _ _ _ (c .loop-test .left))

@@ -3,7 +3,7 @@
 use mathlib.Core.Path.{_≡_, ap, _∙_}
 use Rattle.arith.proofs.Back.{held}
 use Rattle.grid_counts.specs.declared.Counted.{Counted}
-use Rattle.grid_component.specs.Part.{counted}
+use Rattle.grid_component.specs.Component.{counted}
 use Rattle.grid_component.specs.Inner.{countedBy}
 use Rattle.grid_component.proofs.Counts.{counted-is}
 use Rattle.grid_shifts.specs.Shift.{messageShift}

@@ -1,4 +1,4 @@
--- `table_index_search::binary_search` meets its contract: what the rule gives among the entries left is what it gives among all, and each turn leaves fewer.
+-- `table_index_search::binary_search` meets its contract: what the rule gives among the entries left is what it gives among all, and each round leaves fewer.
 -- Assumes nothing.
 use Prim.Native.Nat.{_+_, _-_, _≤_}
 use native.Mathlib.Omega.{arith}
@@ -6,7 +6,7 @@ use mathlib.Core.Path.{_≡_, refl, sym, ap, _∙_}
 use borrow.Author.Needs.{needs}
 use Rattle.table_index_search.specs.Index.{entries}
 use Rattle.table_index_search.specs.Search.{metAfter, binarySearch}
-use Rattle.table_index_search.proofs.Turns.{probe-none, turn-met, turn-behind, turn-before}
+use Rattle.table_index_search.proofs.Rounds.{probe-none, round-met, round-behind, round-before}
 use Rattle.table_index_search.proofs.binary_search.Statement.{statement}
 use Rattle.table_index_search.proofs.binary_search.Tie as tie
 
@@ -26,21 +26,21 @@ returns c =
     let s = c .before .before .before .before .loop-test .taken in
     c .met .ensures
     ∙ ap (λ k. metAfter k (l .probes + 1)) (c .before .byte-at .ensures)
-    ∙ sym (l .inv .1 .1 ∙ turn-met (a .index .now) (a .key) (l .lo) (l .end) (l .probes) s (omega arith) (sym (c .before .before .before .is-key .ensures) ∙ c .before .before .if1 .taken))
+    ∙ sym (l .inv .1 .1 ∙ round-met (a .index .now) (a .key) (l .lo) (l .end) (l .probes) s (omega arith) (sym (c .before .before .before .is-key .ensures) ∙ c .before .before .if1 .taken))
 
 loop-again : tie.Need-loop-again Inv-loop μ-loop
 loop-again c =
     let l = c .before .before .before .before .before .loop in
     let a = c .before .before .before .before .before .before .before .args in
     let s = c .before .before .before .before .loop-test .taken in
-    (omega arith, (omega arith, l .inv .1 .1 ∙ turn-behind (a .index .now) (a .key) (l .lo) (l .end) (l .probes) s (omega arith) (sym (c .before .before .before .is-key .ensures) ∙ c .before .before .if1 .left) (sym (c .before .is-below .ensures) ∙ c .if2 .taken)))
+    (omega arith, (omega arith, l .inv .1 .1 ∙ round-behind (a .index .now) (a .key) (l .lo) (l .end) (l .probes) s (omega arith) (sym (c .before .before .before .is-key .ensures) ∙ c .before .before .if1 .left) (sym (c .before .is-below .ensures) ∙ c .if2 .taken)))
 
 loop-again-2 : tie.Need-loop-again-2 Inv-loop μ-loop
 loop-again-2 c =
     let l = c .before .before .before .before .before .loop in
     let a = c .before .before .before .before .before .before .before .args in
     let s = c .before .before .before .before .loop-test .taken in
-    (omega arith, (omega arith, l .inv .1 .1 ∙ turn-before (a .index .now) (a .key) (l .lo) (l .end) (l .probes) s (omega arith) (sym (c .before .before .before .is-key .ensures) ∙ c .before .before .if1 .left) (sym (c .before .is-below .ensures) ∙ c .if2 .left)))
+    (omega arith, (omega arith, l .inv .1 .1 ∙ round-before (a .index .now) (a .key) (l .lo) (l .end) (l .probes) s (omega arith) (sym (c .before .before .before .is-key .ensures) ∙ c .before .before .if1 .left) (sym (c .before .is-below .ensures) ∙ c .if2 .left)))
 
 returns-2 : tie.Need-returns-2 Inv-loop μ-loop
 returns-2 c =

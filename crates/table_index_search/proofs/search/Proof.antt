@@ -2,7 +2,7 @@
 -- Assumes nothing.
 use mathlib.Core.Path.{sym, _∙_}
 use borrow.Author.Needs.{needs}
-use Rattle.table_index_search.proofs.Turns.{searched-sized, searched-other}
+use Rattle.table_index_search.proofs.Rounds.{searched-sized, searched-other}
 use Rattle.table_index_search.proofs.search.Statement.{statement}
 use Rattle.table_index_search.proofs.search.Tie as tie
 

@@ -5,8 +5,8 @@ use native.Mathlib.Omega.{arith}
 use mathlib.Core.Path.{_≡_, refl}
 use mathlib.Core.List.{_++_}
 use lib.ListN.{length, drop, length-set}
-use Rattle.arith.specs.Row.{upTo}
-use Rattle.arith.proofs.Rows.{fill-turn, fill-done}
+use Rattle.arith.specs.Lists.{upTo}
+use Rattle.arith.proofs.Lists.{fill-turn, fill-done}
 use Rattle.table_slots.specs.Slots.{slots}
 use Rattle.table_index.specs.Change.{zeros}
 use Rattle.table_indexed.specs.Private.{markKeyAt}

@@ -8,7 +8,7 @@ use borrow.Author.Tests.{ne-eqb}
 use Rattle.arith.specs.Places.{firstOf}
 use Rattle.table_slots.specs.Slots.{slots}
 use Rattle.table_slots.specs.Inner.{flawedMark, soundMarks}
-use Rattle.arith.proofs.Places.{turn-hit, turn-on, turn-end}
+use Rattle.arith.proofs.Places.{round-hit, round-on, round-end}
 use Rattle.table_slots.proofs.sound_marks.Statement.{statement}
 use Rattle.table_slots.proofs.sound_marks.Tie as tie
 
@@ -26,14 +26,14 @@ unfolding soundMarks
 returns c =
     let i = c .before .before .before .loop .i in
     let l = c .before .before .loop-test .taken in
-    let e = c .before .before .before .loop .inv .1 ∙ turn-hit (flawedMark (c .before .before .before .before .args .row .now)) i slots l (sym (c .before .flawed-mark .ensures) ∙ c .if1 .taken) in
+    let e = c .before .before .before .loop .inv .1 ∙ round-hit (flawedMark (c .before .before .before .before .args .row .now)) i slots l (sym (c .before .flawed-mark .ensures) ∙ c .if1 .taken) in
     sym (ne-eqb i slots (λ z. omega arith)) ∙ ap (λ k. eqb k slots) (sym e)
 
 loop-again : tie.Need-loop-again Inv-loop μ-loop
 loop-again c = (
   omega arith,
   c .before .before .before .loop .inv .1
-      ∙ turn-on (flawedMark (c .before .before .before .before .args .row .now)) _ slots (c .before .before .loop-test .taken) (sym (c .before .flawed-mark .ensures) ∙ c .if1 .left),
+      ∙ round-on (flawedMark (c .before .before .before .before .args .row .now)) _ slots (c .before .before .loop-test .taken) (sym (c .before .flawed-mark .ensures) ∙ c .if1 .left),
 )
 
 returns-2 : tie.Need-returns-2 Inv-loop μ-loop
@@ -41,7 +41,7 @@ unfolding soundMarks
 returns-2 c =
     let i = c .before .loop .i in
     let s : i ≡ slots = omega arith in
-    let e = c .before .loop .inv .1 ∙ turn-end (flawedMark (c .before .before .args .row .now)) i slots (c .loop-test .left) ∙ s in
+    let e = c .before .loop .inv .1 ∙ round-end (flawedMark (c .before .before .args .row .now)) i slots (c .loop-test .left) ∙ s in
     ap (λ k. eqb k slots) (sym e)
 
 pub sound-marks-spec : {M : Type 1} → statement M

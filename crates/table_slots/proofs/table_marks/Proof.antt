@@ -6,8 +6,8 @@ use mathlib.Core.Path.{_≡_, refl, _∙_}
 use mathlib.Core.List.{_++_}
 use lib.ListN.{length, drop, replicate, length-set}
 use borrow.Author.Tests.{eq-eqb, ne-eqb}
-use Rattle.arith.specs.Row.{upTo}
-use Rattle.arith.proofs.Rows.{fill-turn, fill-done}
+use Rattle.arith.specs.Lists.{upTo}
+use Rattle.arith.proofs.Lists.{fill-turn, fill-done}
 use Rattle.table_slots.specs.Slots.{slots, tableSize}
 use Rattle.table_slots.specs.Inner.{noTag, markAt, marks}
 use Rattle.table_slots.proofs.table_marks.Statement.{statement}
