@@ -23,7 +23,7 @@ use Rattle.layout.proofs.Round.{unsigned-value}
 use Rattle.layout_writer.proofs.Answer.{write-range}
 use Rattle.layout_tables.specs.Layouts.{known}
 use Rattle.record_transformations.specs.Transformations.{helmertOf, molodenskiBadekasOf}
-use Rattle.record_grids.specs.Grids.{gridOf, frameOf}
+use Rattle.record_grids.specs.Grids.{gridOf, settingsOf}
 use Rattle.grid_refusals.specs.Refusals.{fieldTests}
 use Rattle.record_projections.specs.Projections.{projectionOf, lambertOf, obliqueMercatorOf}
 use Rattle.record_rows.specs.Numbers.{says, numberAt}
@@ -114,5 +114,5 @@ mean-formed s c n e h =
     let m : Bool = absent (surfaceAt s c) (northOf g n) (eastOf g e) in
     let a = passes (tests s) ((7, k) ∷ gridTests g c n e) tt h .1 in
     let b = passed 6 k (first (gridTests g c n e)) a .1 in
-    let d = passes (fieldTests (frameOf g) c n e) ((14, o) ∷ (15, m) ∷ []) tt b .1 in
+    let d = passes (fieldTests (settingsOf g) c n e) ((14, o) ∷ (15, m) ∷ []) tt b .1 in
     passed 14 m 0 (passed 13 o (cond m 15 0) d .1) .0

@@ -14,7 +14,7 @@ use Rattle.arith.specs.Whole.{sameZ}
 use Rattle.arith.specs.First.{first}
 use Rattle.record_grids.specs.declared.Grid.{Grid}
 use Rattle.record_grids.specs.declared.Shifts.{Shifts}
-use Rattle.record_grids.specs.Grids.{gridOf, gridRow, frameOf}
+use Rattle.record_grids.specs.Grids.{gridOf, gridRow, settingsOf}
 use Rattle.field.specs.declared.Reading.{Reading}
 use Rattle.layout.specs.Layout.{valueIn}
 use Rattle.record_rows.specs.Numbers.{valuesOf, presentOf}
@@ -108,12 +108,12 @@ module _ (g : Grid) (ns : List Shifts) (c : ℕ) (n e : ℤ) where
         (surface g c .present) (surface (withNodes g ns) c .present) k l y x (says-same f (w .sw)) (says-same f (w .se)) (says-same f (w .nw)) (says-same f (w .ne))
 
 pub only-weighted : OnlyWeighted
-unfolding surface northOf eastOf recordShift shiftWith recordShiftRefusal interpolated exact absent frameOf
+unfolding surface northOf eastOf recordShift shiftWith recordShiftRefusal interpolated exact absent settingsOf
 only-weighted g ns c n e h w =
     λ i. outcome (g .number) c
     (first
     ((5, not (h i))
-    ∷ fieldTests (frameOf g) c n e
+    ∷ fieldTests (settingsOf g) c n e
     ++ ((14, outside (surface g c .H) (northOf g n) || outside (surface g c .W) (eastOf g e)) ∷ (15, same-absent g ns c n e w i) ∷ [])))
     (surface g c .mean +ℤ nearestWhole (same-sum g ns c n e w i) (surface g c .H * surface g c .W))
 

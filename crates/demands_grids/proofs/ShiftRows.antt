@@ -18,7 +18,7 @@ use Rattle.arith.proofs.Lists.{length-upTo, getD-upTo, all-true}
 use Rattle.arith.specs.Whole.{sameZ}
 use Rattle.record_rows.specs.Numbers.{says}
 use Rattle.record_grids.specs.declared.Grid.{Grid}
-use Rattle.record_grids.specs.Grids.{gridOf, frameOf}
+use Rattle.record_grids.specs.Grids.{gridOf, settingsOf}
 use Rattle.message_rows.specs.Message.{numberOf, row, kindRefusal}
 use Rattle.grid_bilinear.specs.Bilinear.{outside, absent}
 use Rattle.grid_refusals.specs.Refusals.{side, originAvailable, beyond}
@@ -145,7 +145,7 @@ module _ (s : List ℕ) (c : ℕ) (n e step : ℤ) (count room : ℕ) where
       from-zero = refused-same (λ k. refusals (0 + k)) refusals count (λ k b. let z : 0 + k ≡ k = omega arith in ap refusals z)
 
       late : (k : ℕ) → k < count → (refusals k ≡ 0 → ⊥) → (10 ≤ refusals k) × (refusals k ≤ 15)
-      unfolding messageShift shiftWith outcome frameOf
+      unfolding messageShift shiftWith outcome settingsOf
       late k b o =
           let x : ℤ = e +ℤ pos k *ℤ step in
           late-numbers (sameZ (side c (g .indicators)) (pos 0)) (not (sameZ (side c (g .methods)) (pos 0))) (not (originAvailable (g .origin)))

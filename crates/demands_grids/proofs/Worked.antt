@@ -7,7 +7,7 @@ use native.Mathlib.Omega.{arith}
 use Rattle.arith.specs.Whole.{sameZ}
 use Rattle.field.specs.Field.{bitAt, field, twos, signedOf}
 use Rattle.layout.specs.Layout.{allTake, total, decodeAll, zeroFrom}
-use Rattle.record_grids.specs.Grids.{gridOf, originAt, spacingAt, frameOf, shiftsAt, shiftsRow, nodesAt, nodesRow}
+use Rattle.record_grids.specs.Grids.{gridOf, originAt, spacingAt, settingsOf, shiftsAt, shiftsRow, nodesAt, nodesRow}
 use Rattle.record_rows.specs.Numbers.{pairAt}
 use Rattle.layout_tables.specs.Layouts.{layoutOf, layout1021, tail1021, layout1023}
 use Rattle.message_rows.specs.Message.{layout, refusal, row}
@@ -30,7 +30,7 @@ four P a b c d (suc (suc (suc zero))) h = d
 four P a b c d (suc (suc (suc (suc i)))) h = absurd (omega arith)
 
 pub grid-k-present : GridKPresent
-unfolding gridK refusal row layout layoutOf layout1023 total zeroFrom decodeAll allTake field bitAt twos signedOf gridOf pairAt originAt spacingAt frameOf shiftsAt nodesAt surface sameZ
+unfolding gridK refusal row layout layoutOf layout1023 total zeroFrom decodeAll allTake field bitAt twos signedOf gridOf pairAt originAt spacingAt settingsOf shiftsAt nodesAt surface sameZ
 grid-k-present =
     λ i j hi hj. four (λ (i : ℕ). surfaceAt gridK 2 .present i j ≡ true) (row0 j hj) (row1 j hj) (row2 j hj) (row3 j hj) i hi
   where
@@ -47,9 +47,9 @@ grid-k-present =
     row3 = four (λ (j : ℕ). surfaceAt gridK 2 .present 3 j ≡ true) refl refl refl refl
 
 pub worked-numbers : WorkedNumbers
-unfolding gridK gridKNegated gridKNode7 gridKNorth0 gridKEast0 gridKBoth0 table given wanted answerTo refusal row layout layoutOf layout1021 tail1021 layout1023 total zeroFrom decodeAll allTake field bitAt twos signedOf gridOf pairAt originAt spacingAt frameOf shiftsAt nodesAt surface northOf byTurns eastOf shiftRefusal answerOf outcome shiftWith messageShift nearestWhole fromEdge outside cell weighted inCell exact interpolated lacks absentIn absent sameZ
+unfolding gridK gridKNegated gridKNode7 gridKNorth0 gridKEast0 gridKBoth0 table given wanted answerTo refusal row layout layoutOf layout1021 tail1021 layout1023 total zeroFrom decodeAll allTake field bitAt twos signedOf gridOf pairAt originAt spacingAt settingsOf shiftsAt nodesAt surface northOf byTurns eastOf shiftRefusal answerOf outcome shiftWith messageShift nearestWhole fromEdge outside cell weighted inCell exact interpolated lacks absentIn absent sameZ
 worked-numbers = refl
 
 pub worked-metres : WorkedMetres
-unfolding gridK refusal row layout layoutOf layout1023 total zeroFrom decodeAll allTake field bitAt twos signedOf gridOf pairAt originAt spacingAt frameOf shiftsAt nodesAt surface northOf byTurns eastOf shiftRefusal answerOf outcome shiftWith messageShift nearestWhole fromEdge outside cell weighted inCell exact interpolated lacks absentIn absent sameZ
+unfolding gridK refusal row layout layoutOf layout1023 total zeroFrom decodeAll allTake field bitAt twos signedOf gridOf pairAt originAt spacingAt settingsOf shiftsAt nodesAt surface northOf byTurns eastOf shiftRefusal answerOf outcome shiftWith messageShift nearestWhole fromEdge outside cell weighted inCell exact interpolated lacks absentIn absent sameZ
 worked-metres = refl

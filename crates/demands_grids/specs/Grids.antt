@@ -12,7 +12,7 @@ use lib.Ieee.{Float, binary64, whole, ofInt, toSigned}
 use Rattle.arith.specs.First.{first}
 use Rattle.record_grids.specs.declared.Grid.{Grid}
 use Rattle.record_grids.specs.declared.Shifts.{Shifts}
-use Rattle.record_grids.specs.Grids.{gridOf, gridRow, frameOf}
+use Rattle.record_grids.specs.Grids.{gridOf, gridRow, settingsOf}
 use Rattle.record_rows.specs.Numbers.{says, valuesOf, presentOf}
 use Rattle.layout.specs.Layout.{valueIn}
 use Rattle.message_rows.specs.Message.{numberOf, refusal, row, kindWriteRefusal}
@@ -79,7 +79,7 @@ pub record Holds (g : Grid) (c k l : ℕ) (n e : ℤ) : Type 0 where
 -- "On a shared edge both cells must give the same answer or refusal": every cell that holds a position gives what the call answers
 abbrev pub SharedEdges : Type 0
 SharedEdges =
-    (s : List ℕ) (c : ℕ) (n e : ℤ) → readGrid s .refusal ≡ 0 → first (fieldTests (frameOf (gridAt s)) c n e) ≡ 0
+    (s : List ℕ) (c : ℕ) (n e : ℤ) → readGrid s .refusal ≡ 0 → first (fieldTests (settingsOf (gridAt s)) c n e) ≡ 0
     → (k l : ℕ) → Holds (gridAt s) c k l n e → messageShift s c n e ≡ inCellShift (gridAt s) c k l (northSteps (gridAt s) c n) (eastSteps (gridAt s) c e)
 
 -- the call on the record that was read from a message answers as the call on the message

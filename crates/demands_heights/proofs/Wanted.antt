@@ -27,7 +27,7 @@ use Rattle.layout_tables.proofs.Length.{length-1023}
 use Rattle.record_rows.specs.Numbers.{says, numberAt, pairAt}
 use Rattle.record_grids.specs.declared.Grid.{Grid}
 use Rattle.record_grids.specs.declared.Shifts.{Shifts}
-use Rattle.record_grids.specs.Grids.{gridOf, frameOf, originAt, spacingAt, shiftsAt, nodesAt}
+use Rattle.record_grids.specs.Grids.{gridOf, settingsOf, originAt, spacingAt, shiftsAt, nodesAt}
 use Rattle.message_rows.specs.Message.{message, row, rowLayout, rowTests, refusal, kindRefusal, ofKind, writeRefusal}
 use Rattle.message_rows.proofs.OneKind.{kind-read}
 use Rattle.message_rows.proofs.Trips.{number-back, message-accepted, row-of-message}
@@ -160,8 +160,8 @@ module _ (z wanted : List ℤ) (m : ℤ) (g : Grid) (p : Facts z wanted m g) whe
     apart = (pos (2 * j) -ℤ pos 3) *ℤ pos (2500 * natural (Lists.at z 7))
 
     spacing-most : natural (Lists.at z 7) ≤ 4095
-    unfolding frameOf
-    spacing-most = subst (λ (y : ℤ). natural y ≤ 4095) (p .columns) (held .frame .columns .1)
+    unfolding settingsOf
+    spacing-most = subst (λ (y : ℤ). natural y ≤ 4095) (p .columns) (held .settings .columns .1)
 
     east-is : eastOf g east ≡ apart
     unfolding eastOf
@@ -178,8 +178,8 @@ module _ (z wanted : List ℤ) (m : ℤ) (g : Grid) (p : Facts z wanted m g) whe
         ∙ edge-steps d j o ∙ ap (λ (h : ℕ). pos (j * h)) (sym wide)
 
     module _ (b : beyond (pos 1023) north east ≡ false) where
-      field-tests : first (fieldTests (frameOf g) 2 north east) ≡ 0
-      unfolding frameOf
+      field-tests : first (fieldTests (settingsOf g) 2 north east) ≡ 0
+      unfolding settingsOf
       field-tests =
           none-first (beyond (g .number) north east) _ _ (originAvailable (g .origin)) _
           (ap (λ (y : ℤ). beyond y north east) (p .number) ∙ b) (p .shown) (p .method)
@@ -193,7 +193,7 @@ module _ (z wanted : List ℤ) (m : ℤ) (g : Grid) (p : Facts z wanted m g) whe
 
       inside : first (gridTests g 2 north east) ≡ 0
       inside =
-          sym (goes-on (fieldTests (frameOf g) 2 north east) late tt field-tests)
+          sym (goes-on (fieldTests (settingsOf g) 2 north east) late tt field-tests)
           ∙ rw (
             node-inside (surface g 2 .H) t (northOf g north) (omega arith) north-edge,
             node-inside (surface g 2 .W) j (eastOf g east) column east-edge,
@@ -201,8 +201,8 @@ module _ (z wanted : List ℤ) (m : ℤ) (g : Grid) (p : Facts z wanted m g) whe
           )
 
       some : (0 < surface g 2 .H) × (0 < surface g 2 .W)
-      unfolding surface frameOf
-      some = let d = spacings (frameOf g) north east (held .frame) (early (frameOf g) 2 north east field-tests) in (d .0 .0, d .1 .0)
+      unfolding surface settingsOf
+      some = let d = spacings (settingsOf g) north east (held .settings) (early (settingsOf g) 2 north east field-tests) in (d .0 .0, d .1 .0)
 
       count : interpolated (surface g 2) (northOf g north) (eastOf g east) ≡ pos 10 *ℤ Lists.at wanted (4 * i + j)
       count =

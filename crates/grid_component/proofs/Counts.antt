@@ -13,7 +13,7 @@ use Rattle.layout.specs.Layout.{valueIn}
 use Rattle.record_rows.specs.Numbers.{says}
 use Rattle.record_grids.specs.declared.Settings.{Settings}
 use Rattle.record_grids.specs.declared.Grid.{Grid}
-use Rattle.record_grids.specs.Grids.{gridOf, frameOf}
+use Rattle.record_grids.specs.Grids.{gridOf, settingsOf}
 use Rattle.record_grids.specs.Inner.{settingsAt}
 use Rattle.message_rows.specs.Message.{row, kindRefusal}
 use Rattle.grid_cell.specs.Inner.{weightsIn}
@@ -30,7 +30,7 @@ use Rattle.grid_shifts.specs.Shift.{outcome, shiftWith, messageShift}
 use Rattle.grid_shifts.specs.Private.{Held, cellShift, partShift}
 use Rattle.grid_shifts.proofs.Accepted.{message-passed, message-fields}
 use Rattle.grid_shifts.proofs.Parts.{call-cell, call-part}
-use Rattle.grid_shifts.proofs.Said.{frame-said, mean-said, nodes-said}
+use Rattle.grid_shifts.proofs.Said.{settings-said, mean-said, nodes-said}
 use Rattle.grid_shifts.proofs.TwoPlaces.{message-none-given}
 use Rattle.grid_component.specs.Component.{counted}
 use Rattle.grid_component.specs.Inner.{keptOf, countedBy}
@@ -73,11 +73,11 @@ module _ (s : List ℕ) (c : ℕ) (n e : ℤ) where
   abbrev g : Grid
   g = gridOf (says (row s))
 
-  abbrev frame : Settings
-  frame = settingsAt (gridSays s)
+  abbrev settings : Settings
+  settings = settingsAt (gridSays s)
 
   abbrev p : Located
-  p = heldPlace frame c n e
+  p = heldPlace settings c n e
 
   -- no grid message
   refused-is : (kindRefusal 1023 1024 s ≡ 0 → ⊥) → refusedWith (kindRefusal 1023 1024 s) ≡ counted (messageShift s c n e)
@@ -87,17 +87,17 @@ module _ (s : List ℕ) (c : ℕ) (n e : ℤ) where
     fields : Held g
     fields = message-fields s c n e h
 
-    place : p ≡ located (frameOf g) c n e
-    place = ap (λ (f : Settings). heldPlace f c n e) (frame-said s h) ∙ held-place (frameOf g) (fields .frame) c n e
+    place : p ≡ located (settingsOf g) c n e
+    place = ap (λ (f : Settings). heldPlace f c n e) (settings-said s h) ∙ held-place (settingsOf g) (fields .settings) c n e
 
-    number : frame .number ≡ g .number
-    unfolding frameOf
-    number = ap (λ (f : Settings). f .number) (frame-said s h)
+    number : settings .number ≡ g .number
+    unfolding settingsOf
+    number = ap (λ (f : Settings). f .number) (settings-said s h)
 
-    part-is : partShift (frame .number) c (p .refusal) (meanSays s c) (cellSays s c (p .row) (p .column)) (weightsIn (p .height) (p .width) (p .north) (p .east)) ≡ messageShift s c n e
+    part-is : partShift (settings .number) c (p .refusal) (meanSays s c) (cellSays s c (p .row) (p .column)) (weightsIn (p .height) (p .width) (p .north) (p .east)) ≡ messageShift s c n e
     unfolding messageShift
     part-is =
-        let r : p .refusal ≡ located (frameOf g) c n e .refusal = ap (λ (q : Located). q .refusal) place in
+        let r : p .refusal ≡ located (settingsOf g) c n e .refusal = ap (λ (q : Located). q .refusal) place in
         call-part g c n e fields r (λ _. place) (mean-said s h c)
         (λ z. let b = call-cell g c n e fields r (λ _. place) z in nodes-said s h c (p .row) (p .column) (b .0) (b .1) refl)
         refl refl number
@@ -114,7 +114,7 @@ module _ (s : List ℕ) (c : ℕ) (n e : ℤ) where
   unfolding countedBy keptOf
   kept-part h =
       rw (eq-eqb kind 0 h)
-      (counted-part (frame .number) c (p .refusal) (meanSays s c) (cellSays s c (p .row) (p .column)) (weightsIn (p .height) (p .width) (p .north) (p .east))
+      (counted-part (settings .number) c (p .refusal) (meanSays s c) (cellSays s c (p .row) (p .column)) (weightsIn (p .height) (p .width) (p .north) (p .east))
       ∙ ap counted (part-is h))
 
   -- one part of the call, by a message that is read once

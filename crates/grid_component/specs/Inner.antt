@@ -17,14 +17,14 @@ use Rattle.grid_component.specs.declared.Kept.{Kept}
 
 -- what is kept of a message: 1 to 5 and 7 KIND, or 0 with its fields besides the shifts
 unfoldable pub keptOf : List ℕ → Kept
-keptOf s = record { refusal = kindRefusal 1023 1024 s; frame = settingsAt (gridSays s) }
+keptOf s = record { refusal = kindRefusal 1023 1024 s; settings = settingsAt (gridSays s) }
 
 -- the kept refusal, else that of the position's place, else 15 ABSENT or the count in the place's cell
 unfoldable pub countedBy : List ℕ → Kept → ℕ → ℤ → ℤ → Counted
 countedBy s kept c n e =
-    let p = heldPlace (kept .frame) c n e in
+    let p = heldPlace (kept .settings) c n e in
     cond (eqb (kept .refusal) 0)
     (cond (eqb (p .refusal) 0)
-    (cellCount (kept .frame .number) c (meanSays s c) (cellSays s c (p .row) (p .column)) (weightsIn (p .height) (p .width) (p .north) (p .east)))
+    (cellCount (kept .settings .number) c (meanSays s c) (cellSays s c (p .row) (p .column)) (weightsIn (p .height) (p .width) (p .north) (p .east)))
     (refusedWith (p .refusal)))
     (refusedWith (kept .refusal))

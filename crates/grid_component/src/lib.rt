@@ -12,7 +12,7 @@ ghost use Rattle.grid_component.specs.Inner.{keptOf, countedBy};
 // What is kept of a message: why it is no grid message, or 0 with its fields besides the shifts.
 pub struct Kept {
     pub refusal: u8,
-    pub frame: Settings,
+    pub settings: Settings,
 }
 
 // A refusal, with a count of 0.
@@ -42,7 +42,7 @@ pub fn keep(message: &[u8]) -> Kept
 {
     Kept {
         refusal: message_rows::check_kind(message, 1023, 1024),
-        frame: grid_fields::settings_at(message),
+        settings: grid_fields::settings_at(message),
     }
 }
 
@@ -53,7 +53,7 @@ pub fn count_at(message: &[u8], kept: Kept, component: u8, north: i64, east: i64
     if kept.refusal != 0 {
         return refused(kept.refusal);
     }
-    let f = kept.frame;
+    let f = kept.settings;
     let p = grid_place::locate(f, component, north, east);
     if p.refusal != 0 {
         return refused(p.refusal);

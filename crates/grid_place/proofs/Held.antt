@@ -1,4 +1,4 @@
--- A frame that a grid message holds: the test, and what it says of each field.
+-- A settings that a grid message holds: the test, and what it says of each field.
 -- Assumes nothing.
 use mathlib.Core.Path.{_≡_, refl, sym, ap, _∙_}
 use mathlib.Core.Bool.{Bool, true, false, cond, not, _&&_}
@@ -39,7 +39,7 @@ east-held : (b : Bool) (n : ℕ) → n ≤ 67108864 → (b ≡ true → n ≤ 12
 east-held true n h k = le-leb n 1296000 (k refl)
 east-held false n h k = le-leb n 67108864 h
 
--- ---- the frame
+-- ---- the settings
 
 module _ (f : Settings) where
   abbrev a : Bool
@@ -78,7 +78,7 @@ module _ (f : Settings) where
         spacing-held (f .spacing .east) (h .columns .0) (h .columns .1),
       )
 
-  -- the place in such a frame
+  -- the place in such a settings
   pub held-place : Fields f → (c : ℕ) (n e : ℤ) → heldPlace f c n e ≡ located f c n e
   unfolding heldPlace
   held-place h c n e = rw (fields-held h)
@@ -91,7 +91,7 @@ module _ (f : Settings) where
   unfolding heldPlace
   no-frame h c n e = rw h
 
--- ---- what `locate_both` answers, in a frame that a message holds
+-- ---- what `locate_both` answers, in a settings that a message holds
 
 module _ (f : Settings) (h : Fields f) (n e : ℤ) where
   abbrev r : TwoPlaces

@@ -9,7 +9,7 @@ use Rattle.layout.specs.Layout.{valueIn}
 use Rattle.record_grids.specs.declared.Settings.{Settings}
 use Rattle.grid_refusals.specs.Refusals.{ellipsoidal}
 
--- what the ranges of the fields say of the frame of a grid that a message holds
+-- what the ranges of the fields say of the settings of a grid that a message holds
 pub record Fields (f : Settings) : Type 0 where
   pub north : natAbs (valueIn (f .origin .north)) ≤ 67108864
   pub east : natAbs (valueIn (f .origin .east)) ≤ 67108864

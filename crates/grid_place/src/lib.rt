@@ -168,7 +168,7 @@ fn origin_held(number: i64, north: i64, east: i64) -> bool
     field::magnitude(east) <= 67108864
 }
 
-// The frame is one that a grid message holds.
+// The settings is one that a grid message holds.
 fn settings_held(f: Settings) -> bool
     ensures { λ r. ⌜ r ≡ settingsHeld f ⌝ }
 {
@@ -190,7 +190,7 @@ fn settings_held(f: Settings) -> bool
     spacing_held(spacing.east)
 }
 
-// RANGE where no grid message holds the frame, COMPONENT to OUTSIDE, or the place of a position in the grid.
+// RANGE where no grid message holds the settings, COMPONENT to OUTSIDE, or the place of a position in the grid.
 pub fn locate(f: Settings, component: u8, north: i64, east: i64) -> Located
     ensures { λ r. ⌜ r ≡ heldPlace f component north east ⌝ }
 {

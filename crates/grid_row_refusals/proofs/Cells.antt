@@ -18,7 +18,7 @@ use Rattle.layout.specs.Layout.{valueIn}
 use Rattle.record_rows.specs.Numbers.{says}
 use Rattle.record_grids.specs.declared.Grid.{Grid}
 use Rattle.record_grids.specs.declared.Settings.{Settings}
-use Rattle.record_grids.specs.Grids.{gridOf, frameOf}
+use Rattle.record_grids.specs.Grids.{gridOf, settingsOf}
 use Rattle.message_rows.specs.Message.{row, kindRefusal}
 use Rattle.grid_refusals.specs.Refusals.{beyond, ellipsoidal, fieldTests}
 use Rattle.grid_bilinear.specs.Bilinear.{fromEdge, outside, cell}
@@ -96,7 +96,7 @@ module _ (s : List ℕ) (h : kindRefusal 1023 1024 s ≡ 0) (c : ℕ) (n e : ℤ
   g = gridOf (says (row s))
 
   abbrev p : Located
-  p = located (frameOf g) c n e
+  p = located (settingsOf g) c n e
 
   abbrev H : ℕ
   H = surface g c .H
@@ -124,24 +124,24 @@ module _ (s : List ℕ) (h : kindRefusal 1023 1024 s ≡ 0) (c : ℕ) (n e : ℤ
     place = place-is g c n e fields found
 
     -- the tests that the first position passed
-    none : first (placeTests (frameOf g) c n e) ≡ 0
+    none : first (placeTests (settingsOf g) c n e) ≡ 0
     none = none-before g c n e fields found
 
-    early : first (fieldTests (frameOf g) c n e) ≡ 0
+    early : first (fieldTests (settingsOf g) c n e) ≡ 0
     early =
-        passes (fieldTests (frameOf g) c n e) ((14, outside (heightOf (frameOf g)) (northFrom (frameOf g) n) || outside (widthOf (frameOf g)) (eastFrom (frameOf g) e)) ∷ []) tt none .0
+        passes (fieldTests (settingsOf g) c n e) ((14, outside (heightOf (settingsOf g)) (northFrom (settingsOf g) n) || outside (widthOf (settingsOf g)) (eastFrom (settingsOf g) e)) ∷ []) tt none .0
 
     north-in : outside H (northOf g n) ≡ false
-    unfolding frameOf surface northOf
-    north-in = inside (frameOf g) c n e none .north
+    unfolding settingsOf surface northOf
+    north-in = inside (settingsOf g) c n e none .north
 
     east-in : outside W (eastOf g e) ≡ false
-    unfolding frameOf surface eastOf
-    east-in = inside (frameOf g) c n e none .east
+    unfolding settingsOf surface eastOf
+    east-in = inside (settingsOf g) c n e none .east
 
     spaced : ((0 < H) × (H ≤ 40950000)) × ((0 < W) × (W ≤ 40950000))
-    unfolding frameOf surface
-    spaced = spacings (frameOf g) n e (fields .frame) (inside (frameOf g) c n e none .early)
+    unfolding settingsOf surface
+    spaced = spacings (settingsOf g) n e (fields .settings) (inside (settingsOf g) c n e none .early)
 
     -- those of the second
     on-width : Z - l * W + t ≤ W
@@ -165,9 +165,9 @@ module _ (s : List ℕ) (h : kindRefusal 1023 1024 s ≡ 0) (c : ℕ) (n e : ℤ
     on-inside : outside W (eastOf g (e +ℤ pos t)) ≡ false
     on-inside = ap (outside W) on-east ∙ still-inside W (eastOf g e) t east-in on-grid
 
-    on-tests : first (fieldTests (frameOf g) c n (e +ℤ pos t)) ≡ 0
-    unfolding frameOf
-    on-tests = other (ltb 2 c) (beyond (g .number) n e) (beyond (g .number) n (e +ℤ pos t)) (drop 2 (fieldTests (frameOf g) c n e)) early near
+    on-tests : first (fieldTests (settingsOf g) c n (e +ℤ pos t)) ≡ 0
+    unfolding settingsOf
+    on-tests = other (ltb 2 c) (beyond (g .number) n e) (beyond (g .number) n (e +ℤ pos t)) (drop 2 (fieldTests (settingsOf g) c n e)) early near
 
     -- the place in the cell of the first
     on-place : placeAt g c k l Y (Z + t) ≡ further p t

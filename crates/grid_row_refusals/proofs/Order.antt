@@ -16,13 +16,13 @@ use Rattle.arith.proofs.Tests.{all-at, false-ne-true}
 use Rattle.record_rows.specs.Numbers.{says}
 use Rattle.record_grids.specs.declared.Grid.{Grid}
 use Rattle.record_grids.specs.declared.Settings.{Settings}
-use Rattle.record_grids.specs.Grids.{gridOf, frameOf}
+use Rattle.record_grids.specs.Grids.{gridOf, settingsOf}
 use Rattle.record_grids.specs.Inner.{settingsAt}
 use Rattle.message_rows.specs.Message.{tests, numberOf, row, kindRefusal}
 use Rattle.grid_fields.specs.Inner.{gridSays}
 use Rattle.grid_refusals.specs.Refusals.{beyond}
 use Rattle.grid_shifts.specs.Shift.{messageShift}
-use Rattle.grid_shifts.proofs.Said.{frame-said}
+use Rattle.grid_shifts.proofs.Said.{settings-said}
 use Rattle.grid_row_refusals.specs.ShiftRow.{eastAt, anyBeyond, misplaced, refusedTest, shiftRowRefusal}
 use Rattle.grid_row_refusals.specs.Private.{Ready, firstRefused}
 use Rattle.grid_row_refusals.proofs.Refused.{refused, behind, none-of, refused-same}
@@ -62,17 +62,17 @@ pub natural-step : (z : ℤ) → ltZ z (pos 0) ≡ false → pos (natAbs z) ≡ 
 natural-step (pos m) h = refl
 natural-step (negsuc m) h = absurd (false-ne-true (sym h))
 
--- the number that the frame says
+-- the number that the settings says
 pub number-said : (s : List ℕ) {f : Settings} → kindRefusal 1023 1024 s ≡ 0 → f ≡ settingsAt (gridSays s) → f .number ≡ gridOf (says (row s)) .number
-unfolding frameOf
-number-said s h k = ap (λ (f : Settings). f .number) (k ∙ frame-said s h)
+unfolding settingsOf
+number-said s h k = ap (λ (f : Settings). f .number) (k ∙ settings-said s h)
 
 pub ready : {s : List ℕ} {f : Settings} {n e step : ℤ} {count : ℕ} → kindRefusal 1023 1024 s ≡ 0 → f ≡ settingsAt (gridSays s)
     → Fit (gridOf (says (row s)) .number) n e step count → Ready s f n e (natAbs step) count
 ready {s} {f} {n} {e} {step} {count} h k p =
     record {
       kind = h;
-      frame = k;
+      settings = k;
       most = p .most;
       near = λ j l. (λ i. beyond (number-said s h k i) n (eastAt e (natural-step step (p .up) i) j)) ∙ p .near j l;
     }

@@ -37,7 +37,7 @@ module _ {s : List ℕ} {f : Settings} {n e : ℤ} {step count : ℕ} (r : Ready
   ready-rest =
       record {
         kind = r .kind;
-        frame = r .frame;
+        settings = r .settings;
         most = omega (arith, r .most);
         near = λ k b. subst (λ (z : ℤ). beyond (f .number) n z ≡ false) (sym (twice e step i k)) (r .near (i + k) (omega arith));
       }

@@ -14,7 +14,7 @@ use Rattle.layout.specs.Layout.{valueIn}
 use Rattle.record_rows.specs.Numbers.{says}
 use Rattle.record_grids.specs.declared.Settings.{Settings}
 use Rattle.record_grids.specs.declared.Grid.{Grid}
-use Rattle.record_grids.specs.Grids.{gridOf, frameOf}
+use Rattle.record_grids.specs.Grids.{gridOf, settingsOf}
 use Rattle.record_grids.specs.Inner.{settingsAt}
 use Rattle.message_rows.specs.Message.{row, kindRefusal}
 use Rattle.grid_refusals.specs.Refusals.{beyond}
@@ -32,31 +32,31 @@ use Rattle.grid_counts.specs.Inner.{valuesIn, countAt}
 use Rattle.grid_shifts.specs.Private.{Held, nodesIn, cellShift}
 use Rattle.grid_shifts.proofs.Parts.{Bounded, cell-outcome, refused-as, weightsAt, summed}
 use Rattle.grid_shifts.proofs.Accepted.{message-passed, message-fields}
-use Rattle.grid_shifts.proofs.Said.{frame-said, mean-said, nodes-said}
+use Rattle.grid_shifts.proofs.Said.{settings-said, mean-said, nodes-said}
 use Rattle.grid_row_refusals.specs.ShiftRow.{eastAt}
 use Rattle.grid_row_refusals.specs.Private.{lackingAt, firstRefused}
 use Rattle.grid_row_refusals.proofs.Refused.{one, refused-same, fifteen}
 use Rattle.grid_row_refusals.proofs.Reaches.{in-run}
 use Rattle.grid_row_refusals.proofs.Cells.{further, on-in-cell}
 
-module _ (s : List ℕ) (h : kindRefusal 1023 1024 s ≡ 0) {f : Settings} (frame : f ≡ settingsAt (gridSays s)) (c : ℕ) (n e : ℤ) {p : Located} (is : p ≡ heldPlace f c n e) where
+module _ (s : List ℕ) (h : kindRefusal 1023 1024 s ≡ 0) {f : Settings} (settings : f ≡ settingsAt (gridSays s)) (c : ℕ) (n e : ℤ) {p : Located} (is : p ≡ heldPlace f c n e) where
   abbrev g : Grid
   g = gridOf (says (row s))
 
   fields : Held g
   fields = message-fields s c n e h
 
-  frame-is : f ≡ frameOf g
-  frame-is = frame ∙ frame-said s h
+  settings-is : f ≡ settingsOf g
+  settings-is = settings ∙ settings-said s h
 
-  place : p ≡ located (frameOf g) c n e
-  place = is ∙ ap (λ (q : Settings). heldPlace q c n e) frame-is ∙ held-place (frameOf g) (fields .frame) c n e
+  place : p ≡ located (settingsOf g) c n e
+  place = is ∙ ap (λ (q : Settings). heldPlace q c n e) settings-is ∙ held-place (settingsOf g) (fields .settings) c n e
 
   -- a place that is refused before its cell is looked at
   pub refused-there : (p .refusal ≡ 0 → ⊥) → messageShift s c n e .refusal ≡ p .refusal
   unfolding messageShift shiftWith outcome
   refused-there k =
-      let q : p .refusal ≡ first (placeTests (frameOf g) c n e) = ap (λ (q : Located). q .refusal) place ∙ located-refusal (frameOf g) c n e in
+      let q : p .refusal ≡ first (placeTests (settingsOf g) c n e) = ap (λ (q : Located). q .refusal) place ∙ located-refusal (settingsOf g) c n e in
       sym (refused-as g c n e q k ∙ message-passed s c n e h)
 
   module _ (found : p .refusal ≡ 0) where
@@ -69,16 +69,16 @@ module _ (s : List ℕ) (h : kindRefusal 1023 1024 s ≡ 0) {f : Settings} (fram
     mean-is : mean ≡ part c (g .mean)
     mean-is = mean-said s h c
 
-    there : located (frameOf g) c n e .refusal ≡ 0
+    there : located (settingsOf g) c n e .refusal ≡ 0
     there = subst (λ (q : Located). q .refusal ≡ 0) place found
 
     nodes-are : nodes ≡ nodesIn (g .nodes) c (p .row) (p .column)
     nodes-are =
-        let b = subst (λ (q : Located). (q .row ≤ 2) × (q .column ≤ 2)) (sym place) (in-grid (frameOf g) c n e (fields .frame) there) in
+        let b = subst (λ (q : Located). (q .row ≤ 2) × (q .column ≤ 2)) (sym place) (in-grid (settingsOf g) c n e (fields .settings) there) in
         nodes-said s h c (p .row) (p .column) (b .0) (b .1) refl
 
     pub in-cell : Within (p .height) (p .width) (p .north) (p .east)
-    in-cell = subst (λ (q : Located). Within (q .height) (q .width) (q .north) (q .east)) (sym place) (within (frameOf g) c n e (fields .frame) there)
+    in-cell = subst (λ (q : Located). Within (q .height) (q .width) (q .north) (q .east)) (sym place) (within (settingsOf g) c n e (fields .settings) there)
 
     pub bounded : {k : Weights} → Weighed k → Bounded (valueIn mean) (valuesIn nodes) k
     bounded w = rw (mean-is, nodes-are) record { mean = summed-there .mean; nodes = summed-there .nodes; weights = w }
@@ -88,13 +88,13 @@ module _ (s : List ℕ) (h : kindRefusal 1023 1024 s ≡ 0) {f : Settings} (fram
 
     -- t steps further east in the cell
     pub shift-there : (t : ℕ) → beyond (f .number) n (e +ℤ pos t) ≡ false → p .east + t ≤ p .width → messageShift s c n (e +ℤ pos t) ≡ cellShift (f .number) c mean nodes (weightsAt (further p t))
-    unfolding frameOf
+    unfolding settingsOf
     shift-there t near b =
-        let back : located (frameOf g) c n e ≡ p = sym place in
-        on-in-cell s h c n e there t (subst (λ (q : Settings). beyond (q .number) n (e +ℤ pos t) ≡ false) frame-is near)
+        let back : located (settingsOf g) c n e ≡ p = sym place in
+        on-in-cell s h c n e there t (subst (λ (q : Settings). beyond (q .number) n (e +ℤ pos t) ≡ false) settings-is near)
         (subst (λ (q : Located). q .east + t ≤ q .width) place b)
         ∙ (λ i. cellShift (g .number) c (part c (g .mean)) (nodesIn (g .nodes) c (back i .row) (back i .column)) (weightsAt (further (back i) t)))
-        ∙ sym (λ i. cellShift (frame-is i .number) c (mean-is i) (nodes-are i) (weightsAt (further p t)))
+        ∙ sym (λ i. cellShift (settings-is i .number) c (mean-is i) (nodes-are i) (weightsAt (further p t)))
 
     -- place j of a row from there on
     module _ (step j : ℕ) (near : beyond (f .number) n (eastAt e (pos step) j) ≡ false) (b : p .east + j * step ≤ p .width) where

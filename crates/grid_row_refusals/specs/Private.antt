@@ -24,10 +24,10 @@ use Rattle.grid_row_refusals.specs.declared.Run.{Run}
 abbrev pub lackingAt : Reading → Nodes → (h w y x : ℕ) → Bool
 lackingAt mean n h w y x = lacking mean n (weightsOf h w y x)
 
--- a grid message and its frame, and places from e on, each a step further, none of them past the limits
+-- a grid message and its settings, and places from e on, each a step further, none of them past the limits
 pub record Ready (s : List ℕ) (f : Settings) (n e : ℤ) (step count : ℕ) : Type 0 where
   pub kind : kindRefusal 1023 1024 s ≡ 0
-  pub frame : f ≡ settingsAt (gridSays s)
+  pub settings : f ≡ settingsAt (gridSays s)
   pub most : count ≤ 4096
   pub near : (k : ℕ) → k < count → beyond (f .number) n (eastAt e (pos step) k) ≡ false
 

@@ -70,13 +70,13 @@ module _ {s : List ℕ} {f : Settings} {c : ℕ} {n e : ℤ} {step count room : 
       by : (m : ℕ) → p .refusal ≡ m → m ≡ 0
       by zero q = refl
       by (suc m) q =
-          let z : p .refusal ≡ 0 = sym (refused-there s (r .kind) (r .frame) c n t is (λ z. absurd (omega (arith, q, z)))) ∙ a .none i l in
+          let z : p .refusal ≡ 0 = sym (refused-there s (r .kind) (r .settings) c n t is (λ z. absurd (omega (arith, q, z)))) ∙ a .none i l in
           absurd (omega (arith, q, z))
 
   pub bounds : Standing (valueIn (meanSays s c)) (valuesIn (cellSays s c (p .row) (p .column))) p
   bounds =
-      let w = in-cell s (r .kind) (r .frame) c n t is found in
-      let b = bounded s (r .kind) (r .frame) c n t is found (weighed w) in
+      let w = in-cell s (r .kind) (r .settings) c n t is found in
+      let b = bounded s (r .kind) (r .settings) c n t is found (weighed w) in
       record { mean = b .mean; nodes = b .nodes; within = w }
 
   -- places of the cell
@@ -90,6 +90,6 @@ module _ {s : List ℕ} {f : Settings} {c : ℕ} {n e : ℤ} {step count room : 
         let k : i + j < count = omega arith in
         count-on bounds (f .number) c step j w
         ∙ sym
-        (count-there s (r .kind) (r .frame) c n t is found step j (r .near j (omega arith)) w
+        (count-there s (r .kind) (r .settings) c n t is found step j (r .near j (omega arith)) w
         (ap (λ (z : ℤ). messageShift s c n z .refusal) (twice e step i j) ∙ a .none (i + j) k))
         ∙ ap (λ (z : ℤ). messageShift s c n z .count) (twice e step i j))

@@ -26,7 +26,7 @@ use Rattle.layout_tables.proofs.Length.{length-1023, length-1024, total-1023, t
 use Rattle.record_rows.specs.Numbers.{says, numberAt, pairRow, valuesOf, presentOf}
 use Rattle.record_grids.specs.declared.Grid.{Grid}
 use Rattle.record_grids.specs.declared.Shifts.{Shifts}
-use Rattle.record_grids.specs.Grids.{gridOf, frameOf, gridRow, nodesRow, originRow, spacingRow, shiftsRow}
+use Rattle.record_grids.specs.Grids.{gridOf, settingsOf, gridRow, nodesRow, originRow, spacingRow, shiftsRow}
 use Rattle.message_rows.specs.Message.{tests, numberOf, layout, row, rowLayout, kindRefusal, kindRow, kindWriteRefusal, ofKind, rowHeld}
 use Rattle.message_records.specs.Kinds.{gridHeld}
 use Rattle.message_records.proofs.RecordTrips.{grid-row}
@@ -173,11 +173,11 @@ fields-by : (g : Grid) (a : List ℕ) → let es : List ℕ = a ++ points in len
     → Upto (getD es 8 0) 16384 → Upto (getD es 9 0) 16384 → Upto (getD es 10 0) 16384
     → (takes (getD es 5 0) (g .origin .east) ≡ true → ellipsoidal (g .number) ≡ true → natAbs (valueIn (g .origin .east)) ≤ 1296000)
     → allTake es (gridRow g) ≡ true → Held g
-unfolding gridRow frameOf pairRow originRow spacingRow shiftsRow
+unfolding gridRow settingsOf pairRow originRow spacingRow shiftsRow
 fields-by g a l m north east rows columns p q r turn h =
     let t : (i : ℕ) → i < length (a ++ points) → takes (getD (a ++ points) i 0) (says (gridRow g) i) ≡ true = takes-at (a ++ points) (gridRow g) h in
     record {
-      frame =
+      settings =
           record {
             north = bounded _ (g .origin .north) 67108864 (t 4 (omega arith)) north;
             east = bounded _ (g .origin .east) 67108864 (t 5 (omega arith)) east;

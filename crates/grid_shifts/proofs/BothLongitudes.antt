@@ -17,7 +17,7 @@ use Rattle.arith.proofs.Tests.{both-first, both-second}
 use Rattle.arith.proofs.Int.{nat, minus, _⊞_, _⊟_, _⊠_, ring}
 use Rattle.arith.proofs.Int as Int
 use Rattle.record_grids.specs.declared.Grid.{Grid}
-use Rattle.record_grids.specs.Grids.{gridOf, frameOf}
+use Rattle.record_grids.specs.Grids.{gridOf, settingsOf}
 use Rattle.layout.specs.Layout.{valueIn}
 use Rattle.record_rows.specs.Numbers.{says}
 use Rattle.message_rows.specs.Message.{tests, refusal, numberOf, row}
@@ -70,7 +70,7 @@ module _ (s : List ℕ) (c : ℕ) (n : ℤ) where
   tests-both t =
       ap
       (λ (v : ℤ).
-      fieldTests (frameOf g) c n (pos halfTurn)
+      fieldTests (settingsOf g) c n (pos halfTurn)
       ++ ((14, outside (surface g c .H) (northOf g n) || outside (surface g c .W) v) ∷ (15, absent (surface g c) (northOf g n) v) ∷ []))
       (east-both g t)
 

@@ -9,7 +9,7 @@ use lib.Dec.{T}
 use lib.Ieee.{binary64, whole, ofInt, toSigned}
 use Rattle.arith.specs.First.{first}
 use Rattle.record_grids.specs.declared.Grid.{Grid}
-use Rattle.record_grids.specs.Grids.{gridOf, frameOf}
+use Rattle.record_grids.specs.Grids.{gridOf, settingsOf}
 use Rattle.record_rows.specs.Numbers.{says}
 use Rattle.message_rows.specs.Message.{row, kindRefusal}
 use Rattle.grid_bilinear.specs.Bilinear.{nearestWhole, fromEdge, outside, exact}
@@ -47,7 +47,7 @@ module _ (s : List ℕ) (c : ℕ) (n e : ℤ) where
 
     -- every cell that holds the place gives the answer
     module _
-        (f : first (fieldTests (frameOf g) c n e) ≡ 0)
+        (f : first (fieldTests (settingsOf g) c n e) ≡ 0)
         (a : outside (surface g c .H) (northOf g n) ≡ false)
         (b : outside (surface g c .W) (eastOf g e) ≡ false)
         (k l : ℕ)
@@ -61,10 +61,10 @@ module _ (s : List ℕ) (c : ℕ) (n e : ℤ) where
 
       pub shared-answer : k * surface g c .H ≤ Y → Y ≤ suc k * surface g c .H → l * surface g c .W ≤ X → X ≤ suc l * surface g c .W
           → messageShift s c n e ≡ inCellShift g c k l Y X
-      unfolding messageShift surface frameOf northOf eastOf
+      unfolding messageShift surface settingsOf northOf eastOf
       shared-answer p q r t =
-          let d = spacings (frameOf g) n e (message-fields s c n e h .frame) (early (frameOf g) c n e f) in
-          ap (shiftWith g c n e) (sym (message-passed s c n e h)) ∙ sym (in-out g c n e (both-pass (frameOf g) c n e f a b))
+          let d = spacings (settingsOf g) n e (message-fields s c n e h .settings) (early (settingsOf g) c n e f) in
+          ap (shiftWith g c n e) (sym (message-passed s c n e h)) ∙ sym (in-out g c n e (both-pass (settingsOf g) c n e f a b))
           ∙ ap₂
           (λ (m : Bool) (z : ℤ). outcome (g .number) c (cond m 15 0) (surface g c .mean +ℤ nearestWhole z (surface g c .H * surface g c .W)))
           (shared-absent (surface g c) (d .0 .0) (d .1 .0) k l Y X hk hl p q r t)

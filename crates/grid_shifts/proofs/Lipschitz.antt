@@ -7,7 +7,7 @@ use Rattle.grid_refusals.specs.Refusals.{ellipsoidal}
 use Prim.Native.Nat.{ℕ, _<_}
 use lib.IntN.{ℤ, pos, negℤ, _*ℤ_}
 use Rattle.record_grids.specs.declared.Grid.{Grid}
-use Rattle.record_grids.specs.Grids.{gridOf, frameOf}
+use Rattle.record_grids.specs.Grids.{gridOf, settingsOf}
 use Rattle.layout.specs.Layout.{valueIn}
 use Rattle.record_rows.specs.Numbers.{says}
 use Rattle.message_rows.specs.Message.{row}
@@ -34,8 +34,8 @@ module _ (s : List ℕ) (c : ℕ) (n e : ℤ) (h : shiftRefusal s c n e ≡ 0) w
   fields = message-fields s c n e (message-none s c n e h .0)
 
   pub spaced : (0 < surface g c .H) × (0 < surface g c .W)
-  unfolding surface frameOf
-  spaced = let p = spacings (frameOf g) n e (fields .frame) (placed .early) in (p .0 .0, p .1 .0)
+  unfolding surface settingsOf
+  spaced = let p = spacings (settingsOf g) n e (fields .settings) (placed .early) in (p .0 .0, p .1 .0)
 
   pub counted : messageShift s c n e .count ≡ interpolated (surface g c) (northOf g n) (eastOf g e)
   unfolding messageShift shiftWith outcome

@@ -16,7 +16,7 @@ use Rattle.arith.proofs.Machine.{Num, lit, arg, mul}
 use Rattle.field.specs.declared.Reading.{Reading}
 use Rattle.layout.specs.Layout.{valueIn}
 use Rattle.record_grids.specs.declared.Grid.{Grid}
-use Rattle.record_grids.specs.Grids.{frameOf}
+use Rattle.record_grids.specs.Grids.{settingsOf}
 use Rattle.grid_bilinear.specs.Bilinear.{nearestWhole, fromEdge, outside, cell, inCell, exact, interpolated, absentIn, absent}
 use Rattle.grid_cell.specs.Inner.{weightsOf, weightsIn, sumOf}
 use Rattle.grid_cell.specs.Private.{Within, Weighed, Most}
@@ -130,7 +130,7 @@ cell-is g c k l y x w b =
 
 module _ (g : Grid) (c : ℕ) (n e : ℤ) where
   abbrev p : Located
-  p = located (frameOf g) c n e
+  p = located (settingsOf g) c n e
 
   abbrev H : ℕ
   H = surface g c .H
@@ -151,35 +151,35 @@ module _ (g : Grid) (c : ℕ) (n e : ℤ) where
   late = (15, absent (surface g c) (northOf g n) (eastOf g e)) ∷ []
 
   -- a refusal of the place
-  pub refused-as : {r : ℕ} → r ≡ first (placeTests (frameOf g) c n e) → (r ≡ 0 → ⊥) → r ≡ first (gridTests g c n e)
-  unfolding frameOf surface northOf eastOf
-  refused-as h k = stops (placeTests (frameOf g) c n e) late tt h k
+  pub refused-as : {r : ℕ} → r ≡ first (placeTests (settingsOf g) c n e) → (r ≡ 0 → ⊥) → r ≡ first (gridTests g c n e)
+  unfolding settingsOf surface northOf eastOf
+  refused-as h k = stops (placeTests (settingsOf g) c n e) late tt h k
 
   pub refused-out : (s : Shift) → (p .refusal ≡ 0 → ⊥) → Refuses (p .refusal) s → s ≡ shiftWith g c n e (first (gridTests g c n e))
   unfolding shiftWith
   refused-out s k h =
-      refuses (g .number) c (p .refusal) _ s h k ∙ ap answer (refused-as (located-refusal (frameOf g) c n e) k)
+      refuses (g .number) c (p .refusal) _ s h k ∙ ap answer (refused-as (located-refusal (settingsOf g) c n e) k)
 
   -- the answer in the cell of the place
-  passed-as : first (placeTests (frameOf g) c n e) ≡ 0 → cond (absent (surface g c) (northOf g n) (eastOf g e)) 15 0 ≡ first (gridTests g c n e)
-  unfolding frameOf surface northOf eastOf
-  passed-as h = goes-on (placeTests (frameOf g) c n e) late tt h
+  passed-as : first (placeTests (settingsOf g) c n e) ≡ 0 → cond (absent (surface g c) (northOf g n) (eastOf g e)) 15 0 ≡ first (gridTests g c n e)
+  unfolding settingsOf surface northOf eastOf
+  passed-as h = goes-on (placeTests (settingsOf g) c n e) late tt h
 
-  pub in-out : first (placeTests (frameOf g) c n e) ≡ 0 → inCellShift g c (cell H y) (cell W x) y x ≡ shiftWith g c n e (first (gridTests g c n e))
+  pub in-out : first (placeTests (settingsOf g) c n e) ≡ 0 → inCellShift g c (cell H y) (cell W x) y x ≡ shiftWith g c n e (first (gridTests g c n e))
   unfolding shiftWith interpolated exact absent
   in-out h = ap answer (passed-as h)
 
   -- of a grid that a message holds
   module _ (k : Held g) (h : p .refusal ≡ 0) where
-    pub none-before : first (placeTests (frameOf g) c n e) ≡ 0
-    none-before = sym (located-refusal (frameOf g) c n e) ∙ h
+    pub none-before : first (placeTests (settingsOf g) c n e) ≡ 0
+    none-before = sym (located-refusal (settingsOf g) c n e) ∙ h
 
     pub place-is : p ≡ placeAt g c (cell H y) (cell W x) y x
-    unfolding frameOf surface northOf eastOf
+    unfolding settingsOf surface northOf eastOf
     place-is =
-        let f = frameOf g in
+        let f = settingsOf g in
         let i = inside f c n e none-before in
-        let d = spacings f n e (k .frame) (i .early) in
+        let d = spacings f n e (k .settings) (i .early) in
         located-in f c n e none-before
         ∙ rw (
           along-steps (heightOf f) (northFrom f n) (d .0 .0) (d .0 .1) (i .north),
@@ -189,7 +189,7 @@ module _ (g : Grid) (c : ℕ) (n e : ℤ) where
         )
 
     in-cell-of : In p
-    in-cell-of = within (frameOf g) c n e (k .frame) h
+    in-cell-of = within (settingsOf g) c n e (k .settings) h
 
     pub summed-in : Summed g c (p .row) (p .column) p
     summed-in = summed g c (p .row) (p .column) p k in-cell-of
@@ -225,29 +225,29 @@ module _ (g : Grid) (c : ℕ) (n e : ℤ) where
 -- ---- a position that is answered
 
 pub record Answered (g : Grid) (c : ℕ) (n e : ℤ) : Type 0 where
-  pub early : Early (frameOf g) n e
+  pub early : Early (settingsOf g) n e
   pub north : outside (surface g c .H) (northOf g n) ≡ false
   pub east : outside (surface g c .W) (eastOf g e) ≡ false
-  pub found : located (frameOf g) c n e .refusal ≡ 0
+  pub found : located (settingsOf g) c n e .refusal ≡ 0
 
 pub answered : (g : Grid) (c : ℕ) (n e : ℤ) → first (gridTests g c n e) ≡ 0 → Answered g c n e
-unfolding frameOf surface northOf eastOf
+unfolding settingsOf surface northOf eastOf
 answered g c n e h =
-    let p = passes (placeTests (frameOf g) c n e) (late g c n e) tt h .0 in
-    let i = inside (frameOf g) c n e p in
-    record { early = i .early; north = i .north; east = i .east; found = located-refusal (frameOf g) c n e ∙ p }
+    let p = passes (placeTests (settingsOf g) c n e) (late g c n e) tt h .0 in
+    let i = inside (settingsOf g) c n e p in
+    record { early = i .early; north = i .north; east = i .east; found = located-refusal (settingsOf g) c n e ∙ p }
 
 -- ---- one part of a call: r is the refusal of the component's place and t a place that is this one where r is 0
 
-module _ (g : Grid) (c : ℕ) (n e : ℤ) (f : Held g) {r : ℕ} {t : Located} (a : r ≡ located (frameOf g) c n e .refusal) (b : r ≡ 0 → t ≡ located (frameOf g) c n e) where
-  none-at : r ≡ 0 → located (frameOf g) c n e .refusal ≡ 0
+module _ (g : Grid) (c : ℕ) (n e : ℤ) (f : Held g) {r : ℕ} {t : Located} (a : r ≡ located (settingsOf g) c n e .refusal) (b : r ≡ 0 → t ≡ located (settingsOf g) c n e) where
+  none-at : r ≡ 0 → located (settingsOf g) c n e .refusal ≡ 0
   none-at z = sym a ∙ z
 
   pub call-cell : r ≡ 0 → (t .row ≤ 2) × (t .column ≤ 2)
-  call-cell z = rw (b z) (in-grid (frameOf g) c n e (f .frame) (none-at z))
+  call-cell z = rw (b z) (in-grid (settingsOf g) c n e (f .settings) (none-at z))
 
   weights-of-place : r ≡ 0 → weightsIn (t .height) (t .width) (t .north) (t .east) ≡ weightsAt t
-  weights-of-place z = weights-in-is (subst In (sym (b z)) (within (frameOf g) c n e (f .frame) (none-at z)))
+  weights-of-place z = weights-in-is (subst In (sym (b z)) (within (settingsOf g) c n e (f .settings) (none-at z)))
 
   module _
       {m : Reading}

@@ -1,4 +1,4 @@
--- What is read at its bits in a grid message is what the message's record says: the frame, the mean of a component, and the nodes of a cell.
+-- What is read at its bits in a grid message is what the message's record says: the settings, the mean of a component, and the nodes of a cell.
 -- Assumes nothing.
 use Prim.Native.Nat.{ℕ, zero, suc, _+_, _-_, _*_, _≤_, _<_, min}
 use mathlib.Core.Path.{_≡_, refl, sym, ap, _∙_}
@@ -14,7 +14,7 @@ use Rattle.layout.specs.Layout.{valueIn}
 use Rattle.record_rows.specs.Numbers.{says, pairAt}
 use Rattle.record_grids.specs.declared.Grid.{Grid}
 use Rattle.record_grids.specs.declared.Shifts.{Shifts}
-use Rattle.record_grids.specs.Grids.{originAt, spacingAt, shiftsAt, nodesAt, gridOf, frameOf}
+use Rattle.record_grids.specs.Grids.{originAt, spacingAt, shiftsAt, nodesAt, gridOf, settingsOf}
 use Rattle.record_grids.specs.Inner.{settingsAt}
 use Rattle.record_grids.proofs.Inverse.{settings-of-grid}
 use Rattle.message_rows.specs.Message.{row, kindRefusal}
@@ -24,10 +24,10 @@ use Rattle.grid_shifts.specs.Shift.{part, nodeOf}
 use Rattle.grid_shifts.specs.Private.{nodesIn}
 use Rattle.grid_fields.specs.declared.Nodes.{Nodes}
 
--- places that say the same give the same frame
-frame-same : (v w : ℕ → Reading) → ((k : ℕ) → k < 64 → v k ≡ w k) → settingsAt v ≡ settingsAt w
+-- places that say the same give the same settings
+settings-same : (v w : ℕ → Reading) → ((k : ℕ) → k < 64 → v k ≡ w k) → settingsAt v ≡ settingsAt w
 unfolding settingsAt pairAt originAt spacingAt
-frame-same v w e =
+settings-same v w e =
     λ i. record {
       number = valueIn (e 0 (omega arith) i);
       indicators = record { horizontal = valueIn (e 2 (omega arith) i); vertical = valueIn (e 3 (omega arith) i) };
@@ -51,8 +51,8 @@ module _ (s : List ℕ) (h : kindRefusal 1023 1024 s ≡ 0) where
   abbrev g : Grid
   g = gridOf v
 
-  pub frame-said : settingsAt (gridSays s) ≡ frameOf g
-  frame-said = frame-same (gridSays s) v (grid-says s h) ∙ sym (settings-of-grid v)
+  pub settings-said : settingsAt (gridSays s) ≡ settingsOf g
+  settings-said = settings-same (gridSays s) v (grid-says s h) ∙ sym (settings-of-grid v)
 
   pub mean-said : (c : ℕ) → meanSays s c ≡ part c (g .mean)
   unfolding meanSays gridOf

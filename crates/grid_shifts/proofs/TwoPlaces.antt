@@ -7,7 +7,7 @@ use Prim.Native.Nat.{ℕ, _≤_}
 use lib.IntN.{ℤ, pos}
 use Rattle.record_grids.specs.declared.Settings.{Settings}
 use Rattle.record_grids.specs.declared.Grid.{Grid}
-use Rattle.record_grids.specs.Grids.{gridOf, frameOf}
+use Rattle.record_grids.specs.Grids.{gridOf, settingsOf}
 use Rattle.record_rows.specs.Numbers.{says}
 use Rattle.message_rows.specs.Message.{row, kindRefusal}
 use Rattle.message_records.specs.Kinds.{gridHeld}
@@ -23,32 +23,32 @@ use Rattle.grid_shifts.proofs.Accepted.{record-refused, message-refused
 
 -- r is the refusal of a component's place, and t a place that is this one where r is 0
 pub record Side (g : Grid) (c : ℕ) (n e : ℤ) (r : ℕ) (t : Located) : Type 0 where
-  pub refusal : r ≡ located (frameOf g) c n e .refusal
-  pub place : r ≡ 0 → t ≡ located (frameOf g) c n e
+  pub refusal : r ≡ located (settingsOf g) c n e .refusal
+  pub place : r ≡ 0 → t ≡ located (settingsOf g) c n e
 
 -- components 0 and 1 have the same place
 same-side : (f : Settings) (n e : ℤ) → located f 0 n e ≡ located f 1 n e
 unfolding located
 same-side f n e = refl
 
-module _ (g : Grid) (n e : ℤ) (f : Held g) {p : TwoPlaces} (h : p ≡ heldTwoPlaces (frameOf g) n e) where
+module _ (g : Grid) (n e : ℤ) (f : Held g) {p : TwoPlaces} (h : p ≡ heldTwoPlaces (settingsOf g) n e) where
   pub north-side : Side g 0 n e (p .horizontal) (p .place)
   north-side =
       subst (λ (q : TwoPlaces). Side g 0 n e (q .horizontal) (q .place)) (sym h)
-      (record { refusal = horizontal-refusal (frameOf g) (f .frame) n e; place = horizontal-place (frameOf g) (f .frame) n e })
+      (record { refusal = horizontal-refusal (settingsOf g) (f .settings) n e; place = horizontal-place (settingsOf g) (f .settings) n e })
 
   pub east-side : Side g 1 n e (p .horizontal) (p .place)
   east-side =
-      let s = same-side (frameOf g) n e in
+      let s = same-side (settingsOf g) n e in
       record { refusal = north-side .refusal ∙ ap (λ (q : Located). q .refusal) s; place = λ z. north-side .place z ∙ s }
 
   pub height-side : Side g 2 n e (p .vertical) (p .place)
   height-side =
       subst (λ (q : TwoPlaces). Side g 2 n e (q .vertical) (q .place)) (sym h)
-      (record { refusal = vertical-refusal (frameOf g) (f .frame) n e; place = vertical-place (frameOf g) (f .frame) n e })
+      (record { refusal = vertical-refusal (settingsOf g) (f .settings) n e; place = vertical-place (settingsOf g) (f .settings) n e })
 
   pub some-cell : (p .place .row ≤ 2) × (p .place .column ≤ 2)
-  some-cell = subst (λ (q : TwoPlaces). (q .place .row ≤ 2) × (q .place .column ≤ 2)) (sym h) (sides-cell (frameOf g) (f .frame) n e)
+  some-cell = subst (λ (q : TwoPlaces). (q .place .row ≤ 2) × (q .place .column ≤ 2)) (sym h) (sides-cell (settingsOf g) (f .settings) n e)
 
 -- a refusal before the place is looked for
 module _ (c : ℕ) (n e : ℤ) where

@@ -9,7 +9,7 @@ use Rattle.field.specs.declared.Reading.{Reading}
 use Rattle.layout.specs.Layout.{valueIn}
 use Rattle.record_grids.specs.declared.Grid.{Grid}
 use Rattle.record_grids.specs.declared.Shifts.{Shifts}
-use Rattle.record_grids.specs.Grids.{frameOf}
+use Rattle.record_grids.specs.Grids.{settingsOf}
 use Rattle.grid_fields.specs.declared.Nodes.{Nodes}
 use Rattle.grid_place.specs.Private.{Fields}
 use Rattle.grid_cell.specs.declared.Weights.{Weights}
@@ -21,7 +21,7 @@ use Rattle.grid_shifts.specs.declared.Shift.{Shift}
 
 -- of a grid that a message holds
 pub record Held (g : Grid) : Type 0 where
-  pub frame : Fields (frameOf g)
+  pub settings : Fields (settingsOf g)
   pub mean : (c : ℕ) → natAbs (valueIn (part c (g .mean))) ≤ 16384
   pub nodes : (c i j : ℕ) → natAbs (valueIn (nodeOf (g .nodes) c i j)) ≤ 256
 

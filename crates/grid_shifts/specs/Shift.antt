@@ -11,7 +11,7 @@ use Rattle.arith.specs.First.{Test, first}
 use Rattle.arith.specs.Whole.{natural}
 use Rattle.record_grids.specs.declared.Grid.{Grid}
 use Rattle.record_grids.specs.declared.Shifts.{Shifts}
-use Rattle.record_grids.specs.Grids.{gridOf, frameOf}
+use Rattle.record_grids.specs.Grids.{gridOf, settingsOf}
 use Rattle.field.specs.declared.Reading.{Reading}
 use Rattle.field.specs.declared.Reading.the-variants.{Value}
 use Rattle.layout.specs.Layout.{valueIn}
@@ -59,7 +59,7 @@ eastOf g e = eastBy (g .number) (e -ℤ pos (stepsOf (g .number)) *ℤ valueIn (
 
 abbrev pub gridTests : Grid → ℕ → ℤ → ℤ → List Test
 gridTests g c n e =
-    fieldTests (frameOf g) c n e
+    fieldTests (settingsOf g) c n e
     ++ ((14, outside (surface g c .H) (northOf g n) || outside (surface g c .W) (eastOf g e))
     ∷ (15, absent (surface g c) (northOf g n) (eastOf g e))
     ∷ [])

@@ -200,9 +200,9 @@ pub fn shifts_of(grid: Grid, north: i64, east: i64) -> ThreeShifts
     if !message_records::grid_held(grid) {
         return all_refused(5);
     }
-    let frame = record_grids::settings_of(grid);
-    let number = frame.number;
-    let p = grid_place::locate_both(frame, north, east);
+    let settings = record_grids::settings_of(grid);
+    let number = settings.number;
+    let p = grid_place::locate_both(settings, north, east);
     let t = p.place;
     let k = grid_cell::weights_in(t.height, t.width, t.north, t.east);
     let nodes = grid.nodes;

@@ -1,4 +1,4 @@
--- The record of a 1023 or 1024 and its row are each other's inverse, of a row whose unsigned places say values; and a grid's frame is that of its row.
+-- The record of a 1023 or 1024 and its row are each other's inverse, of a row whose unsigned places say values; and a grid's settings is that of its row.
 -- Assumes nothing.
 use Prim.Native.Nat.{ℕ}
 use mathlib.Core.Path.{_≡_, refl, sym, subst}
@@ -11,7 +11,7 @@ use Rattle.record_rows.specs.Numbers.{says, pairAt, pairRow}
 use Rattle.record_rows.proofs.Rows.{Valued, all-of}
 use Rattle.record_grids.specs.declared.Shifts.{Shifts}
 use Rattle.record_grids.specs.declared.Grid.{Grid}
-use Rattle.record_grids.specs.Grids.{originAt, originRow, spacingAt, spacingRow, shiftsAt, shiftsRow, nodesAt, nodesRow, gridOf, gridRow, frameOf}
+use Rattle.record_grids.specs.Grids.{originAt, originRow, spacingAt, spacingRow, shiftsAt, shiftsRow, nodesAt, nodesRow, gridOf, gridRow, settingsOf}
 use Rattle.record_grids.specs.Inner.{settingsAt}
 use Rattle.record_grids.proofs.Appends.{zeroShifts}
 
@@ -65,6 +65,6 @@ grid-of-row r e =
     subst (λ (ns : List Shifts). gridOf (says (gridRow (with-nodes r ns))) ≡ with-nodes r ns)
     (sym (is-upTo f 16 zeroShifts (r .nodes) e (λ i h. refl))) (sixteen r f)
 
-pub settings-of-grid : (v : ℕ → Reading) → frameOf (gridOf v) ≡ settingsAt v
-unfolding frameOf gridOf settingsAt
+pub settings-of-grid : (v : ℕ → Reading) → settingsOf (gridOf v) ≡ settingsAt v
+unfolding settingsOf gridOf settingsAt
 settings-of-grid v = refl

@@ -11,7 +11,7 @@ ghost use Rattle.layout.specs.Layout.{rowOf};
 ghost use Rattle.record_rows.specs.Numbers.{says, valuesOf, presentOf};
 ghost use Rattle.record_rows.specs.Inner.{buffers, numbers};
 ghost use Rattle.record_rows.specs.Private.{Appended};
-ghost use Rattle.record_grids.specs.Grids.{originAt, spacingAt, shiftsAt, shiftsRow, nodesAt, nodesRow, gridOf, gridRow, frameOf};
+ghost use Rattle.record_grids.specs.Grids.{originAt, spacingAt, shiftsAt, shiftsRow, nodesAt, nodesRow, gridOf, gridRow, settingsOf};
 ghost use Rattle.record_grids.specs.Private.{startRow, startMarks, endRow};
 
 // The middle of a grid, north-south and east-west: DF192 and DF193 in a 1023, DF202 and DF203 in a 1024.
@@ -257,14 +257,14 @@ fn end_row(methods: Pair, quality: Pair, day: i64) -> [i64; 5]
 }
 
 // The nodes between the values before and behind them. All behind them are present.
-fn numbers_around(start: &[i64], start_present: &[u8], nodes: [Shifts; 16], end: &[i64]) -> Numbers
-    requires { ⌜ (length (now start) ≡ length (now start_present)) × (length (now start) + length (now end) ≤ 48) ⌝ }
-    ensures { λ n. ⌜ n ≡ buffers true (now (start .entry) ++ valuesOf (nodesRow nodes) ++ now (end .entry)) (now (start_present .entry) ++ presentOf (nodesRow nodes) ++ replicate (length (now (end .entry))) 1) ⌝ }
+fn numbers_around(start: &[i64], presence: &[u8], nodes: [Shifts; 16], end: &[i64]) -> Numbers
+    requires { ⌜ (length (now start) ≡ length (now presence)) × (length (now start) + length (now end) ≤ 48) ⌝ }
+    ensures { λ n. ⌜ n ≡ buffers true (now (start .entry) ++ valuesOf (nodesRow nodes) ++ now (end .entry)) (now (presence .entry) ++ presentOf (nodesRow nodes) ++ replicate (length (now (end .entry))) 1) ⌝ }
 {
     let mut values = [0i64; 96];
     let mut present = [1u8; 96];
     append(&mut values, 0, start);
-    let a = append_bytes(&mut present, 0, start_present);
+    let a = append_bytes(&mut present, 0, presence);
     let b = append_nodes(&mut values, &mut present, a, nodes);
     let count = append(&mut values, b, end);
     Numbers {
@@ -287,14 +287,14 @@ pub fn grid_row(r: Grid) -> Numbers
     let methods = r.methods;
     let quality = r.quality;
     let start = start_row(r.number, r.sin, indicators, origin, spacing, mean);
-    let start_present = start_present(origin, mean);
+    let presence = start_present(origin, mean);
     let end = end_row(methods, quality, r.day);
-    numbers_around(&start, &start_present, nodes, &end)
+    numbers_around(&start, &presence, nodes, &end)
 }
 
 // What a grid says besides its shifts, its quality and its day.
 pub fn settings_of(r: Grid) -> Settings
-    ensures { λ f. ⌜ f ≡ frameOf r ⌝ }
+    ensures { λ f. ⌜ f ≡ settingsOf r ⌝ }
 {
     let indicators = r.indicators;
     let origin = r.origin;

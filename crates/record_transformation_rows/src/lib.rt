@@ -247,12 +247,12 @@ fn named_row(
     source: Name,
     target: Name,
     shared: &[i64],
-    shared_present: &[u8],
+    presence: &[u8],
     tail: &[i64],
-    tail_present: &[u8],
+    tailpresence: &[u8],
 ) -> Numbers
-    requires { ⌜ (length (now shared) ≡ 16) × ((length (now shared_present) ≡ 16) × ((length (now tail) ≤ 9) × (length (now tail_present) ≡ length (now tail)))) ⌝ }
-    ensures { λ n. ⌜ n ≡ buffers (goodName source && goodName target) (valuesOf (names number source target) ++ now (shared .entry) ++ now (tail .entry)) (presentOf (names number source target) ++ now (shared_present .entry) ++ now (tail_present .entry)) ⌝ }
+    requires { ⌜ (length (now shared) ≡ 16) × ((length (now presence) ≡ 16) × ((length (now tail) ≤ 9) × (length (now tailpresence) ≡ length (now tail)))) ⌝ }
+    ensures { λ n. ⌜ n ≡ buffers (goodName source && goodName target) (valuesOf (names number source target) ++ now (shared .entry) ++ now (tail .entry)) (presentOf (names number source target) ++ now (presence .entry) ++ now (tailpresence .entry)) ⌝ }
 {
     if !good_names(source, target) {
         return record_rows::no_numbers();
@@ -262,8 +262,8 @@ fn named_row(
     let a = append_names(&mut values, number, source, target);
     let b = append(&mut values, a, shared);
     let count = append(&mut values, b, tail);
-    let k = append_bytes(&mut present, a, shared_present);
-    append_bytes(&mut present, k, tail_present);
+    let k = append_bytes(&mut present, a, presence);
+    append_bytes(&mut present, k, tailpresence);
     Numbers {
         good: true,
         count,
@@ -284,17 +284,17 @@ pub fn helmert_row(r: Helmert) -> Numbers
     let ellipsoids = r.ellipsoids;
     let quality = r.quality;
     let shared = shared_values(system, area, parameters);
-    let shared_present = shared_present(system, area, parameters);
+    let presence = shared_present(system, area, parameters);
     let tail = last_values(ellipsoids, quality);
-    let tail_present = [1u8; 6];
+    let tailpresence = [1u8; 6];
     named_row(
         r.number,
         source,
         target,
         &shared,
-        &shared_present,
+        &presence,
         &tail,
-        &tail_present,
+        &tailpresence,
     )
 }
 
@@ -311,16 +311,16 @@ pub fn molodenski_badekas_row(r: MolodenskiBadekas) -> Numbers
     let ellipsoids = r.ellipsoids;
     let quality = r.quality;
     let shared = shared_values(system, area, parameters);
-    let shared_present = shared_present(system, area, parameters);
+    let presence = shared_present(system, area, parameters);
     let tail = point_values(point, ellipsoids, quality);
-    let tail_present = point_present(point, ellipsoids, quality);
+    let tailpresence = point_present(point, ellipsoids, quality);
     named_row(
         r.number,
         source,
         target,
         &shared,
-        &shared_present,
+        &presence,
         &tail,
-        &tail_present,
+        &tailpresence,
     )
 }

@@ -313,9 +313,9 @@ module _ (s : List ℕ) (c : ℕ) (all : nodesAvailable s c ≡ true) where
 -- ---- the prepared numbers
 
 module _ (s : List ℕ) (kept : Kept) (c : ℕ) (accepted : kept .refusal ≡ 0) (mean : available (meanSays s c) ≡ true) (nodes : nodesAvailable s c ≡ true) (n₀ e₀ : ℤ)
-    (z : heldPlace (kept .frame) c n₀ e₀ .refusal ≡ 0) where
+    (z : heldPlace (kept .settings) c n₀ e₀ .refusal ≡ 0) where
   abbrev f : Settings
-  f = kept .frame
+  f = kept .settings
 
   abbrev p : Prepared
   p =
@@ -372,19 +372,19 @@ module _ (s : List ℕ) (kept : Kept) (c : ℕ) where
   tested true p h = h refl
   tested false p h = none-serves s kept c (nodeValues s c)
 
-  abbrev frame : Settings
-  frame = kept .frame
+  abbrev settings : Settings
+  settings = kept .settings
 
-  within : (n e : ℤ) → eqb (refusalAt (frame .number) c n e) 0 ≡ true → beyond (frame .number) n e ≡ false
-  within n e h = passed 8 (beyond (frame .number) n e) 0 (passed 7 (ltb 2 c) _ (eqb-true _ 0 h) .1) .0
+  within : (n e : ℤ) → eqb (refusalAt (settings .number) c n e) 0 ≡ true → beyond (settings .number) n e ≡ false
+  within n e h = passed 8 (beyond (settings .number) n e) 0 (passed 7 (ltb 2 c) _ (eqb-true _ 0 h) .1) .0
 
-  edges-serve : kept .refusal ≡ 0 → available (meanSays s c) ≡ true → nodesAvailable s c ≡ true → (n e : ℤ) → Serve (edgesAt s frame c n e)
+  edges-serve : kept .refusal ≡ 0 → available (meanSays s c) ≡ true → nodesAvailable s c ≡ true → (n e : ℤ) → Serve (edgesAt s settings c n e)
   unfolding edgesAt
   edges-serve accepted mean nodes n e =
-      let p = aroundOf (heldPlace frame c n e) n e (pos meanFactor *ℤ valueIn (meanSays s c)) (nodeFactor (frame .number) c) in
-      let x = eqb (heldPlace frame c n e .refusal) 0 in
-      let y = eqb (refusalAt (frame .number) c (p .south) (p .west)) 0 in
-      let z = eqb (refusalAt (frame .number) c (p .north) (p .east)) 0 in
+      let p = aroundOf (heldPlace settings c n e) n e (pos meanFactor *ℤ valueIn (meanSays s c)) (nodeFactor (settings .number) c) in
+      let x = eqb (heldPlace settings c n e .refusal) 0 in
+      let y = eqb (refusalAt (settings .number) c (p .south) (p .west)) 0 in
+      let z = eqb (refusalAt (settings .number) c (p .north) (p .east)) 0 in
       tested (x && y && z) p
       (λ t.
       let u = both-first (x && y) z t in

@@ -18,6 +18,19 @@ use Rattle.grid_component.specs.declared.Kept.{Kept}
 use Rattle.report_prepared.specs.declared.Prepared.{Prepared}
 use Rattle.arith.specs.Lists.{upTo, allBelow}
 
+abbrev pub nodeValue : List ℕ → ℕ → ℕ → ℤ
+nodeValue s c i = valueIn (nodeSays s c i)
+
+abbrev pub nodeAvailable : List ℕ → ℕ → ℕ → Bool
+nodeAvailable s c i = available (nodeSays s c i)
+
+unfoldable pub nodeValues : List ℕ → ℕ → List ℤ
+nodeValues s c = upTo (nodeValue s c) 16
+
+-- all sixteen have values
+unfoldable pub nodesAvailable : List ℕ → ℕ → Bool
+nodesAvailable s c = allBelow (nodeAvailable s c) 16
+
 -- the origin in steps along one direction, or 0 where no message has such a one
 unfoldable pub middleOf : ℤ → ℤ → ℤ
 middleOf number raw = cond (ltb 67108864 (natAbs raw)) (pos 0) (pos (stepsOf number) *ℤ raw)
@@ -56,20 +69,7 @@ edgesAt s f c n e =
 -- those around the origin: none where the message is refused, or the mean or a node has no value
 unfoldable pub preparedOf : List ℕ → Kept → ℕ → Prepared
 preparedOf s kept c =
-    let f = kept .frame in
+    let f = kept .settings in
     cond (eqb (kept .refusal) 0 && available (meanSays s c) && nodesAvailable s c)
     (edgesAt s f c (middleOf (f .number) (valueIn (f .origin .north))) (middleOf (f .number) (valueIn (f .origin .east))))
     noEdges
-
-abbrev pub nodeValue : List ℕ → ℕ → ℕ → ℤ
-nodeValue s c i = valueIn (nodeSays s c i)
-
-abbrev pub nodeAvailable : List ℕ → ℕ → ℕ → Bool
-nodeAvailable s c i = available (nodeSays s c i)
-
-unfoldable pub nodeValues : List ℕ → ℕ → List ℤ
-nodeValues s c = upTo (nodeValue s c) 16
-
--- all sixteen have values
-unfoldable pub nodesAvailable : List ℕ → ℕ → Bool
-nodesAvailable s c = allBelow (nodeAvailable s c) 16

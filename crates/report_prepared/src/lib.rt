@@ -111,9 +111,9 @@ fn around(q: Located, north: i64, east: i64, mean: i64, factor: u64) -> Prepared
 
 // The prepared numbers, by a position in the grid.
 fn prepare_at(message: &[u8], kept: Kept, component: u8, north: i64, east: i64) -> Prepared
-    ensures { λ r. ⌜ r ≡ edgesAt (now (message .entry)) (kept .frame) component north east ⌝ }
+    ensures { λ r. ⌜ r ≡ edgesAt (now (message .entry)) (kept .settings) component north east ⌝ }
 {
-    let f = kept.frame;
+    let f = kept.settings;
     let q = grid_place::locate(f, component, north, east);
     if q.refusal != 0 {
         return no_edges();
@@ -144,7 +144,7 @@ pub fn prepare(message: &[u8], kept: Kept, component: u8) -> Prepared
     if !nodes_available(message, component) {
         return no_edges();
     }
-    let f = kept.frame;
+    let f = kept.settings;
     let number = f.number;
     let origin = f.origin;
     let latitude = origin.north;

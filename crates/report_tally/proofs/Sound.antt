@@ -52,11 +52,11 @@ refused-or false o r h = zero-le
 kept-most : (s : List ℕ) (kept : Kept) (c : ℕ) (n e : ℤ) → natAbs (countedBy s kept c n e .count) ≤ 10000000
 unfolding countedBy
 kept-most s kept c n e =
-    let p = heldPlace (kept .frame) c n e in
-    let o : Counted = cellCount (kept .frame .number) c (meanSays s c) (cellSays s c (p .row) (p .column)) (weightsIn (p .height) (p .width) (p .north) (p .east)) in
+    let p = heldPlace (kept .settings) c n e in
+    let o : Counted = cellCount (kept .settings .number) c (meanSays s c) (cellSays s c (p .row) (p .column)) (weightsIn (p .height) (p .width) (p .north) (p .east)) in
     refused-or (eqb (kept .refusal) 0) (cond (eqb (p .refusal) 0) o (refusedWith (p .refusal))) (kept .refusal)
     (refused-or (eqb (p .refusal) 0) o (p .refusal)
-    (cell-most (kept .frame .number) c (meanSays s c) (cellSays s c (p .row) (p .column)) (weightsIn (p .height) (p .width) (p .north) (p .east))))
+    (cell-most (kept .settings .number) c (meanSays s c) (cellSays s c (p .row) (p .column)) (weightsIn (p .height) (p .width) (p .north) (p .east))))
 
 pub outcome-sound : (s : List ℕ) (c : ℕ) (n e : ℤ) → Sound (outcomeAt s c n e)
 outcome-sound s c n e =

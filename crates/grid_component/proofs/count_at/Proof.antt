@@ -27,13 +27,13 @@ module _ (k : tie.After-locate) where
   m = s .args .message .now
 
   abbrev p : Located
-  p = heldPlace (s .args .kept .frame) (s .args .component) (s .args .north) (s .args .east)
+  p = heldPlace (s .args .kept .settings) (s .args .component) (s .args .north) (s .args .east)
 
   kept : s .args .kept .refusal ≡ 0
   kept = k .before .before .if1 .left
 
   place : k .locate .result ≡ p
-  place = k .locate .ensures ∙ (λ i. heldPlace (s .args .kept .frame) (s .args .component) (is-back (s .fits .north) i) (is-back (s .fits .east) i))
+  place = k .locate .ensures ∙ (λ i. heldPlace (s .args .kept .settings) (s .args .component) (is-back (s .fits .north) i) (is-back (s .fits .east) i))
 
 returns-2 : tie.Need-returns-2
 unfolding countedBy
@@ -58,7 +58,7 @@ returns-3 c =
     let none : p k .refusal ≡ 0 = sym (ap (λ (q : Located). q .refusal) (place k)) ∙ t .before .before .before .before .if2 .left in
     c .cell-count .ensures
     ∙ rw (eq-eqb _ 0 (kept k), eq-eqb (p k .refusal) 0 none, ← place k)
-    (λ i. cellCount (held (a .kept .frame .number) (t .struct-told .given .0 .1) i) (a .component) (mean t i) (t .before .nodes-of .ensures i) (t .before .before .before .weights-in .ensures i))
+    (λ i. cellCount (held (a .kept .settings .number) (t .struct-told .given .0 .1) i) (a .component) (mean t i) (t .before .nodes-of .ensures i) (t .before .before .before .weights-in .ensures i))
 
 pub count-at-spec : {M : Type 1} → statement M
 count-at-spec =

@@ -7,7 +7,7 @@ use Rattle.grid_component.proofs.keep.Tie as tie
 
 returns : tie.Need-returns
 unfolding keptOf
-returns c i = record { refusal = c .before .check-kind .ensures i; frame = c .settings-at .ensures i }
+returns c i = record { refusal = c .before .check-kind .ensures i; settings = c .settings-at .ensures i }
 
 pub keep-spec : {M : Type 1} → statement M
 keep-spec = tie.close (tie.spec (λ c κs. search needs) (λ c κs. search needs) returns)

@@ -65,13 +65,13 @@ module _ (k : tie.After-early-refusal) where
   abbrev e : ℤ
   e = s .args .east
 
-  known : k .early-refusal .result ≡ first (fieldTests f c n e)
-  known = k .early-refusal .ensures ∙ (λ i. first (fieldTests f c (is-back (s .fits .north) i) (is-back (s .fits .east) i)))
+  refusal-is : k .early-refusal .result ≡ first (fieldTests f c n e)
+  refusal-is = k .early-refusal .ensures ∙ (λ i. first (fieldTests f c (is-back (s .fits .north) i) (is-back (s .fits .east) i)))
 
 returns : tie.Need-returns
 returns q =
     let k = q .before .before in
-    q .no-place .ensures ∙ early-out (f k) (c k) (n k) (e k) (known k) (q .before .if1 .taken)
+    q .no-place .ensures ∙ early-out (f k) (c k) (n k) (e k) (refusal-is k) (q .before .if1 .taken)
 
 -- ---- north-south
 
@@ -80,7 +80,7 @@ module _ (b : tie.After-struct-told2) where
   k = b .before .before .before .before .before .before
 
   none : first (fieldTests (f k) (c k) (n k) (e k)) ≡ 0
-  none = sym (known k) ∙ b .before .before .before .before .before .if1 .left
+  none = sym (refusal-is k) ∙ b .before .before .before .before .before .if1 .left
 
   known : Early (f k) (n k) (e k)
   known = early (f k) (c k) (n k) (e k) none

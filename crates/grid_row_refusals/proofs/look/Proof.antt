@@ -39,7 +39,7 @@ returns c =
     record {
       some = omega arith;
       most = s .pre .1;
-      refusal = one-refused (m k) (a .component) (a .north) (a .east) _ (refused-there (m k) (r .kind) (r .frame) (a .component) (a .north) (a .east) (is k) (c .if1 .taken));
+      refusal = one-refused (m k) (a .component) (a .north) (a .east) _ (refused-there (m k) (r .kind) (r .settings) (a .component) (a .north) (a .east) (is k) (c .if1 .taken));
     }
 
 module _ (q : tie.After-places-in) where
@@ -53,7 +53,7 @@ module _ (q : tie.After-places-in) where
   found = q .before .if1 .left
 
   within : Within (p k .height) (p k .width) (p k .north) (p k .east)
-  within = let r = b .pre .0 in in-cell (m k) (r .kind) (r .frame) (b .args .component) (b .args .north) (b .args .east) (is k) found
+  within = let r = b .pre .0 in in-cell (m k) (r .kind) (r .settings) (b .args .component) (b .args .north) (b .args .east) (is k) found
 
   reach : Reaches (b .args .left) (p k .width) (p k .east) (b .args .step) (q .places-in .result)
   reach =
@@ -76,7 +76,7 @@ returns-2 c =
       some = w .some;
       most = w .most;
       refusal =
-          run-refused (m k) (r .kind) (r .frame) (a .component) (a .north) (a .east) (is k) (found q) (a .step) n (λ j l. r .near j (omega (arith, l, w .most))) (w .last)
+          run-refused (m k) (r .kind) (r .settings) (a .component) (a .north) (a .east) (is k) (found q) (a .step) n (λ j l. r .near j (omega (arith, l, w .most))) (w .last)
           (c .run-refusal .ensures
           ∙ (λ i. cond (allBelow (λ j. not (lackingAt (c .before .before .mean-at .ensures i) (c .before .nodes-at .ensures i) (p k .height) (p k .width) (p k .north) (p k .east + j * a .step))) n) 0 15));
     }

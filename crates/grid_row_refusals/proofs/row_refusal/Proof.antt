@@ -35,13 +35,13 @@ module _ (k : tie.After-limits-refusal) where
   abbrev m : List ℕ
   m = s .args .message .now
 
-  abbrev frame : Settings
-  frame = k .before .before .settings-at .result
+  abbrev settings : Settings
+  settings = k .before .before .settings-at .result
 
   none : kindRefusal 1023 1024 m ≡ 0
   none = sym (k .before .before .before .before .check-kind .ensures) ∙ k .before .before .before .if1 .left
 
-  number : frame .number ≡ gridOf (says (row m)) .number
+  number : settings .number ≡ gridOf (says (row m)) .number
   number = number-said m none (k .before .before .settings-at .ensures)
 
   known : k .limits-refusal .result
@@ -49,7 +49,7 @@ module _ (k : tie.After-limits-refusal) where
   known =
       k .limits-refusal .ensures
       ∙ (λ i. first ((8, ltb 2 (s .args .component))
-      ∷ (9, misplaced ((held (frame .number) (k .before .struct-told .given .0 .1) ∙ number) i) (is-back (s .fits .north) i) (is-back (s .fits .east) i) (is-back (s .fits .step) i) (s .args .count))
+      ∷ (9, misplaced ((held (settings .number) (k .before .struct-told .given .0 .1) ∙ number) i) (is-back (s .fits .north) i) (is-back (s .fits .east) i) (is-back (s .fits .step) i) (s .args .count))
       ∷ []))
 
 returns-2 : tie.Need-returns-2

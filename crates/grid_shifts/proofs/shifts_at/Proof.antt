@@ -14,7 +14,7 @@ use Rattle.record_rows.specs.Numbers.{says}
 use Rattle.record_grids.specs.declared.Settings.{Settings}
 use Rattle.record_grids.specs.declared.Grid.{Grid}
 use Rattle.record_grids.specs.declared.Shifts.{Shifts}
-use Rattle.record_grids.specs.Grids.{gridOf, frameOf, shiftsAt}
+use Rattle.record_grids.specs.Grids.{gridOf, settingsOf, shiftsAt}
 use Rattle.grid_fields.specs.Inner.{meanSays, cellSays, cellsSay}
 use Rattle.grid_fields.proofs.Says.{grid-long}
 use Rattle.grid_fields.specs.declared.Nodes.{Nodes}
@@ -28,7 +28,7 @@ use Rattle.grid_shifts.specs.Private.{Held, nodesIn, partShift}
 use Rattle.grid_shifts.specs.declared.Shift.{Shift}
 use Rattle.grid_shifts.proofs.Parts.{call-cell, call-part}
 use Rattle.grid_shifts.proofs.Accepted.{message-passed, message-fields}
-use Rattle.grid_shifts.proofs.Said.{frame-said, mean-said, nodes-said}
+use Rattle.grid_shifts.proofs.Said.{settings-said, mean-said, nodes-said}
 use Rattle.grid_shifts.proofs.TwoPlaces.{Side, north-side, east-side, height-side, message-none-given}
 use Rattle.grid_shifts.proofs.shifts_at.Statement.{statement}
 use Rattle.grid_shifts.proofs.shifts_at.Tie as tie
@@ -68,7 +68,7 @@ returns-2 q =
     let h = sym (k .check-kind .ensures) ∙ q .before .before .if1 .left in
     absurd (omega (arith, grid-long (m s) h, q .before .if2 .taken))
 
--- a grid message: its frame and the sides of the position
+-- a grid message: its settings and the sides of the position
 module _ (q : tie.After-means-at) where
   abbrev l : tie.After-locate-both
   l = q .before .before .before .before
@@ -82,15 +82,15 @@ module _ (q : tie.After-means-at) where
   fields : Held (g s)
   fields = message-fields (m s) 0 (n s) (e s) none
 
-  frame : l .before .before .settings-at .result ≡ frameOf (g s)
-  frame = l .before .before .settings-at .ensures ∙ frame-said (m s) none
+  settings : l .before .before .settings-at .result ≡ settingsOf (g s)
+  settings = l .before .before .settings-at .ensures ∙ settings-said (m s) none
 
   number : toZ w64 (ofZ w64 (l .before .before .settings-at .result .number)) ≡ g s .number
-  unfolding frameOf
-  number = held (l .before .before .settings-at .result .number) (l .before .struct-told .given .0 .1) ∙ ap (λ (f : Settings). f .number) frame
+  unfolding settingsOf
+  number = held (l .before .before .settings-at .result .number) (l .before .struct-told .given .0 .1) ∙ ap (λ (f : Settings). f .number) settings
 
-  sides : l .locate-both .result ≡ heldTwoPlaces (frameOf (g s)) (n s) (e s)
-  sides = l .locate-both .ensures ∙ (λ i. heldTwoPlaces (frame i) (is-back (s .fits .north) i) (is-back (s .fits .east) i))
+  sides : l .locate-both .result ≡ heldTwoPlaces (settingsOf (g s)) (n s) (e s)
+  sides = l .locate-both .ensures ∙ (λ i. heldTwoPlaces (settings i) (is-back (s .fits .north) i) (is-back (s .fits .east) i))
 
   abbrev t : Located
   t = l .locate-both .result .place

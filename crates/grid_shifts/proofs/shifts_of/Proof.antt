@@ -13,7 +13,7 @@ use Rattle.arith.proofs.Machine.{is-back}
 use Rattle.field.specs.declared.Reading.{Reading}
 use Rattle.record_grids.specs.declared.Settings.{Settings}
 use Rattle.record_grids.specs.declared.Grid.{Grid}
-use Rattle.record_grids.specs.Grids.{frameOf}
+use Rattle.record_grids.specs.Grids.{settingsOf}
 use Rattle.grid_fields.specs.declared.Nodes.{Nodes}
 use Rattle.message_records.specs.Kinds.{gridHeld}
 use Rattle.grid_cell.specs.declared.Weights.{Weights}
@@ -63,15 +63,15 @@ module _ (l : tie.After-locate-both) where
   fields : Held (g s)
   fields = record-fields (g s) holds
 
-  frame : l .before .before .settings-of .result ≡ frameOf (g s)
-  frame = l .before .before .settings-of .ensures
+  settings : l .before .before .settings-of .result ≡ settingsOf (g s)
+  settings = l .before .before .settings-of .ensures
 
   number : toZ w64 (ofZ w64 (l .before .before .settings-of .result .number)) ≡ g s .number
-  unfolding frameOf
-  number = held (l .before .before .settings-of .result .number) (l .before .struct-told .given .0 .1) ∙ ap (λ (f : Settings). f .number) frame
+  unfolding settingsOf
+  number = held (l .before .before .settings-of .result .number) (l .before .struct-told .given .0 .1) ∙ ap (λ (f : Settings). f .number) settings
 
-  sides : l .locate-both .result ≡ heldTwoPlaces (frameOf (g s)) (n s) (e s)
-  sides = l .locate-both .ensures ∙ (λ i. heldTwoPlaces (frame i) (is-back (s .fits .north) i) (is-back (s .fits .east) i))
+  sides : l .locate-both .result ≡ heldTwoPlaces (settingsOf (g s)) (n s) (e s)
+  sides = l .locate-both .ensures ∙ (λ i. heldTwoPlaces (settings i) (is-back (s .fits .north) i) (is-back (s .fits .east) i))
 
   abbrev t : Located
   t = l .locate-both .result .place

@@ -26,15 +26,15 @@ returns c =
     let a = b .before .before .before in
     let s = a .before .before .before in
     let start = s .args .start .now in
-    let start_present = s .args .start_present .now in
+    let presence = s .args .presence .now in
     let end = s .args .end .now in
     let row = nodesRow (s .args .nodes) in
     let f : Appended (padded []) 0 start (b .append-bytes .result) _ =
     record { room = a .append .ensures .room; place = omega (arith, b .append-bytes .ensures .place, s .pre .0); stored = a .append .ensures .stored } in
     let p = behind _ _ (behind _ _ f (n .append-nodes .ensures .0)) (e .append2 .ensures) in
     let q = behind _ _ (b .append-bytes .ensures) (n .append-nodes .ensures .1 .0) in
-    let h : length (start_present ++ presentOf row) + length end ≤ 96 =
-    omega (arith, p .room, s .pre .0, length-append start_present (presentOf row), length-append (start ++ valuesOf row) end, length-append start (valuesOf row), length-map row valueIn, length-map row presentIn) in
+    let h : length (presence ++ presentOf row) + length end ≤ 96 =
+    omega (arith, p .room, s .pre .0, length-append presence (presentOf row), length-append (start ++ valuesOf row) end, length-append start (valuesOf row), length-map row valueIn, length-map row presentIn) in
     all-good _ _ p q ∙ more-marked _ _ (length end) h
 
 pub numbers-around-spec : {M : Type 1} → statement M

@@ -1,12 +1,12 @@
 -- `record_grids::settings_of` meets its contract.
 -- Assumes nothing.
 use Rattle.arith.proofs.Back.{held}
-use Rattle.record_grids.specs.Grids.{frameOf}
+use Rattle.record_grids.specs.Grids.{settingsOf}
 use Rattle.record_grids.proofs.settings_of.Statement.{statement}
 use Rattle.record_grids.proofs.settings_of.Tie as tie
 
 returns : tie.Need-returns
-unfolding frameOf
+unfolding settingsOf
 returns c =
     let r = c .before .before .before .before .before .args .r in
     λ i. record {

@@ -59,7 +59,7 @@ use Rattle.grid_component.proofs.Kept as K
 use Rattle.grid_component.proofs.Kept.Laws as K′
 use Rattle.grid_component.proofs.keep as keep-of
 use Rattle.grid_component.proofs.keep.Symbol as keep-def
-use Rattle.grid_component.proofs.keep.Symbol.{name as #part·keep}
+use Rattle.grid_component.proofs.keep.Symbol.{name as #grid-component·keep}
 use Rattle.grid_component.proofs.keep.Met as keep-thm
 use Rattle.report_points.proofs.Walk.{no-point, all-done, one-more, reports}
 use Rattle.report_points.proofs.Point as P
@@ -68,13 +68,13 @@ use Rattle.report_update.proofs.Report as R
 use Rattle.report_update.proofs.Report.Laws as R′
 use Rattle.report_points.proofs.start as start
 use Rattle.report_points.proofs.start.Symbol as start-def
-use Rattle.report_points.proofs.start.Symbol.{name as #reports·start}
+use Rattle.report_points.proofs.start.Symbol.{name as #report-points·start}
 use Rattle.report_points.proofs.start.Met as start-thm
 use Rattle.report_points.proofs.step as step
 use Rattle.report_points.proofs.step.Symbol as step-def
-use Rattle.report_points.proofs.step.Symbol.{name as #reports·step}
+use Rattle.report_points.proofs.step.Symbol.{name as #report-points·step}
 use Rattle.report_points.proofs.step.Met as step-thm
-use Rattle.report_points.proofs.report_points.Key.{name as #reports·report-points}
+use Rattle.report_points.proofs.report_points.Key.{name as #report-points·report-points}
 use Rattle.report_points.proofs.report_points as f
 use Rattle.report_points.proofs.report_points.Statement as stated
 use Rattle.report_points.proofs.report_points.Code as code
@@ -217,7 +217,7 @@ module _ {M : Type 1} (𝓤 : URA M) (H : Heap 𝓤) (A : Atoms 𝓤) (W : Given
       nothing ! $ move ! (2 ∷ 0 ∷ []) $ fjoin ! $ owned ! u8 (Is u8) (uint-makes 𝓤 H A W w8) c _ (refl, fits) $ fjoin ! $ move ! (1 ∷ 0 ∷ []) $ fjoin ! $ frame ! $
       owned ! R.the-row (Is R.the-row) (LL.makes R.the-type R′.the-plain 𝓤 H A) r _ is $ done !
 
-  module _ (𝓣 : Tables 𝓤 H) (fm : FmC 𝓤 H (W .laws) (𝓣 .C)) (known : Triple 𝓤 (𝓣 .C #reports·step) (Step 𝓤 H A mem″ run)) (kept : Kept) (gk : Is K.the-row kept (kept-val kept ∷ [])) (l₀ l₁ l₂ l₃ l₄ l₅ l₆ l₇ l₈ l₉ l₁₀ l₁₁ : ℕ) where
+  module _ (𝓣 : Tables 𝓤 H) (fm : FmC 𝓤 H (W .laws) (𝓣 .C)) (known : Triple 𝓤 (𝓣 .C #report-points·step) (Step 𝓤 H A mem″ run)) (kept : Kept) (gk : Is K.the-row kept (kept-val kept ∷ [])) (l₀ l₁ l₂ l₃ l₄ l₅ l₆ l₇ l₈ l₉ l₁₀ l₁₁ : ℕ) where
     abbrev Turn′ : Type 0
     Turn′ = Turn (now m) kept c ps
 
@@ -276,13 +276,13 @@ module _ {M : Type 1} (𝓤 : URA M) (H : Heap 𝓤) (A : Atoms 𝓤) (W : Given
         peeks ! R.the-row (Is R.the-row) (shows 𝓤 H A R.the-row) r (u ∷ []) (λ is.
         -- [what the report owns; the message's token; the message; the points' token; the points; _4; _5; _7; _8; _9; _10; …]
         land ! (from ! (stop !)) (store ! 5 refl (LL.lawful R.the-type R′.the-laws 𝓤 H A W .typed r _ is .0)) $
-        rewrite ! 5 (λ (v : Val). ‵ (fat fullShare R′.mir l₅ 0 v)) (ap only (reportSoFar r u is)) refl $ drop ! $
+        rewrite ! 5 (λ (v : Val). ‵ (fat fullShare R′.mir l₅ 0 v)) (ap only (value-is r u is)) refl $ drop ! $
         assigns-last ! (bin ! (load ! (from ! (stop !)) (look ! 5 refl)) (lit ! tt) (record { fits = next })) (from ! (stop !)) (store ! 5 refl (tt, record { fits = next })) $
         forget ! 6 refl $ forget ! 7 refl $ forget ! 8 refl $ forget ! 9 refl $
-        again ! Nearer At t (on-one (now m) kept c ps t r less e (subst (Is R.the-row r) (reportSoFar r u is) is)) (add-one-dec n i less)))))))
+        again ! Nearer At t (on-one (now m) kept c ps t r less e (subst (Is R.the-row r) (value-is r u is) is)) (add-one-dec n i less)))))))
       where
-        reportSoFar : (r : Report) (u : Val) → Is R.the-row r (u ∷ []) → u ∷ [] ≡ report-val r ∷ []
-        reportSoFar r u is = LL.tells R.the-type R′.the-laws r (u ∷ []) is
+        value-is : (r : Report) (u : Val) → Is R.the-row r (u ∷ []) → u ∷ [] ≡ report-val r ∷ []
+        value-is r u is = LL.tells R.the-type R′.the-laws r (u ∷ []) is
 
         here′ : t .at < 2 ^ 64
         here′ = omega (arith, less, room .0)
@@ -312,7 +312,7 @@ module _ {M : Type 1} (𝓤 : URA M) (H : Heap 𝓤) (A : Atoms 𝓤) (W : Given
     looped : (t : Turn′) → Sq W (At t) (runs C Λ En mir.t-5 (atRet En Post))
     looped t = first ! $ blocks ! $ loops ! 𝓣 Nearer Nearer-wf At rounds t
 
-  walk : (𝓣 : Tables 𝓤 H) → FmC 𝓤 H (W .laws) (𝓣 .C) → Triple 𝓤 (𝓣 .C #part·keep) (Keep 𝓤 H A mem″ run) → Triple 𝓤 (𝓣 .C #reports·start) (Start 𝓤 H A mem″ run) → Triple 𝓤 (𝓣 .C #reports·step) (Step 𝓤 H A mem″ run)
+  walk : (𝓣 : Tables 𝓤 H) → FmC 𝓤 H (W .laws) (𝓣 .C) → Triple 𝓤 (𝓣 .C #grid-component·keep) (Keep 𝓤 H A mem″ run) → Triple 𝓤 (𝓣 .C #report-points·start) (Start 𝓤 H A mem″ run) → Triple 𝓤 (𝓣 .C #report-points·step) (Step 𝓤 H A mem″ run)
       → ent 𝓤 (onEntry 𝓤 H A f.signature (κ, (κ′, tt)) (q, (q′, tt)) x at) (WpFn 𝓤 H (𝓣 .C) (𝓣 .Λ) code.function (vm ∷ vint w8 c ∷ vp ∷ []) Post)
   walk 𝓣 fm known-keep known-start known =
       qed W ((‵ (flft κ q) ⊛ ‵ (flft κ′ q′) ⊛ ‵ ftrue) ∷ ‵ (owns (ShrSlice (named 0) κ u8 ∷ u8 ∷ ShrSlice (named 1) κ′ P.the-row ∷ []) x at) ∷ []) ∵
@@ -353,7 +353,7 @@ module _ {M : Type 1} (𝓤 : URA M) (H : Heap 𝓤) (A : Atoms 𝓤) (W : Given
       })))))))))))))))))))))
 
 module _ {M : Type 1} (𝓤 : URA M) (H : Heap 𝓤) (A : Atoms 𝓤) (W : Given 𝓤 H A) (mem″ : Memory → SProp 𝓤) (run : Routine → Fun 𝓤) where
-  walks : (𝓣 : Tables 𝓤 H) → FmC 𝓤 H (W .laws) (𝓣 .C) → Triple 𝓤 (𝓣 .C #part·keep) (Keep 𝓤 H A mem″ run) → Triple 𝓤 (𝓣 .C #reports·start) (Start 𝓤 H A mem″ run) → Triple 𝓤 (𝓣 .C #reports·step) (Step 𝓤 H A mem″ run)
+  walks : (𝓣 : Tables 𝓤 H) → FmC 𝓤 H (W .laws) (𝓣 .C) → Triple 𝓤 (𝓣 .C #grid-component·keep) (Keep 𝓤 H A mem″ run) → Triple 𝓤 (𝓣 .C #report-points·start) (Start 𝓤 H A mem″ run) → Triple 𝓤 (𝓣 .C #report-points·step) (Step 𝓤 H A mem″ run)
       → Walks 𝓤 H A f.ended stayed (WpFn 𝓤 H (𝓣 .C) (𝓣 .Λ) code.function) (f.clauses 𝓤 H A mem″ run)
   walks 𝓣 fm known-keep known-start known = walked 𝓤 H A f.ended stayed (f.clauses 𝓤 H A mem″ run) (WpFn 𝓤 H (𝓣 .C) (𝓣 .Λ) code.function)
       (λ κs. (slice-vals, (uint-vals w8, (slice-vals, tt)))) (λ κs. (shr-slice-tells (named 0) (κs .0) u8, (uint-tells w8, (shr-slice-tells (named 1) (κs .1 .0) P.the-row, tt))))
@@ -364,7 +364,7 @@ module _ {M : Type 1} (𝓤 : URA M) (H : Heap 𝓤) (A : Atoms 𝓤) (W : Given
   goes = (goes-none-slice 𝓤 H A W 2 (0 ∷ []) tt (plain (λ _. u8)) yes, (goes-none 𝓤 H A W 2 (λ _. u8) yes (λ κs x f. refl), (goes-none-slice 𝓤 H A W 2 (1 ∷ []) tt (plain (λ _. P.the-row)) yes, tt)))
 
 meets : {M : Type 1} (𝓤 : URA M) (H : Heap 𝓤) (A : Atoms 𝓤) (W : Given 𝓤 H A) (mem″ : Memory → SProp 𝓤) (run : Routine → Fun 𝓤) (𝓣 : Tables 𝓤 H)
-    → Triple 𝓤 (𝓣 .C #part·keep) (Keep 𝓤 H A mem″ run) → Triple 𝓤 (𝓣 .C #reports·start) (Start 𝓤 H A mem″ run) → Triple 𝓤 (𝓣 .C #reports·step) (Step 𝓤 H A mem″ run)
+    → Triple 𝓤 (𝓣 .C #grid-component·keep) (Keep 𝓤 H A mem″ run) → Triple 𝓤 (𝓣 .C #report-points·start) (Start 𝓤 H A mem″ run) → Triple 𝓤 (𝓣 .C #report-points·step) (Step 𝓤 H A mem″ run)
     → Meets 𝓤 H A f.signature (WpFn 𝓤 H (𝓣 .C) (𝓣 .Λ) code.function) (f.spec 𝓤 H A mem″ run)
 meets 𝓤 H A W mem″ run 𝓣 known-keep known-start known =
     walk-meets 𝓤 H A f.ended stayed W (goes 𝓤 H A W mem″ run) (f.clauses 𝓤 H A mem″ run) (WpFn 𝓤 H (𝓣 .C) (𝓣 .Λ) code.function) (WpFn-mono 𝓤 H (W .laws) 𝓣 code.function)
@@ -374,8 +374,8 @@ pub report-points-spec : {M : Type 1} → stated.statement M
 unfolding code.routine tablesOf
 report-points-spec 𝓤 H 𝓜 𝓖 𝓡 =
     entered 𝓤 H (tripleOf 𝓤 H (𝓖 .A) f.signature (f.spec 𝓤 H (𝓖 .A) (𝓜 .mem) (𝓡 .run)))
-    (tables 𝓤 H 𝓜 𝓡 code.env .C) (tables 𝓤 H 𝓜 𝓡 code.env .Λ) #reports·report-points code.function (code.unfolded 𝓤 H 𝓜 𝓡)
+    (tables 𝓤 H 𝓜 𝓡 code.env .C) (tables 𝓤 H 𝓜 𝓡 code.env .Λ) #report-points·report-points code.function (code.unfolded 𝓤 H 𝓜 𝓡)
     (meets 𝓤 H (𝓖 .A) (givenOf 𝓤 H 𝓜 𝓖) (𝓜 .mem) (𝓡 .run) (tablesOf 𝓤 H 𝓜 (tables 𝓤 H 𝓜 𝓡 code.env))
-    (cited 𝓤 H (Keep 𝓤 H (𝓖 .A) (𝓜 .mem) (𝓡 .run)) 𝓜 𝓡 code.env #part·keep keep-def.routine code.calls-part·keep (keep-thm.met 𝓤 H 𝓜 𝓖 𝓡))
-    (cited 𝓤 H (Start 𝓤 H (𝓖 .A) (𝓜 .mem) (𝓡 .run)) 𝓜 𝓡 code.env #reports·start start-def.routine code.calls-reports·start (start-thm.met 𝓤 H 𝓜 𝓖 𝓡))
-    (cited 𝓤 H (Step 𝓤 H (𝓖 .A) (𝓜 .mem) (𝓡 .run)) 𝓜 𝓡 code.env #reports·step step-def.routine code.calls-reports·step (step-thm.met 𝓤 H 𝓜 𝓖 𝓡)))
+    (cited 𝓤 H (Keep 𝓤 H (𝓖 .A) (𝓜 .mem) (𝓡 .run)) 𝓜 𝓡 code.env #grid-component·keep keep-def.routine code.calls-grid-component·keep (keep-thm.met 𝓤 H 𝓜 𝓖 𝓡))
+    (cited 𝓤 H (Start 𝓤 H (𝓖 .A) (𝓜 .mem) (𝓡 .run)) 𝓜 𝓡 code.env #report-points·start start-def.routine code.calls-report-points·start (start-thm.met 𝓤 H 𝓜 𝓖 𝓡))
+    (cited 𝓤 H (Step 𝓤 H (𝓖 .A) (𝓜 .mem) (𝓡 .run)) 𝓜 𝓡 code.env #report-points·step step-def.routine code.calls-report-points·step (step-thm.met 𝓤 H 𝓜 𝓖 𝓡)))

@@ -35,9 +35,9 @@ module _ (s : List ℕ) (kept : Kept) (c : ℕ) where
   no-nodes z m h = rw (eq-eqb (kept .refusal) 0 z, m, h)
 
   abbrev middles : ℤ × ℤ
-  middles = let f = kept .frame in (middleOf (f .number) (valueIn (f .origin .north)), middleOf (f .number) (valueIn (f .origin .east)))
+  middles = let f = kept .settings in (middleOf (f .number) (valueIn (f .origin .north)), middleOf (f .number) (valueIn (f .origin .east)))
 
-  all-there : kept .refusal ≡ 0 → available (meanSays s c) ≡ true → nodesAvailable s c ≡ true → edgesAt s (kept .frame) c (middles .0) (middles .1) ≡ preparedOf s kept c
+  all-there : kept .refusal ≡ 0 → available (meanSays s c) ≡ true → nodesAvailable s c ≡ true → edgesAt s (kept .settings) c (middles .0) (middles .1) ≡ preparedOf s kept c
   unfolding preparedOf
   all-there z m h = rw (eq-eqb (kept .refusal) 0 z, m, h)
 
@@ -93,7 +93,7 @@ module _ (b : tie.After-middle2) where
   h = o .before .before .before .before
 
   abbrev f : Settings
-  f = kept (t h) .frame
+  f = kept (t h) .settings
 
   number : toZ w64 (ofZ w64 (f .number)) ≡ f .number
   number = held (f .number) (o .before .struct-told .given .0 .1)
@@ -114,7 +114,7 @@ returns-4 q =
     let b = q .before in
     let h = h b in
     let t = t h in
-    q .prepare-at .ensures ∙ (λ i. edgesAt (m t) (kept t .frame) (c t) (north b i) (east b i))
+    q .prepare-at .ensures ∙ (λ i. edgesAt (m t) (kept t .settings) (c t) (north b i) (east b i))
     ∙ all-there (m t) (kept t) (c t) (accepted t) (mean-there h) (sym (h .nodes-available .ensures) ∙ not-false _ (o b .before .before .before .if3 .left))
 
 pub prepare-spec : {M : Type 1} → statement M

@@ -72,7 +72,7 @@ module _ (k : tie.After-locate) where
   m = s .args .message .now
 
   abbrev f : Settings
-  f = s .args .kept .frame
+  f = s .args .kept .settings
 
   abbrev c : ℕ
   c = s .args .component

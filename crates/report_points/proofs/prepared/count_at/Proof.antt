@@ -76,14 +76,14 @@ module _ (t : tie.Else4) where
         east = not-less (any (p .east) (record { sfits = t .before .struct-told4 .given .1 .1 .1 .0 .1 })) east (t .if4 .left);
       }
 
-  reportSoFar : CountBetween (s .args .message .now) (s .args .kept) (s .args .component) p (s .args .nodes .now) (s .args .north) (s .args .east)
-  reportSoFar = s .pre (s .args .north) (s .args .east) between
+  between-is : CountBetween (s .args .message .now) (s .args .kept) (s .args .component) p (s .args .nodes .now) (s .args .north) (s .args .east)
+  between-is = s .pre (s .args .north) (s .args .east) between
 
   abbrev y : Num
-  y = sub-within north south 122850000 (omega (arith, reportSoFar .rows, reportSoFar .high .1)) tt
+  y = sub-within north south 122850000 (omega (arith, between-is .rows, between-is .high .1)) tt
 
   abbrev x : Num
-  x = sub-within east west 122850000 (omega (arith, reportSoFar .columns, reportSoFar .wide .1)) tt
+  x = sub-within east west 122850000 (omega (arith, between-is .columns, between-is .wide .1)) tt
 
 cast-y : tie.Need-cast-y
 cast-y c =
@@ -98,14 +98,14 @@ cast-x c =
     rw (x t .held) (e .0, record { fits = e .1 })
 
 count-in-requires : tie.Need-count-in-requires
-count-in-requires c κs = let d = reportSoFar (c .before .before .before .before) in (d .high .0, d .high .1, d .wide .0, d .wide .1)
+count-in-requires c κs = let d = between-is (c .before .before .before .before) in (d .high .0, d .high .1, d .wide .0, d .wide .1)
 
 returns-5 : tie.Need-returns-5
 returns-5 c =
     let t = c .before .before .before .before .before in
     let r = c .count-in in
     (λ i. record { refusal = 0; count = (held (r .result) (r .ok) ∙ r .ensures ∙ (λ j. countIn (p t) (s t .args .nodes .now) (natAbs (y t .held j)) (natAbs (x t .held j)))) i })
-    ∙ sym (reportSoFar t .count)
+    ∙ sym (between-is t .count)
 
 pub count-at-spec : {M : Type 1} → statement M
 count-at-spec =
