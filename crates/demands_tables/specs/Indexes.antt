@@ -9,11 +9,10 @@ use Rattle.table_slots.specs.Slots.{slots, slot}
 use Rattle.table.specs.Table.{wellFormed, foundOf}
 use Rattle.table_history.specs.History.{Call, afterAll}
 use Rattle.table_index_search.specs.Index.{keyAt, slotAt}
-use Rattle.table_index_search.specs.Search.{searched}
+use Rattle.table_index_search.specs.Search.{named, searched, entriesAt}
 use Rattle.table_index_search.specs.Means.{markIn, Agrees}
 use Rattle.table_indexed.specs.Indexed.{entryKey, slotKey, slotKeys, agreesRefusal, writeRefusal, writeIndex}
 use Rattle.table_indexed.specs.Find.{foundBy}
-use Rattle.table_index_history.specs.Named.{named, entriesAt}
 use Rattle.table_index_history.specs.Calls.{Both, Agreed, indexed, byteCalls}
 use Rattle.table_index_search.specs.Index as index
 

@@ -20,7 +20,7 @@ use Rattle.table_history.specs.History.{fresh, Ask, store, find, remove, Call, 
 use Rattle.table_history.specs.Inner.{walk}
 use Rattle.table_history.proofs.Replies.{fresh-formed}
 use Rattle.table_index_search.specs.Index.{indexSize}
-use Rattle.table_index_search.specs.Search.{searched}
+use Rattle.table_index_search.specs.Search.{named, searched, entriesAt}
 use Rattle.table_index_search.specs.Agree.{agree}
 use Rattle.table_index_search.specs.Means.{markIn}
 use Rattle.table_index_search.specs.declared.Probe.{Probe}
@@ -33,7 +33,6 @@ use Rattle.table_indexed.specs.Indexed.{entryKey, slotKey, slotKeyAt, slotKeys,
 use Rattle.table_indexed.specs.Find.{probed, usedBy, findNumber, given, partAt, partLength, foundBy}
 use Rattle.table_indexed.specs.declared.Found.{Found}
 use Rattle.table_indexed.proofs.Calls.{agrees-done, write-done, store-disagrees, store-refused, store-done, remove-disagrees, remove-refused, remove-done}
-use Rattle.table_index_history.specs.Named.{named, entriesAt}
 use Rattle.table_index_history.specs.Calls.{freshIndex, Both, number, after, indexed, byteAsk, byteCalls}
 use Rattle.table_index_history.proofs.Named.{searched-local, searched-count}
 use Rattle.table_index_history.proofs.Keys.{keys, length-keys}
