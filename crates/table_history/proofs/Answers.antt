@@ -13,6 +13,7 @@ use borrow.Author.Tests.{ne-eqb, lt-ltb, le-ltb}
 use Rattle.table_slots.specs.Slots.{slots, messageSize, bodySize, slotSize, isOwner, key, joined, slot, held}
 use Rattle.table.specs.Table.{place, wellFormed, keyPlace, findRefusal, foundAt, found}
 use Rattle.table_history.specs.History.{Call, afterAll, logOf, lastOf}
+use Rattle.table_history.specs.Inner.{walk}
 use Rattle.table.proofs.Whole.{Formed, formed, well-formed}
 use Rattle.table_slots.proofs.Slot.{size-byte, used-size, tag-free}
 use Rattle.table.proofs.Calls.{Find, find-owner, find-none, find-done, keyPlace-in, keyPlace-out}
@@ -87,13 +88,13 @@ find-stranger t f o s g v = empty t o s g 21 (find-owner t o s g (well-formed t 
 -- DEMAND 2, the table, for each owner: after any calls on a well-formed table, find shows what the owner last stored under the
 -- key and did not remove since, where what the table held at first counts as stored; its number is 0 where there is such, else 17.
 pub find-last : (t : List ℕ) → wellFormed t ≡ true → (cs : List Call) (o s g : ℕ) → isOwner o ≡ true → g < 3
-    → Answer (afterAll t cs) o s g (lastOf o (key s g) (found t o s g) (logOf t cs)) (noneOf (lastOf o (key s g) (found t o s g) (logOf t cs)))
+    → Answer (afterAll walk t cs) o s g (lastOf o (key s g) (found t o s g) (logOf walk t cs)) (noneOf (lastOf o (key s g) (found t o s g) (logOf walk t cs)))
 find-last t w cs o s g v h =
     let f = formed t w in
-    subst (λ (m : List ℕ). Answer (afterAll t cs) o s g m (noneOf m))
-    (history t f cs o (key s g) v ∙ ap (λ (m : List ℕ). lastOf o (key s g) m (logOf t cs)) (sym (find-look t f o s g v h .shown)))
-    (find-look (afterAll t cs) (history-formed t f cs) o s g v h)
+    subst (λ (m : List ℕ). Answer (afterAll walk t cs) o s g m (noneOf m))
+    (history t f cs o (key s g) v ∙ ap (λ (m : List ℕ). lastOf o (key s g) m (logOf walk t cs)) (sym (find-look t f o s g v h .shown)))
+    (find-look (afterAll walk t cs) (history-formed t f cs) o s g v h)
 
 -- and for a group that is not 0 to 2 it shows nothing and answers 17
-pub find-no-group : (t : List ℕ) → wellFormed t ≡ true → (cs : List Call) (o s g : ℕ) → isOwner o ≡ true → 3 ≤ g → Answer (afterAll t cs) o s g [] 17
-find-no-group t w cs o s g v h = find-other (afterAll t cs) (history-formed t (formed t w) cs) o s g v h
+pub find-no-group : (t : List ℕ) → wellFormed t ≡ true → (cs : List Call) (o s g : ℕ) → isOwner o ≡ true → 3 ≤ g → Answer (afterAll walk t cs) o s g [] 17
+find-no-group t w cs o s g v h = find-other (afterAll walk t cs) (history-formed t (formed t w) cs) o s g v h

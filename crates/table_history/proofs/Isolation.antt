@@ -14,8 +14,9 @@ use Rattle.message_rows.specs.Message.{refusal}
 use Rattle.arith.proofs.Tests.{both-first, both-second}
 use Rattle.table_slots.specs.Slots.{slots, most, isOwner, keyOf}
 use Rattle.table.specs.Table.{holding, usedSlots}
-use Rattle.table_history.specs.History.{fresh, Ask, store, find, remove, Call, callsOf, number, after, afterAll, logOf}
-use Rattle.table_history.specs.Dict.{Dict, storedUnder, isNew, freeNumber, freeShown, changed, freeAfter, Dicts, total, full, dictNumber, dictShown, changedFor, dictAfter, shown, Reply, reply, replies}
+use Rattle.table_history.specs.History.{fresh, Ask, store, find, remove, Call, callsOf, afterAll, logOf, Reply, replies}
+use Rattle.table_history.specs.Inner.{number, after, shown, walk}
+use Rattle.table_history.specs.Dict.{Dict, storedUnder, isNew, freeNumber, freeShown, changed, freeAfter, Dicts, total, full, dictNumber, dictShown, changedFor, dictAfter}
 use Rattle.table_history.specs.Isolation.{ofOwner, repliesTo, atMost, keptAfter, none, hasKey, noKeyTwice}
 use Rattle.table.proofs.Whole.{formed}
 use Rattle.table_history.proofs.Dict.{Sound, without-absent, lookup-hit, lookup-on}
@@ -79,13 +80,13 @@ kept-other ds p a o n = by (eqb (dictNumber ds p a) 0)
 
 module _ (o : ℕ) (t : List ℕ) (c : Call) (cs : List Call) where
   replies-own : c .owner ≡ o
-      → repliesTo o t (c ∷ cs) ≡ record { answer = number t o (c .ask); part = shown t o (c .ask) } ∷ repliesTo o (after t o (c .ask)) cs
-  unfolding repliesTo ofOwner replies reply
+      → repliesTo walk o t (c ∷ cs) ≡ record { answer = number t o (c .ask); part = shown t o (c .ask) } ∷ repliesTo walk o (after t o (c .ask)) cs
+  unfolding repliesTo ofOwner replies
   replies-own e =
       rw (eq-eqb (c .owner) o e, ofOwner)
-      (ap (λ (p : ℕ). record { answer = number t p (c .ask); part = shown t p (c .ask) } ∷ repliesTo o (after t p (c .ask)) cs) e)
+      (ap (λ (p : ℕ). record { answer = number t p (c .ask); part = shown t p (c .ask) } ∷ repliesTo walk o (after t p (c .ask)) cs) e)
 
-  replies-other : (c .owner ≡ o → ⊥) → repliesTo o t (c ∷ cs) ≡ repliesTo o (after t (c .owner) (c .ask)) cs
+  replies-other : (c .owner ≡ o → ⊥) → repliesTo walk o t (c ∷ cs) ≡ repliesTo walk o (after t (c .owner) (c .ask)) cs
   unfolding repliesTo ofOwner replies
   replies-other n = rw (ne-eqb (c .owner) o n, ofOwner)
 
@@ -101,11 +102,11 @@ unfolding atMost
 asked-first d a rest h =
     (leb-true (length (freeAfter d a)) 12 (both-first _ (atMost 12 (freeAfter d a) rest) h), both-second (leb (length (freeAfter d a)) 12) _ h)
 
-pub told-alone : (o : ℕ) → isOwner o ≡ true → (cs : List Call) (t : List ℕ) (ds : Dicts) → Same t ds → atMost 12 (ds o) (callsOf o cs) ≡ true
-    → repliesTo o t cs ≡ freeReplies (ds o) (callsOf o cs)
+pub replies-alone : (o : ℕ) → isOwner o ≡ true → (cs : List Call) (t : List ℕ) (ds : Dicts) → Same t ds → atMost 12 (ds o) (callsOf o cs) ≡ true
+    → repliesTo walk o t cs ≡ freeReplies (ds o) (callsOf o cs)
 unfolding repliesTo ofOwner freeReplies callsOf
-told-alone o v [] t ds s h = refl
-told-alone o v (c ∷ cs) t ds s h = go (ℕ-discrete (c .owner) o) (told-alone o v cs)
+replies-alone o v [] t ds s h = refl
+replies-alone o v (c ∷ cs) t ds s h = go (ℕ-discrete (c .owner) o) (replies-alone o v cs)
   where
     a : Ask
     a = c .ask
@@ -113,8 +114,8 @@ told-alone o v (c ∷ cs) t ds s h = go (ℕ-discrete (c .owner) o) (told-alone 
     own : List Ask
     own = callsOf o cs
 
-    go : Dec (c .owner ≡ o) → ((u : List ℕ) (es : Dicts) → Same u es → atMost 12 (es o) own ≡ true → repliesTo o u cs ≡ freeReplies (es o) own)
-        → repliesTo o t (c ∷ cs) ≡ freeReplies (ds o) (callsOf o (c ∷ cs))
+    go : Dec (c .owner ≡ o) → ((u : List ℕ) (es : Dicts) → Same u es → atMost 12 (es o) own ≡ true → repliesTo walk o u cs ≡ freeReplies (es o) own)
+        → repliesTo walk o t (c ∷ cs) ≡ freeReplies (ds o) (callsOf o (c ∷ cs))
     go (no n) rest =
         let e = kept-other ds (c .owner) a o n in
         replies-other o t c cs n
@@ -132,7 +133,7 @@ told-alone o v (c ∷ cs) t ds s h = go (ℕ-discrete (c .owner) o) (told-alone 
         ∙ ap (freeReplies (ds o)) (sym (calls-own o c cs q))
 
 -- a table and dictionaries that are the same stay so, where the calls answered 0 change the dictionaries
-kept-same : (cs : List Call) (t : List ℕ) (ds : Dicts) → Same t ds → Same (afterAll t cs) (keptAfter ds (logOf t cs))
+kept-same : (cs : List Call) (t : List ℕ) (ds : Dicts) → Same t ds → Same (afterAll walk t cs) (keptAfter ds (logOf walk t cs))
 unfolding afterAll logOf keptAfter dictAfter
 kept-same [] t ds s = s
 kept-same (c ∷ cs) t ds s =
@@ -153,12 +154,12 @@ fresh-same =
     }
 
 -- REQUEST A8: from a fresh table an owner that asks for at most twelve keys is leftUnder what its own calls alone decide
-pub alone : (o : ℕ) → isOwner o ≡ true → (cs : List Call) → atMost 12 [] (callsOf o cs) ≡ true → repliesTo o fresh cs ≡ freeReplies [] (callsOf o cs)
-alone o v cs h = told-alone o v cs fresh none fresh-same h
+pub alone : (o : ℕ) → isOwner o ≡ true → (cs : List Call) → atMost 12 [] (callsOf o cs) ≡ true → repliesTo walk o fresh cs ≡ freeReplies [] (callsOf o cs)
+alone o v cs h = replies-alone o v cs fresh none fresh-same h
 
 -- so whatever the isolation calls in between
 pub non-interference : (o : ℕ) → isOwner o ≡ true → (cs cs′ : List Call) → callsOf o cs ≡ callsOf o cs′ → atMost 12 [] (callsOf o cs) ≡ true
-    → repliesTo o fresh cs ≡ repliesTo o fresh cs′
+    → repliesTo walk o fresh cs ≡ repliesTo walk o fresh cs′
 non-interference o v cs cs′ e h =
     alone o v cs h ∙ ap (freeReplies []) e ∙ sym (alone o v cs′ (ap (atMost 12 []) (sym e) ∙ h))
 
@@ -179,14 +180,14 @@ once [] s = refl
 once (m ∷ d) s = rw (has-none d (keyOf m) (s .2) (s .1)) (once d (s .2))
 
 module _ (cs : List Call) where
-  kept : Same (afterAll fresh cs) (keptAfter none (logOf fresh cs))
+  kept : Same (afterAll walk fresh cs) (keptAfter none (logOf walk fresh cs))
   kept = kept-same cs fresh none fresh-same
 
-  pub used-are-kept : usedSlots (afterAll fresh cs) ≡ total (keptAfter none (logOf fresh cs))
-  used-are-kept = sym (same-total (afterAll fresh cs) (keptAfter none (logOf fresh cs)) kept)
+  pub used-are-kept : usedSlots (afterAll walk fresh cs) ≡ total (keptAfter none (logOf walk fresh cs))
+  used-are-kept = sym (same-total (afterAll walk fresh cs) (keptAfter none (logOf walk fresh cs)) kept)
 
-  pub held-are-kept : (o : ℕ) → isOwner o ≡ true → holding (afterAll fresh cs) o ≡ length (keptAfter none (logOf fresh cs) o)
+  pub held-are-kept : (o : ℕ) → isOwner o ≡ true → holding (afterAll walk fresh cs) o ≡ length (keptAfter none (logOf walk fresh cs) o)
   held-are-kept o v = sym (kept .count o v)
 
-  pub kept-once : (o : ℕ) → isOwner o ≡ true → noKeyTwice (keptAfter none (logOf fresh cs) o) ≡ true
-  kept-once o v = once (keptAfter none (logOf fresh cs) o) (kept .sound o v)
+  pub kept-once : (o : ℕ) → isOwner o ≡ true → noKeyTwice (keptAfter none (logOf walk fresh cs) o) ≡ true
+  kept-once o v = once (keptAfter none (logOf walk fresh cs) o) (kept .sound o v)

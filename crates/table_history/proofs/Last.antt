@@ -11,7 +11,8 @@ use borrow.Author.Tests.{eq-eqb, ne-eqb}
 use Rattle.message_rows.specs.Message.{refusal}
 use Rattle.table_slots.specs.Slots.{slots, isOwner, key, keyOf, joined}
 use Rattle.table.specs.Table.{wellFormed, put, storePlace, storeRefusal, storeTable, keyPlace, findRefusal, removeTable}
-use Rattle.table_history.specs.History.{Ask, store, find, remove, Call, number, after, afterAll, logOf, leftUnder, lastOf}
+use Rattle.table_history.specs.History.{Ask, store, find, remove, Call, afterAll, logOf, leftUnder, lastOf}
+use Rattle.table_history.specs.Inner.{number, after, walk}
 use Rattle.table.proofs.Whole.{Formed, formed, well-formed}
 use Rattle.table.proofs.Calls.{Store, Find, store-kept, remove-kept, store-owner, store-refused, store-full, store-done, find-owner, find-none, find-done}
 use Rattle.table_slots.proofs.Owner.{joined-same}
@@ -99,19 +100,19 @@ refused-keeps t o (remove s g) h = remove-kept t o s g h
 
 -- ---- a whole history
 
-pub history-formed : (t : List ℕ) → Formed t → (cs : List Call) → Formed (afterAll t cs)
+pub history-formed : (t : List ℕ) → Formed t → (cs : List Call) → Formed (afterAll walk t cs)
 unfolding afterAll
 history-formed t f [] = f
 history-formed t f (c ∷ cs) = history-formed (after t (c .owner) (c .ask)) (keep t f (c .owner) (c .ask) .0) cs
 
-pub stays-formed-all : (t : List ℕ) (cs : List Call) → wellFormed t ≡ true → wellFormed (afterAll t cs) ≡ true
-stays-formed-all t cs w = well-formed (afterAll t cs) (history-formed t (formed t w) cs)
+pub stays-formed-all : (t : List ℕ) (cs : List Call) → wellFormed t ≡ true → wellFormed (afterAll walk t cs) ≡ true
+stays-formed-all t cs w = well-formed (afterAll walk t cs) (history-formed t (formed t w) cs)
 
 pub history : (t : List ℕ) → Formed t → (cs : List Call) (o k : ℕ) → isOwner o ≡ true
-    → look (afterAll t cs) (joined o k) ≡ lastOf o k (look t (joined o k)) (logOf t cs)
+    → look (afterAll walk t cs) (joined o k) ≡ lastOf o k (look t (joined o k)) (logOf walk t cs)
 unfolding afterAll logOf lastOf
 history t f [] o k v = refl
 history t f (c ∷ cs) o k v =
     let h = keep t f (c .owner) (c .ask) in
     history (after t (c .owner) (c .ask)) (h .0) cs o k v
-    ∙ ap (λ (l : List ℕ). lastOf o k l (logOf (after t (c .owner) (c .ask)) cs)) (h .1 o k v)
+    ∙ ap (λ (l : List ℕ). lastOf o k l (logOf walk (after t (c .owner) (c .ask)) cs)) (h .1 o k v)

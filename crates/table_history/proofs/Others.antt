@@ -14,8 +14,9 @@ use Rattle.message_rows.specs.Message.{refusal, numberOf, sinOf}
 use Rattle.message_rows.proofs.Limits.{accepted-size}
 use Rattle.table_slots.specs.Slots.{slots, messageSize, most, slotSize, isOwner, groupOf, key, keyOf, slot, ownerAt}
 use Rattle.table.specs.Table.{holding, usedSlots, wellFormed, storePlace, storeRefusal, storeTable, keyPlace, findRefusal, foundAt, foundLength, found, removeTable}
-use Rattle.table_history.specs.History.{Ask, store, find, remove, Call, number, after, afterAll, callsOf}
-use Rattle.table_history.specs.Dict.{isNew, keyNumber, shown, freeNumber, Dicts, total, full, dictNumber, entries}
+use Rattle.table_history.specs.History.{Ask, store, find, remove, Call, afterAll, callsOf}
+use Rattle.table_history.specs.Inner.{number, after, shown, walk}
+use Rattle.table_history.specs.Dict.{isNew, keyNumber, freeNumber, Dicts, total, full, dictNumber, entries}
 use Rattle.table_slots.proofs.Owner.{not-none, by-owner}
 use Rattle.table_slots.proofs.Slot.{size-byte}
 use Rattle.table_slots.proofs.Marks.{group-most}
@@ -113,13 +114,13 @@ module _ (o : ℕ) (c : Call) (cs : List Call) where
   calls-other n = rw (ne-eqb (c .owner) o n, callsOf)
 
 pub others-kept-all : (o : ℕ) → isOwner o ≡ true → (cs : List Call) → callsOf o cs ≡ [] → (t : List ℕ) (i : ℕ) → i < slots → ownerAt t i ≡ o
-    → slot (afterAll t cs) i ≡ slot t i
+    → slot (afterAll walk t cs) i ≡ slot t i
 unfolding afterAll
 others-kept-all o v [] e t i l h = refl
 others-kept-all o v (c ∷ cs) e t i l h = go (ℕ-discrete (c .owner) o) (others-kept-all o v cs)
   where
-    go : Dec (c .owner ≡ o) → (callsOf o cs ≡ [] → (u : List ℕ) (j : ℕ) → j < slots → ownerAt u j ≡ o → slot (afterAll u cs) j ≡ slot u j)
-        → slot (afterAll (after t (c .owner) (c .ask)) cs) i ≡ slot t i
+    go : Dec (c .owner ≡ o) → (callsOf o cs ≡ [] → (u : List ℕ) (j : ℕ) → j < slots → ownerAt u j ≡ o → slot (afterAll walk u cs) j ≡ slot u j)
+        → slot (afterAll walk (after t (c .owner) (c .ask)) cs) i ≡ slot t i
     go (yes q) rest = absurd (let z = ap length (sym (calls-own o c cs q) ∙ e) in omega arith)
     go (no n) rest =
         let k = others-kept t (c .owner) i l (λ z. not-none o v (sym h ∙ z)) (λ z. n (sym z ∙ h)) (c .ask) in

@@ -15,8 +15,9 @@ use Rattle.message_rows.specs.Message.{refusal}
 use Rattle.message_rows.proofs.Limits.{accepted-size}
 use Rattle.table_slots.specs.Slots.{slots, most, isOwner, wellSlot, allZero, key, keyOf, joined, slot, ownerAt, held, tag}
 use Rattle.table.specs.Table.{flawed, wellSlots, countOf, newKey, place, owns, holding, isUsed, usedSlots, wellFormed, put, storePlace, storeTable, keyPlace, findRefusal, removeTable, found}
-use Rattle.table_history.specs.History.{fresh, Ask, store, find, remove, Call, number, after, leftUnder}
-use Rattle.table_history.specs.Dict.{Dict, storedUnder, without, isNew, keyNumber, freeNumber, freeShown, changed, Dicts, total, full, dictNumber, dictShown, changedFor, dictAfter, shown, Reply, reply, replies, dictReplies, entriesTo, entries}
+use Rattle.table_history.specs.History.{fresh, Ask, store, find, remove, Call, leftUnder, Reply, replies}
+use Rattle.table_history.specs.Inner.{number, after, shown, walk}
+use Rattle.table_history.specs.Dict.{Dict, storedUnder, without, isNew, keyNumber, freeNumber, freeShown, changed, Dicts, total, full, dictNumber, dictShown, changedFor, dictAfter, dictionaries, entriesTo, entries}
 use Rattle.table_slots.proofs.Owner.{not-none, by-owner}
 use Rattle.table.proofs.Count.{count-all, count-lt}
 use Rattle.table.proofs.Whole.{Formed, formed, well-formed}
@@ -48,11 +49,11 @@ pub record Step (t : List ℕ) (ds : Dicts) (o : ℕ) (a : Ask) : Type 0 where
   pub next : Same (after t o a) (dictAfter ds o a)
 
 -- what an answer of 0 changes in a dictionary
-changed-told : (a : Ask) (d : Dict) (k : ℕ) → storedUnder (changed d a) k ≡ leftUnder k (storedUnder d k) a
+changed-left : (a : Ask) (d : Dict) (k : ℕ) → storedUnder (changed d a) k ≡ leftUnder k (storedUnder d k) a
 unfolding changed leftUnder
-changed-told (store m) d k = lookup-stored m d k
-changed-told (find s g) d k = refl
-changed-told (remove s g) d k = lookup-removed d (key s g) k
+changed-left (store m) d k = lookup-stored m d k
+changed-left (find s g) d k = refl
+changed-left (remove s g) d k = lookup-removed d (key s g) k
 
 pub sound-changed : (a : Ask) (d : Dict) → freeNumber d a ≡ 0 → Sound d → Sound (changed d a)
 unfolding changed freeNumber
@@ -99,7 +100,7 @@ module _ (t : List ℕ) (ds : Dicts) (o : ℕ) (a : Ask) (s : Same t ds) where
       looks : (r k : ℕ) → isOwner r ≡ true → Dec (o ≡ r) → storedUnder (changedFor ds o a r) k ≡ look (after t o a) (joined r k)
       looks r k u (yes q) =
           let h = keep t (s .whole) o a .1 r k u in
-          rw (eq-eqb o r q) (changed-told a (ds r) k ∙ ap (λ (m : List ℕ). leftUnder k m a) (s .looks r k u) ∙ sym (rw (eq-eqb o r q, z) at h))
+          rw (eq-eqb o r q) (changed-left a (ds r) k ∙ ap (λ (m : List ℕ). leftUnder k m a) (s .looks r k u) ∙ sym (rw (eq-eqb o r q, z) at h))
       looks r k u (no n) =
           let h = keep t (s .whole) o a .1 r k u in
           rw (ne-eqb o r n) (s .looks r k u ∙ sym (rw (ne-eqb o r n) at h))
@@ -296,8 +297,8 @@ step t ds o (remove a g) s = remove-step t ds o a g s
 -- ---- any list of calls
 
 -- any table and dictionaries that are the same reply the same
-pub same-replies : (cs : List Call) (t : List ℕ) (ds : Dicts) → Same t ds → replies t cs ≡ dictReplies ds cs
-unfolding replies dictReplies reply
+pub same-replies : (cs : List Call) (t : List ℕ) (ds : Dicts) → Same t ds → replies walk t cs ≡ replies dictionaries ds cs
+unfolding replies
 same-replies [] t ds s = refl
 same-replies (c ∷ cs) t ds s =
     let p = step t ds (c .owner) (c .ask) s in
@@ -386,7 +387,7 @@ entries-same t f =
     }
 
 -- DEMAND 2, the table, whole: a well-formed table replies to any list of calls by any owners as the dictionaries of what it held at first
-pub replies-same : (t : List ℕ) → wellFormed t ≡ true → (cs : List Call) → replies t cs ≡ dictReplies (entries t) cs
+pub replies-same : (t : List ℕ) → wellFormed t ≡ true → (cs : List Call) → replies walk t cs ≡ replies dictionaries (entries t) cs
 replies-same t w cs = same-replies cs t (entries t) (entries-same t (formed t w))
 
 -- ---- a fresh table: memory that is all zero is a table, and no owner holds a slot of it

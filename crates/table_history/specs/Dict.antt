@@ -1,4 +1,4 @@
--- The dictionaries that a table stands for, one for each owner, and the replies to a list of calls, by the table and by them.
+-- The dictionaries that a table stands for, one for each owner, and what calls do on them.
 -- Assumes nothing.
 use Prim.Native.Nat.{ℕ, zero, suc, _+_}
 use mathlib.Core.List.{List, [], _∷_}
@@ -7,8 +7,8 @@ use lib.ListN.{length}
 use lib.Dec.{ltb, leb, eqb}
 use Rattle.message_rows.specs.Message.{refusal}
 use Rattle.table_slots.specs.Slots.{slots, most, isOwner, key, keyOf, slot, held}
-use Rattle.table.specs.Table.{owns, found}
-use Rattle.table_history.specs.History.{Ask, store, find, remove, Call, number, after}
+use Rattle.table.specs.Table.{owns}
+use Rattle.table_history.specs.History.{Ask, store, find, remove, Calls}
 
 -- ---- one owner's dictionary, without a limit: messages, one for each key
 
@@ -76,28 +76,10 @@ changedFor ds o a p = cond (eqb o p) (changed (ds p) a) (ds p)
 unfoldable pub dictAfter : Dicts → ℕ → Ask → Dicts
 dictAfter ds o a = cond (eqb (dictNumber ds o a) 0) (changedFor ds o a) ds
 
--- ---- the replies to a list of calls: the number and the part shown
+abbrev pub dictionaries : Calls Dicts
+dictionaries = record { number = dictNumber; shown = dictShown; after = dictAfter }
 
-unfoldable pub shown : List ℕ → ℕ → Ask → List ℕ
-shown t o (store m) = []
-shown t o (find s g) = found t o s g
-shown t o (remove s g) = []
-
-pub record Reply : Type 0 where
-  pub answer : ℕ
-  pub part : List ℕ
-
-unfoldable pub reply : List ℕ → Call → Reply
-reply t c = record { answer = number t (c .owner) (c .ask); part = shown t (c .owner) (c .ask) }
-
-unfoldable pub replies : List ℕ → List Call → List Reply
-replies t [] = []
-replies t (c ∷ cs) = reply t c ∷ replies (after t (c .owner) (c .ask)) cs
-
-unfoldable pub dictReplies : Dicts → List Call → List Reply
-dictReplies ds [] = []
-dictReplies ds (c ∷ cs) =
-    record { answer = dictNumber ds (c .owner) (c .ask); part = dictShown ds (c .owner) (c .ask) } ∷ dictReplies (dictAfter ds (c .owner) (c .ask)) cs
+-- ---- what a table holds at first
 
 -- what a table's first n slots hold for an owner
 unfoldable pub entriesTo : List ℕ → ℕ → ℕ → Dict

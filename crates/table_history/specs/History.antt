@@ -1,4 +1,4 @@
--- Whole histories of calls on one table, and what find must answer after them: demand 2's table sentence, for each owner.
+-- Whole histories of calls on any state, and what find must answer after them: demand 2's table sentence, for each owner.
 -- Assumes nothing.
 use Prim.Native.Nat.{ℕ}
 use mathlib.Core.List.{List, [], _∷_}
@@ -6,7 +6,6 @@ use mathlib.Core.Bool.{cond, _&&_}
 use lib.Dec.{eqb}
 use lib.ListN.{replicate}
 use Rattle.table_slots.specs.Slots.{tableSize, key, keyOf}
-use Rattle.table.specs.Table.{storeRefusal, storeTable, findRefusal, removeTable}
 
 -- a fresh shared table: 4,224 zero bytes
 abbrev pub fresh : List ℕ
@@ -26,30 +25,39 @@ unfoldable pub callsOf : ℕ → List Call → List Ask
 callsOf o [] = []
 callsOf o (c ∷ cs) = cond (eqb (c .owner) o) (c .ask ∷ callsOf o cs) (callsOf o cs)
 
--- the number that a call answers; the table after it
-unfoldable pub number : List ℕ → ℕ → Ask → ℕ
-number t o (store m) = storeRefusal t o m
-number t o (find s g) = findRefusal t o s g
-number t o (remove s g) = findRefusal t o s g
+-- ---- lists of calls on a state of type S
 
-unfoldable pub after : List ℕ → ℕ → Ask → List ℕ
-after t o (store m) = storeTable t o m
-after t o (find s g) = t
-after t o (remove s g) = removeTable t o s g
+-- the number that an owner's call answers, the part that it shows, and the state after it
+pub record Calls (S : Type 0) : Type 0 where
+  pub number : S → ℕ → Ask → ℕ
+  pub shown : S → ℕ → Ask → List ℕ
+  pub after : S → ℕ → Ask → S
 
--- the table after a list of calls
-unfoldable pub afterAll : List ℕ → List Call → List ℕ
-afterAll t [] = t
-afterAll t (c ∷ cs) = afterAll (after t (c .owner) (c .ask)) cs
+-- the state after all of them
+unfoldable pub afterAll : {S : Type 0} → Calls S → S → List Call → S
+afterAll k b [] = b
+afterAll k b (c ∷ cs) = afterAll k (k .after b (c .owner) (c .ask)) cs
+
+-- the replies: the number and the part shown
+pub record Reply : Type 0 where
+  pub answer : ℕ
+  pub part : List ℕ
+
+unfoldable pub replies : {S : Type 0} → Calls S → S → List Call → List Reply
+replies k b [] = []
+replies k b (c ∷ cs) =
+    record { answer = k .number b (c .owner) (c .ask); part = k .shown b (c .owner) (c .ask) } ∷ replies k (k .after b (c .owner) (c .ask)) cs
 
 -- the calls with the numbers that they answered
 pub record Entry : Type 0 where
   pub call : Call
   pub answer : ℕ
 
-unfoldable pub logOf : List ℕ → List Call → List Entry
-logOf t [] = []
-logOf t (c ∷ cs) = record { call = c; answer = number t (c .owner) (c .ask) } ∷ logOf (after t (c .owner) (c .ask)) cs
+unfoldable pub logOf : {S : Type 0} → Calls S → S → List Call → List Entry
+logOf k b [] = []
+logOf k b (c ∷ cs) = record { call = c; answer = k .number b (c .owner) (c .ask) } ∷ logOf k (k .after b (c .owner) (c .ask)) cs
+
+-- ---- what was last stored
 
 -- what an owner's call that was answered 0 leaves under its key k, where old stood before
 unfoldable pub leftUnder : ℕ → List ℕ → Ask → List ℕ

@@ -6,8 +6,8 @@ use mathlib.Core.Bool.{Bool, true, false, not, cond, _&&_, _||_}
 use lib.ListN.{length}
 use lib.Dec.{leb, eqb}
 use Rattle.table_slots.specs.Slots.{keyOf}
-use Rattle.table_history.specs.History.{Ask, Call, Entry}
-use Rattle.table_history.specs.Dict.{Dict, freeAfter, Dicts, changedFor, Reply, replies}
+use Rattle.table_history.specs.History.{Ask, Call, Calls, Reply, replies, Entry}
+use Rattle.table_history.specs.Dict.{Dict, freeAfter, Dicts, changedFor}
 
 -- ---- of the replies to all calls those that one owner gets
 
@@ -16,8 +16,8 @@ ofOwner o [] rs = []
 ofOwner o (c ∷ cs) [] = []
 ofOwner o (c ∷ cs) (r ∷ rs) = cond (eqb (c .owner) o) (r ∷ ofOwner o cs rs) (ofOwner o cs rs)
 
-unfoldable pub repliesTo : ℕ → List ℕ → List Call → List Reply
-repliesTo o t cs = ofOwner o cs (replies t cs)
+unfoldable pub repliesTo : {S : Type 0} → Calls S → ℕ → S → List Call → List Reply
+repliesTo k o b cs = ofOwner o cs (replies k b cs)
 
 -- ---- "never asks to hold more than twelve keys at once": a dictionary without a limit has at most n keys after each of the calls
 

@@ -16,13 +16,11 @@ use Rattle.arith.proofs.Tests.{both-first, both-second}
 use Rattle.table_slots.specs.Slots.{slots, slotSize, tableSize, isOwner, slot}
 use Rattle.table.specs.Table.{wellFormed}
 use Rattle.table.proofs.Whole.{formed}
-use Rattle.table_history.specs.History.{fresh, Ask, store, find, remove, Call, Entry}
-use Rattle.table_history.specs.History as plain
-use Rattle.table_history.specs.Dict.{Reply}
-use Rattle.table_history.specs.Dict as plain-dict
+use Rattle.table_history.specs.History.{fresh, Ask, store, find, remove, Call, afterAll, replies, logOf}
+use Rattle.table_history.specs.Inner.{walk}
 use Rattle.table_history.proofs.Replies.{fresh-formed}
 use Rattle.table_index_search.specs.Index.{indexSize}
-use Rattle.table_index_search.specs.Search.{searched}
+use Rattle.table_index_search.specs.Search.{named, searched, entriesAt}
 use Rattle.table_index_search.specs.Agree.{agree}
 use Rattle.table_index_search.specs.Means.{markIn}
 use Rattle.table_index_search.specs.declared.Probe.{Probe}
@@ -35,8 +33,7 @@ use Rattle.table_indexed.specs.Indexed.{entryKey, slotKey, slotKeyAt, slotKeys,
 use Rattle.table_indexed.specs.Find.{probed, usedBy, findNumber, given, partAt, partLength, foundBy}
 use Rattle.table_indexed.specs.declared.Found.{Found}
 use Rattle.table_indexed.proofs.Calls.{agrees-done, write-done, store-disagrees, store-refused, store-done, remove-disagrees, remove-refused, remove-done}
-use Rattle.table_index_history.specs.Named.{named, entriesAt}
-use Rattle.table_index_history.specs.Calls.{freshIndex, Both, number, shown, after, afterAll, replies, logOf, byteAsk, byteCalls}
+use Rattle.table_index_history.specs.Calls.{freshIndex, Both, number, after, indexed, byteAsk, byteCalls}
 use Rattle.table_index_history.proofs.Named.{searched-local, searched-count}
 use Rattle.table_index_history.proofs.Keys.{keys, length-keys}
 use Rattle.table_index_history.proofs.Step.{step}
@@ -44,13 +41,13 @@ use Rattle.table_index_history.proofs.Step.{step}
 -- ---- lists of calls
 
 pub record Same (b : Both) (cs : List Call) : Type 0 where
-  pub answers : replies b cs ≡ plain-dict.replies (b .table) cs
-  pub log : logOf b cs ≡ plain.logOf (b .table) cs
-  pub table : afterAll b cs .table ≡ plain.afterAll (b .table) cs
-  pub agreed : agreesRefusal (afterAll b cs .table) (afterAll b cs .index) ≡ 0
+  pub answers : replies indexed b cs ≡ replies walk (b .table) cs
+  pub log : logOf indexed b cs ≡ logOf walk (b .table) cs
+  pub table : afterAll indexed b cs .table ≡ afterAll walk (b .table) cs
+  pub agreed : agreesRefusal (afterAll indexed b cs .table) (afterAll indexed b cs .index) ≡ 0
 
 pub same : (cs : List Call) (b : Both) → agreesRefusal (b .table) (b .index) ≡ 0 → byteCalls cs ≡ true → Same b cs
-unfolding replies logOf afterAll byteCalls plain-dict.replies plain-dict.reply plain.logOf plain.afterAll
+unfolding replies logOf afterAll byteCalls
 same [] b e h = record { answers = refl; log = refl; table = refl; agreed = e }
 same (c ∷ cs) b e h =
     let o = c .owner in
@@ -58,9 +55,9 @@ same (c ∷ cs) b e h =
     let s = step b e o a (both-first (byteAsk a) (byteCalls cs) h) in
     let r = same cs (after b o a) (s .agreed) (both-second (byteAsk a) (byteCalls cs) h) in
     record {
-      answers = λ i. record { answer = s .answer i; part = s .part i } ∷ (r .answers ∙ ap (λ (t : List ℕ). plain-dict.replies t cs) (s .table)) i;
-      log = λ i. record { call = c; answer = s .answer i } ∷ (r .log ∙ ap (λ (t : List ℕ). plain.logOf t cs) (s .table)) i;
-      table = r .table ∙ ap (λ (t : List ℕ). plain.afterAll t cs) (s .table);
+      answers = λ i. record { answer = s .answer i; part = s .part i } ∷ (r .answers ∙ ap (λ (t : List ℕ). replies walk t cs) (s .table)) i;
+      log = λ i. record { call = c; answer = s .answer i } ∷ (r .log ∙ ap (λ (t : List ℕ). logOf walk t cs) (s .table)) i;
+      table = r .table ∙ ap (λ (t : List ℕ). afterAll walk t cs) (s .table);
       agreed = r .agreed;
     }
 

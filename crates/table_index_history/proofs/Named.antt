@@ -11,31 +11,10 @@ use lib.ListN.{length, getD, drop}
 use lib.Seq.{getD-take, getD-drop}
 use borrow.Author.Tests.{lt-ltb, le-ltb, eq-eqb, ne-eqb}
 use Rattle.table_index_search.specs.Index.{entries, entrySize, indexSize, byteAt, ownerAt, numberAt, above, slotAt, keyAt}
-use Rattle.table_index_search.specs.Search.{middle, missedAfter, metAfter, binarySearch, searched}
-use Rattle.table_index_history.specs.Named.{namedAmong, named, entryAt, entriesAt}
+use Rattle.table_index_search.specs.Search.{middle, namedAmong, named, missedAfter, metAfter, lastNamed, searched, entryAt, entriesAt}
+use Rattle.table_index_search.specs.Private.{binarySearch}
 use Rattle.table_index_search.specs.declared.Probe.{Probe}
-use Rattle.table_index_search.proofs.Rounds.{probe-none, probe-met, probe-behind, probe-before, searched-sized, searched-other}
-
--- ---- the list by cases
-
-module _ (x : List ℕ) (key : ℕ) (rounds lo end : ℕ) where
-  named-none : end < suc lo → namedAmong (suc rounds) x key lo end ≡ []
-  unfolding namedAmong
-  named-none h = rw (le-ltb lo end (omega arith), namedAmong)
-
-  named-met : lo < end → eqb (keyAt x (middle lo end)) key ≡ true → namedAmong (suc rounds) x key lo end ≡ middle lo end ∷ []
-  unfolding namedAmong
-  named-met h e = rw (lt-ltb lo end h, e, namedAmong)
-
-  named-behind : lo < end → eqb (keyAt x (middle lo end)) key ≡ false → ltb (keyAt x (middle lo end)) key ≡ true
-      → namedAmong (suc rounds) x key lo end ≡ middle lo end ∷ namedAmong rounds x key (suc (middle lo end)) end
-  unfolding namedAmong
-  named-behind h e l = rw (lt-ltb lo end h, e, l, namedAmong)
-
-  named-before : lo < end → eqb (keyAt x (middle lo end)) key ≡ false → ltb (keyAt x (middle lo end)) key ≡ false
-      → namedAmong (suc rounds) x key lo end ≡ middle lo end ∷ namedAmong rounds x key lo (middle lo end)
-  unfolding namedAmong
-  named-before h e l = rw (lt-ltb lo end h, e, l, namedAmong)
+use Rattle.table_index_search.proofs.Rounds.{named-met, named-behind, named-before, probe-none, probe-met, probe-behind, probe-before, searched-sized, searched-other}
 
 -- ---- entries that are equal have equal keys and slots
 
@@ -104,40 +83,6 @@ search-local (suc t) x y key lo end n s = by (decLt lo end) (λ lo′ end′. se
     by (yes h) rest = side rest h (eqb k key) (ltb k key) refl refl
     by (no h) rest = probe-none x key (suc t) lo end n (omega arith) ∙ sym (probe-none y key (suc t) lo end n (omega arith))
 
--- ---- how many are named
-
-pub search-count : (rounds : ℕ) (x : List ℕ) (key lo end n : ℕ) → binarySearch rounds x key lo end n .probes ≡ n + length (namedAmong rounds x key lo end)
-unfolding binarySearch namedAmong
-search-count zero x key lo end n = omega arith
-search-count (suc t) x key lo end n = by (decLt lo end) (λ lo′ end′. search-count t x key lo′ end′ (suc n))
-  where
-    m : ℕ
-    m = middle lo end
-
-    k : ℕ
-    k = keyAt x m
-
-    Rest : Type 0
-    Rest = (lo′ end′ : ℕ) → binarySearch t x key lo′ end′ (suc n) .probes ≡ suc n + length (namedAmong t x key lo′ end′)
-
-    side : Rest → lo < end → (a b : Bool) → eqb k key ≡ a → ltb k key ≡ b → binarySearch (suc t) x key lo end n .probes ≡ n + length (namedAmong (suc t) x key lo end)
-    side rest h true b p q =
-        ap (λ (r : Probe). r .probes) (probe-met x key t lo end n h p) ∙ sym (ap (λ (l : List ℕ). n + length l) (named-met x key t lo end h p) ∙ omega arith)
-    side rest h false true p q =
-        ap (λ (r : Probe). r .probes) (probe-behind x key t lo end n h p q)
-        ∙ rest (suc m) end
-        ∙ sym (ap (λ (l : List ℕ). n + length l) (named-behind x key t lo end h p q) ∙ omega arith)
-    side rest h false false p q =
-        ap (λ (r : Probe). r .probes) (probe-before x key t lo end n h p q)
-        ∙ rest lo m
-        ∙ sym (ap (λ (l : List ℕ). n + length l) (named-before x key t lo end h p q) ∙ omega arith)
-
-    by : Dec (lo < end) → Rest → binarySearch (suc t) x key lo end n .probes ≡ n + length (namedAmong (suc t) x key lo end)
-    by (yes h) rest = side rest h (eqb k key) (ltb k key) refl refl
-    by (no h) rest =
-        ap (λ (r : Probe). r .probes) (probe-none x key (suc t) lo end n (omega arith))
-        ∙ sym (ap (λ (l : List ℕ). n + length l) (named-none x key t lo end (omega arith)) ∙ omega arith)
-
 -- ---- the whole search
 
 pub searched-local : (x y : List ℕ) (key : ℕ) → length x ≡ length y → entriesAt x (named x key) ≡ entriesAt y (named x key) → searched x key ≡ searched y key
@@ -152,10 +97,16 @@ searched-local x y key e s = by (ℕ-discrete (length x) indexSize)
         ∙ sym (searched-sized y key (sym e ∙ z))
     by (no z) = searched-other x key z ∙ sym (searched-other y key (λ w. z (e ∙ w)))
 
-pub searched-count : (x : List ℕ) (key : ℕ) → searched x key .probes ≡ length (named x key)
-unfolding named
-searched-count x key = by (ℕ-discrete (length x) indexSize)
+last-counts : (x : List ℕ) (key : ℕ) (js : List ℕ) (n : ℕ) → lastNamed x key js n .probes ≡ n
+unfolding lastNamed
+last-counts x key [] n = refl
+last-counts x key (j ∷ []) n = by (eqb (keyAt x j) key)
   where
-    by : Dec (length x ≡ indexSize) → searched x key .probes ≡ length (cond (eqb (length x) indexSize) (namedAmong entries x key 0 entries) [])
-    by (yes z) = ap (λ (r : Probe). r .probes) (searched-sized x key z) ∙ rw (eq-eqb (length x) indexSize z) (search-count entries x key 0 entries 0 ∙ omega arith)
-    by (no z) = ap (λ (r : Probe). r .probes) (searched-other x key z) ∙ rw (ne-eqb (length x) indexSize z)
+    by : (b : Bool) → cond b (metAfter (slotAt x j) n) (missedAfter n) .probes ≡ n
+    by true = refl
+    by false = refl
+last-counts x key (j ∷ k ∷ js) n = last-counts x key (k ∷ js) n
+
+pub searched-count : (x : List ℕ) (key : ℕ) → searched x key .probes ≡ length (named x key)
+unfolding searched
+searched-count x key = last-counts x key (named x key) (length (named x key))

@@ -18,8 +18,7 @@ use Rattle.table.specs.Table.{place, holding, wellFormed, put, storePlace, stor
 use Rattle.table.proofs.Whole.{Formed, formed, well-formed}
 use Rattle.table.proofs.Calls as walk
 use Rattle.table_history.specs.History.{Ask, store, find, remove}
-use Rattle.table_history.specs.History as plain
-use Rattle.table_history.specs.Dict as plain-dict
+use Rattle.table_history.specs.Inner as plain
 use Rattle.table_history.proofs.Look.{place-of}
 use Rattle.table_history.proofs.Step.{group-low, key-at}
 use Rattle.table_history.proofs.Last.{keep}
@@ -101,7 +100,7 @@ removed-agrees t x o s g a small p =
 
 pub record Step (b : Both) (o : ℕ) (a : Ask) : Type 0 where
   pub answer : number b o a ≡ plain.number (b .table) o a
-  pub part : shown b o a ≡ plain-dict.shown (b .table) o a
+  pub part : shown b o a ≡ plain.shown (b .table) o a
   pub table : after b o a .table ≡ plain.after (b .table) o a
   pub agreed : agreesRefusal (after b o a .table) (after b o a .index) ≡ 0
 
@@ -110,7 +109,7 @@ leaves : {t t′ x x′ : List ℕ} → t ≡ t′ → x ≡ x′ → agreesRefu
 leaves {t} {t′} {x} {x′} p q e = ap (λ (l : List ℕ). agreesRefusal l x) p ∙ ap (agreesRefusal t′) q ∙ e
 
 pub step : (b : Both) → agreesRefusal (b .table) (b .index) ≡ 0 → (o : ℕ) (a : Ask) → byteAsk a ≡ true → Step b o a
-unfolding number shown after byteAsk plain.number plain.after plain-dict.shown part found
+unfolding number shown after byteAsk plain.number plain.after plain.shown part found
 step b e o (find s g) h =
     let t = b .table in
     let p = agrees-passed t (b .index) e in

@@ -1,15 +1,15 @@
--- Lists of calls on a table and its index: what they answer, show and leave.
+-- The exported calls on a table and its index: what they answer, show and leave.
 -- Assumes nothing.
 use Prim.Native.Nat.{ℕ}
 use mathlib.Core.List.{List, [], _∷_}
 use mathlib.Core.Bool.{Bool, true, _&&_}
+use mathlib.Core.Path.{_≡_}
 use lib.Dec.{ltb}
 use lib.ListN.{replicate}
 use Rattle.table_index_search.specs.Index.{indexSize}
-use Rattle.table_indexed.specs.Indexed.{storeNumber, storedTable, storedIndex, removeNumber, removedTable, removedIndex}
+use Rattle.table_indexed.specs.Indexed.{agreesRefusal, storeNumber, storedTable, storedIndex, removeNumber, removedTable, removedIndex}
 use Rattle.table_indexed.specs.Find.{findNumber, part}
-use Rattle.table_history.specs.History.{Ask, store, find, remove, Call, Entry}
-use Rattle.table_history.specs.Dict.{Reply}
+use Rattle.table_history.specs.History.{fresh, Ask, store, find, remove, Call, Calls}
 
 -- a fresh index: 128 zero bytes
 abbrev pub freshIndex : List ℕ
@@ -36,18 +36,16 @@ after b o (store m) = record { table = storedTable (b .table) (b .index) o m; in
 after b o (find s g) = b
 after b o (remove s g) = record { table = removedTable (b .table) (b .index) o s g; index = removedIndex (b .table) (b .index) o s g }
 
--- the same over a list of calls
-unfoldable pub afterAll : Both → List Call → Both
-afterAll b [] = b
-afterAll b (c ∷ cs) = afterAll (after b (c .owner) (c .ask)) cs
+abbrev pub indexed : Calls Both
+indexed = record { number = number; shown = shown; after = after }
 
-unfoldable pub replies : Both → List Call → List Reply
-replies b [] = []
-replies b (c ∷ cs) = record { answer = number b (c .owner) (c .ask); part = shown b (c .owner) (c .ask) } ∷ replies (after b (c .owner) (c .ask)) cs
+-- table and index agree
+abbrev pub Agreed : Both → Type 0
+Agreed b = agreesRefusal (b .table) (b .index) ≡ 0
 
-unfoldable pub logOf : Both → List Call → List Entry
-logOf b [] = []
-logOf b (c ∷ cs) = record { call = c; answer = number b (c .owner) (c .ask) } ∷ logOf (after b (c .owner) (c .ask)) cs
+-- a fresh table and a fresh index
+abbrev pub freshBoth : Both
+freshBoth = record { table = fresh; index = freshIndex }
 
 -- the SIN that a call names is a byte
 unfoldable pub byteAsk : Ask → Bool

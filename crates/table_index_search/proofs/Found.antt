@@ -8,8 +8,8 @@ use mathlib.Core.Bool.{true}
 use mathlib.Core.List.{List}
 use Rattle.arith.proofs.Tests.{false-ne-true}
 use Rattle.table_index_search.specs.Index.{entries, slotAt, above, keyAt}
-use Rattle.table_index_search.specs.Search.{middle, binarySearch, searched}
-use Rattle.table_index_search.specs.Private.{Keys}
+use Rattle.table_index_search.specs.Search.{middle, searched}
+use Rattle.table_index_search.specs.Private.{binarySearch, Keys}
 use Rattle.table_index_search.specs.Means.{Entry, Agrees}
 use Rattle.table_index_search.proofs.Entry.{used-if}
 use Rattle.table_index_search.proofs.Rounds.{round, searched-sized}

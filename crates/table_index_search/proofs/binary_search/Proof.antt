@@ -5,7 +5,8 @@ use native.Mathlib.Omega.{arith}
 use mathlib.Core.Path.{_≡_, refl, sym, ap, _∙_}
 use borrow.Author.Needs.{needs}
 use Rattle.table_index_search.specs.Index.{entries}
-use Rattle.table_index_search.specs.Search.{metAfter, binarySearch}
+use Rattle.table_index_search.specs.Search.{metAfter}
+use Rattle.table_index_search.specs.Private.{binarySearch}
 use Rattle.table_index_search.proofs.Rounds.{probe-none, round-met, round-behind, round-before}
 use Rattle.table_index_search.proofs.binary_search.Statement.{statement}
 use Rattle.table_index_search.proofs.binary_search.Tie as tie

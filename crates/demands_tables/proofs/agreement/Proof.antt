@@ -1,20 +1,23 @@
--- `demands_indexes::agreement` carries its theorems: those of index_history on what agrees and stays so.
+-- `demands_tables::agreement` carries its theorems: those of table_index_history on what agrees and stays so, and on what find shows.
 -- Assumes nothing.
 use Prim.Native.Nat.{ℕ, _<_}
 use native.Mathlib.Omega.{arith}
-use mathlib.Core.Path.{_≡_, refl, sym, ap, _∙_}
+use mathlib.Core.Path.{_≡_, sym, _∙_}
 use mathlib.Core.List.{List}
 use Rattle.table_slots.specs.Slots.{slots, slot}
+use Rattle.table.specs.Table.{foundOf}
 use Rattle.table.proofs.Whole.{formed}
 use Rattle.table_index_search.proofs.Agree as tested
 use Rattle.table_index.proofs.Laws.{one-listed}
 use Rattle.table_indexed.specs.Indexed.{slotKey, slotKeys}
+use Rattle.table_indexed.specs.Find.{foundBy}
 use Rattle.table_indexed.proofs.Calls.{agrees-passed, agrees-done}
 use Rattle.table_index_history.proofs.Keys.{keys, key-in, length-keys}
-use Rattle.table_index_history.proofs.Histories.{same, written-agrees, fresh-agrees, refused-keeps}
-use Rattle.demands_indexes.specs.Indexes.{AgreementIs, OneEntry, AgreementKept, FreshAgree}
-use Rattle.demands_indexes.proofs.agreement.Statement.{statement}
-use Rattle.demands_indexes.proofs.agreement.Tie as tie
+use Rattle.table_index_history.proofs.Histories.{same, written-agrees}
+use Rattle.table_index_history.proofs.Found.{find-same}
+use Rattle.demands_tables.specs.Indexes.{AgreementIs, OneEntry, AgreementKept, FindsLikeTheWalk}
+use Rattle.demands_tables.proofs.agreement.Statement.{statement}
+use Rattle.demands_tables.proofs.agreement.Tie as tie
 
 is : (t x : List ℕ) → AgreementIs t x
 is t x =
@@ -35,11 +38,15 @@ one t x e i j k h n lj lk a b =
 kept : AgreementKept
 kept b e cs h = same cs b e h .agreed
 
-new : FreshAgree
-new = record { size = refl; agreed = fresh-agrees }
+walk : FindsLikeTheWalk
+unfolding foundBy foundOf
+walk t x e o s g h =
+    let p = agrees-passed t x e in
+    let r = find-same t x (p .0) (p .1) o s g h in
+    record { refusal = r .number; at = r .start; length = r .size }
 
 returns : tie.Need-returns
-returns c = (is, (one, (kept, (written-agrees, (new, refused-keeps)))))
+returns c = (is, (one, (kept, (written-agrees, walk))))
 
 pub agreement-spec : {M : Type 1} → statement M
 agreement-spec = tie.close (tie.spec returns)
