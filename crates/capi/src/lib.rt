@@ -1,8 +1,9 @@
 // The exported interface: include/tarnoklej.h.
+use grid_shifts::Answer;
 ghost use mathlib.Core.Path.{_≡_};
 ghost use lib.ListN.{length};
 ghost use Rattle.message_rows.specs.Message.{header, rowRefusal, valuesRead, presentRead, writeRow};
-ghost use Rattle.capi.specs.Exported.{exportedShifts};
+ghost use Rattle.capi.specs.Exported.{unitOf, exportedShifts};
 ghost use Rattle.grid_row_refusals.specs.ShiftRow.{shiftRowRefusal, shiftRowFilled};
 ghost use Rattle.layout.specs.Layout.{answered, stored};
 ghost use Rattle.frame.specs.Frames.{frame, findFrame};
@@ -12,7 +13,6 @@ ghost use Rattle.table_indexed.specs.Find.{foundBy};
 ghost use Rattle.datum.specs.Step.{Stepped};
 ghost use Rattle.heights.specs.Heights.{writeHeights};
 ghost use Rattle.report_points.specs.Reports.{listsReport};
-ghost use Rattle.flat_reports.specs.Flat.{flat};
 ghost use Rattle.sample_checks.specs.Check.{checked};
 ghost use Rattle.sample_writer.specs.Refusals.{askedOf};
 ghost use Rattle.sample_writer.specs.Write as samples;
@@ -48,7 +48,7 @@ pub extern "C" fn tarnoklej_write_fields(
     message_rows::write_row(values, present, out)
 }
 
-// The three shifts in arc seconds or metres, with their counts and refusal numbers.
+// The three shifts in arc seconds or metres, with their counts, refusal numbers and units.
 #[repr(C)]
 pub struct Shifts {
     pub north: f64,
@@ -60,6 +60,20 @@ pub struct Shifts {
     pub north_refusal: u8,
     pub east_refusal: u8,
     pub height_refusal: u8,
+    pub north_unit: u8,
+    pub east_unit: u8,
+    pub height_unit: u8,
+}
+
+// The unit of a second answer: 0 refused, 1 arc seconds, 2 metres.
+fn unit_of(a: Answer) -> u8
+    ensures { λ r. ⌜ r ≡ unitOf a ⌝ }
+{
+    match a {
+        Answer::Seconds(_) => 1,
+        Answer::Metres(_) => 2,
+        Answer::Refused(_) => 0,
+    }
 }
 
 // The three shifts at a position.
@@ -72,6 +86,9 @@ pub extern "C" fn tarnoklej_shifts_at(s: &[u8], north: i64, east: i64) -> Shifts
     let n = p.north;
     let e = p.east;
     let h = p.height;
+    let a = n.answer;
+    let b = e.answer;
+    let c = h.answer;
     Shifts {
         north: r.north,
         east: r.east,
@@ -82,6 +99,9 @@ pub extern "C" fn tarnoklej_shifts_at(s: &[u8], north: i64, east: i64) -> Shifts
         north_refusal: n.refusal,
         east_refusal: e.refusal,
         height_refusal: h.refusal,
+        north_unit: unit_of(a),
+        east_unit: unit_of(b),
+        height_unit: unit_of(c),
     }
 }
 
@@ -204,10 +224,10 @@ pub extern "C" fn tarnoklej_report_points(
     component: u8,
     north: &[i64],
     east: &[i64],
-) -> flat_reports::FlatReport
-    ensures { λ r. ⌜ r ≡ flat (listsReport (now (s .entry)) component (now (north .entry)) (now (east .entry))) ⌝ }
+) -> report_update::Report
+    ensures { λ r. ⌜ r ≡ listsReport (now (s .entry)) component (now (north .entry)) (now (east .entry)) ⌝ }
 {
-    flat_reports::report_lists(s, component, north, east)
+    report_points::report_lists(s, component, north, east)
 }
 
 // The file of a message and the points of three slices of equal count, each with the message's answer as its claim, in the first bytes of out.

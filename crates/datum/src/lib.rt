@@ -1,4 +1,7 @@
 // The datum step of message 1021: its seven parameters applied to a position. It rests on the promises of the reader of a 1021 alone.
+use arith::refusals::ABSENT;
+use arith::refusals::METHOD;
+use arith::refusals::POSITION;
 use datum_formula::Position;
 use datum_formula::Values;
 use field::Reading;
@@ -16,31 +19,31 @@ fn by_values(p: Parameters, x: i64, y: i64, z: i64) -> Position
 {
     let dx = p.dx;
     let Reading::Value(dx) = dx else {
-        return datum_formula::refused(15);
+        return datum_formula::refused(ABSENT);
     };
     let dy = p.dy;
     let Reading::Value(dy) = dy else {
-        return datum_formula::refused(15);
+        return datum_formula::refused(ABSENT);
     };
     let dz = p.dz;
     let Reading::Value(dz) = dz else {
-        return datum_formula::refused(15);
+        return datum_formula::refused(ABSENT);
     };
     let rx = p.rx;
     let Reading::Value(rx) = rx else {
-        return datum_formula::refused(15);
+        return datum_formula::refused(ABSENT);
     };
     let ry = p.ry;
     let Reading::Value(ry) = ry else {
-        return datum_formula::refused(15);
+        return datum_formula::refused(ABSENT);
     };
     let rz = p.rz;
     let Reading::Value(rz) = rz else {
-        return datum_formula::refused(15);
+        return datum_formula::refused(ABSENT);
     };
     let ds = p.ds;
     let Reading::Value(ds) = ds else {
-        return datum_formula::refused(15);
+        return datum_formula::refused(ABSENT);
     };
     let v = Values {
         dx,
@@ -59,10 +62,10 @@ fn step_by(computation: i64, p: Parameters, x: i64, y: i64, z: i64) -> Position
     ensures { λ r. ⌜ Answered (521 * 10 ^ 32) (stepBy computation p x y z) (valuesIn p) x y z r ⌝ }
 {
     if datum_formula::beyond(100000000000, x, y, z) {
-        return datum_formula::refused(9);
+        return datum_formula::refused(POSITION);
     }
     if computation != 0 {
-        return datum_formula::refused(11);
+        return datum_formula::refused(METHOD);
     }
     by_values(p, x, y, z)
 }

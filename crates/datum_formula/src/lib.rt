@@ -1,4 +1,6 @@
 // Formula 3.5-1: the linearised seven-parameter transformation of a position, in whole numbers.
+use arith::refusals::POSITION;
+use arith::refusals::RANGE;
 ghost use Rattle.arith.specs.First.{first};
 ghost use mathlib.Core.Path.{_≡_};
 ghost use Prim.Native.Nat.{_+_, _*_, _^_, _≤_};
@@ -114,16 +116,16 @@ pub fn transformed(v: Values, x: i64, y: i64, z: i64) -> Position
     ensures { λ r. ⌜ Answered (521 * 10 ^ 32) (first (formulaTests v x y z)) v x y z r ⌝ }
 {
     if beyond(100000000000, x, y, z) {
-        return refused(9);
+        return refused(POSITION);
     }
     if beyond(4194303, v.dx, v.dy, v.dz) {
-        return refused(5);
+        return refused(RANGE);
     }
     if beyond(2147483647, v.rx, v.ry, v.rz) {
-        return refused(5);
+        return refused(RANGE);
     }
     if 16777215 < field::magnitude(v.ds) {
-        return refused(5);
+        return refused(RANGE);
     }
     target_of(v, x, y, z)
 }

@@ -17,7 +17,7 @@ use Rattle.arith.proofs.Tests.{false-ne-true}
 use Rattle.arith.proofs.Int.{ring, at, nat, minus, _⊞_, _⊟_, _⊠_}
 use Rattle.field.specs.declared.Reading.{Reading}
 use Rattle.field.specs.declared.Reading.the-variants.{Value, Absent}
-use Rattle.layout.specs.Layout.{valueIn}
+use Rattle.layout.specs.Layout.{valueIn, isAbsent}
 use Rattle.record_transformations.specs.declared.Parameters.{Parameters}
 use Rattle.message_rows.specs.Message.{layout, numberOf, kindTests}
 use Rattle.message_rows.proofs.Head.{layout-most}
@@ -26,7 +26,7 @@ use Rattle.datum_formula.specs.declared.Values.{Values}
 use Rattle.datum_formula.specs.declared.Position.{Position}
 use Rattle.datum_formula.specs.Formula.{rotatedX, rotatedY, rotatedZ, moved, Near, Answered, beyondAny, formulaTests}
 use Rattle.datum_formula.proofs.Refusals.{all-within}
-use Rattle.datum.specs.Step.{lacks, absent, valuesIn, stepTests, stepRefusal, Stepped}
+use Rattle.datum.specs.Step.{absent, valuesIn, stepTests, stepRefusal, Stepped}
 use Rattle.demands_datum.specs.Steps.{exact, rowX, rowY, rowZ, Coordinates, sayings, Bound, inOrder, Fit, FormulaBound}
 
 -- ---- the matrix
@@ -82,18 +82,18 @@ in-order s x y z = rw (kind-is (numberOf s), le-ltb 96 (length (layout s)) (omeg
 -- ---- an answer of 0
 
 -- a parameter that has a value says it
-has : (r : Reading) → lacks r ≡ false → r ≡ Value (valueIn r)
+has : (r : Reading) → isAbsent r ≡ false → r ≡ Value (valueIn r)
 has (Value z) e = refl
 has Absent e = absurd (false-ne-true (sym e))
 
 all-say : (p : Parameters) → absent p ≡ false → p ≡ sayings (valuesIn p)
 all-say p e =
-    let g = or-false (lacks (p .dx) || lacks (p .dy) || lacks (p .dz) || lacks (p .rx) || lacks (p .ry) || lacks (p .rz)) (lacks (p .ds)) e in
-    let f = or-false (lacks (p .dx) || lacks (p .dy) || lacks (p .dz) || lacks (p .rx) || lacks (p .ry)) (lacks (p .rz)) (g .0) in
-    let d = or-false (lacks (p .dx) || lacks (p .dy) || lacks (p .dz) || lacks (p .rx)) (lacks (p .ry)) (f .0) in
-    let c = or-false (lacks (p .dx) || lacks (p .dy) || lacks (p .dz)) (lacks (p .rx)) (d .0) in
-    let b = or-false (lacks (p .dx) || lacks (p .dy)) (lacks (p .dz)) (c .0) in
-    let a = or-false (lacks (p .dx)) (lacks (p .dy)) (b .0) in
+    let g = or-false (isAbsent (p .dx) || isAbsent (p .dy) || isAbsent (p .dz) || isAbsent (p .rx) || isAbsent (p .ry) || isAbsent (p .rz)) (isAbsent (p .ds)) e in
+    let f = or-false (isAbsent (p .dx) || isAbsent (p .dy) || isAbsent (p .dz) || isAbsent (p .rx) || isAbsent (p .ry)) (isAbsent (p .rz)) (g .0) in
+    let d = or-false (isAbsent (p .dx) || isAbsent (p .dy) || isAbsent (p .dz) || isAbsent (p .rx)) (isAbsent (p .ry)) (f .0) in
+    let c = or-false (isAbsent (p .dx) || isAbsent (p .dy) || isAbsent (p .dz)) (isAbsent (p .rx)) (d .0) in
+    let b = or-false (isAbsent (p .dx) || isAbsent (p .dy)) (isAbsent (p .dz)) (c .0) in
+    let a = or-false (isAbsent (p .dx)) (isAbsent (p .dy)) (b .0) in
     λ i. record {
       dx = has (p .dx) (a .0) i;
       dy = has (p .dy) (a .1) i;

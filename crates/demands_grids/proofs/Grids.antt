@@ -16,7 +16,7 @@ use Rattle.record_grids.specs.declared.Grid.{Grid}
 use Rattle.record_grids.specs.declared.Shifts.{Shifts}
 use Rattle.record_grids.specs.Grids.{gridOf, gridRow, settingsOf}
 use Rattle.field.specs.declared.Reading.{Reading}
-use Rattle.layout.specs.Layout.{valueIn}
+use Rattle.layout.specs.Layout.{valueIn, available}
 use Rattle.record_rows.specs.Numbers.{valuesOf, presentOf}
 use Rattle.message_rows.specs.Message.{kindRefusal}
 use Rattle.message_records.specs.Kinds.{readGrid}
@@ -26,7 +26,7 @@ use Rattle.grid_bilinear.proofs.Unweighted.{absent-same, sum-same}
 use Rattle.grid_shifts.specs.declared.Answer.the-variants.{Refused}
 use Rattle.grid_shifts.specs.declared.Shift.{Shift}
 use Rattle.grid_shifts.specs.declared.ThreeShifts.{ThreeShifts}
-use Rattle.grid_refusals.specs.Refusals.{ellipsoidal, available, fieldTests}
+use Rattle.grid_refusals.specs.Refusals.{ellipsoidal, fieldTests}
 use Rattle.grid_counts.specs.Counts.{nodeFactor}
 use Rattle.grid_shifts.specs.Shift.{surface, northOf, eastOf, outcome, shiftWith, recordShiftRefusal, shiftRefusal, recordShift, messageShift, answerOf, floatOf, threeOf, messageShifts}
 use Rattle.grid_place.specs.Position.{byTurns, eastBy}
@@ -108,7 +108,7 @@ module _ (g : Grid) (ns : List Shifts) (c : ℕ) (n e : ℤ) where
         (surface g c .present) (surface (withNodes g ns) c .present) k l y x (says-same f (w .sw)) (says-same f (w .se)) (says-same f (w .nw)) (says-same f (w .ne))
 
 pub only-weighted : OnlyWeighted
-unfolding surface northOf eastOf recordShift shiftWith recordShiftRefusal interpolated exact absent settingsOf
+unfolding surface northOf eastOf recordShift shiftWith recordShiftRefusal interpolated exact absent
 only-weighted g ns c n e h w =
     λ i. outcome (g .number) c
     (first

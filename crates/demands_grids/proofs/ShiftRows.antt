@@ -145,7 +145,7 @@ module _ (s : List ℕ) (c : ℕ) (n e step : ℤ) (count room : ℕ) where
       from-zero = refused-same (λ k. refusals (0 + k)) refusals count (λ k b. let z : 0 + k ≡ k = omega arith in ap refusals z)
 
       late : (k : ℕ) → k < count → (refusals k ≡ 0 → ⊥) → (10 ≤ refusals k) × (refusals k ≤ 15)
-      unfolding messageShift shiftWith outcome settingsOf
+      unfolding messageShift shiftWith outcome
       late k b o =
           let x : ℤ = e +ℤ pos k *ℤ step in
           late-numbers (sameZ (side c (g .indicators)) (pos 0)) (not (sameZ (side c (g .methods)) (pos 0))) (not (originAvailable (g .origin)))

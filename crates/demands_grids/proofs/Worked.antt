@@ -30,7 +30,7 @@ four P a b c d (suc (suc (suc zero))) h = d
 four P a b c d (suc (suc (suc (suc i)))) h = absurd (omega arith)
 
 pub grid-k-present : GridKPresent
-unfolding gridK refusal row layout layoutOf layout1023 total zeroFrom decodeAll allTake field bitAt twos signedOf gridOf pairAt originAt spacingAt settingsOf shiftsAt nodesAt surface sameZ
+unfolding gridK refusal row layout layoutOf layout1023 total zeroFrom decodeAll allTake field bitAt twos signedOf gridOf pairAt originAt spacingAt shiftsAt nodesAt surface sameZ
 grid-k-present =
     λ i j hi hj. four (λ (i : ℕ). surfaceAt gridK 2 .present i j ≡ true) (row0 j hj) (row1 j hj) (row2 j hj) (row3 j hj) i hi
   where
@@ -47,9 +47,9 @@ grid-k-present =
     row3 = four (λ (j : ℕ). surfaceAt gridK 2 .present 3 j ≡ true) refl refl refl refl
 
 pub worked-numbers : WorkedNumbers
-unfolding gridK gridKNegated gridKNode7 gridKNorth0 gridKEast0 gridKBoth0 table given wanted answerTo refusal row layout layoutOf layout1021 tail1021 layout1023 total zeroFrom decodeAll allTake field bitAt twos signedOf gridOf pairAt originAt spacingAt settingsOf shiftsAt nodesAt surface northOf byTurns eastOf shiftRefusal answerOf outcome shiftWith messageShift nearestWhole fromEdge outside cell weighted inCell exact interpolated lacks absentIn absent sameZ
+unfolding gridK gridKNegated gridKNode7 gridKNorth0 gridKEast0 gridKBoth0 table given wanted answerTo refusal row layout layoutOf layout1021 tail1021 layout1023 total zeroFrom decodeAll allTake field bitAt twos signedOf gridOf pairAt originAt spacingAt shiftsAt nodesAt surface northOf byTurns eastOf shiftRefusal answerOf outcome shiftWith messageShift nearestWhole fromEdge outside cell weighted inCell exact interpolated lacks absentIn absent sameZ
 worked-numbers = refl
 
 pub worked-metres : WorkedMetres
-unfolding gridK refusal row layout layoutOf layout1023 total zeroFrom decodeAll allTake field bitAt twos signedOf gridOf pairAt originAt spacingAt settingsOf shiftsAt nodesAt surface northOf byTurns eastOf shiftRefusal answerOf outcome shiftWith messageShift nearestWhole fromEdge outside cell weighted inCell exact interpolated lacks absentIn absent sameZ
+unfolding gridK refusal row layout layoutOf layout1023 total zeroFrom decodeAll allTake field bitAt twos signedOf gridOf pairAt originAt spacingAt shiftsAt nodesAt surface northOf byTurns eastOf shiftRefusal answerOf outcome shiftWith messageShift nearestWhole fromEdge outside cell weighted inCell exact interpolated lacks absentIn absent sameZ
 worked-metres = refl

@@ -21,7 +21,7 @@ use Rattle.arith.proofs.Lists.{length-upTo, getD-upTo}
 use Rattle.arith.proofs.Tests.{both-first, both-second, all-at}
 use Rattle.field.specs.declared.Reading.{Reading}
 use Rattle.field.specs.declared.Reading.the-variants.{Value}
-use Rattle.layout.specs.Layout.{rowOf, rowTakes, placeTakes, valueIn, size}
+use Rattle.layout.specs.Layout.{rowOf, rowTakes, placeTakes, valueIn, size, available}
 use Rattle.layout_tables.specs.Layouts.{layout1023, known}
 use Rattle.layout_tables.proofs.Length.{length-1023}
 use Rattle.record_rows.specs.Numbers.{says, numberAt, pairAt}
@@ -32,7 +32,7 @@ use Rattle.message_rows.specs.Message.{message, row, rowLayout, rowTests, refus
 use Rattle.message_rows.proofs.OneKind.{kind-read}
 use Rattle.message_rows.proofs.Trips.{number-back, message-accepted, row-of-message}
 use Rattle.grid_bilinear.specs.Bilinear.{fromEdge, outside, absent, interpolated}
-use Rattle.grid_refusals.specs.Refusals.{ellipsoidal, available, originAvailable, beyond, fieldTests}
+use Rattle.grid_refusals.specs.Refusals.{ellipsoidal, originAvailable, beyond, fieldTests}
 use Rattle.grid_place.specs.Position.{stepsOf, turn, halfTurn, byTurns}
 use Rattle.grid_place.proofs.Places.{early, spacings}
 use Rattle.grid_place.proofs.Antimeridian.{turned-only}
@@ -160,7 +160,6 @@ module _ (z wanted : List ℤ) (m : ℤ) (g : Grid) (p : Facts z wanted m g) whe
     apart = (pos (2 * j) -ℤ pos 3) *ℤ pos (2500 * natural (Lists.at z 7))
 
     spacing-most : natural (Lists.at z 7) ≤ 4095
-    unfolding settingsOf
     spacing-most = subst (λ (y : ℤ). natural y ≤ 4095) (p .columns) (held .settings .columns .1)
 
     east-is : eastOf g east ≡ apart
@@ -179,7 +178,6 @@ module _ (z wanted : List ℤ) (m : ℤ) (g : Grid) (p : Facts z wanted m g) whe
 
     module _ (b : beyond (pos 1023) north east ≡ false) where
       field-tests : first (fieldTests (settingsOf g) 2 north east) ≡ 0
-      unfolding settingsOf
       field-tests =
           none-first (beyond (g .number) north east) _ _ (originAvailable (g .origin)) _
           (ap (λ (y : ℤ). beyond y north east) (p .number) ∙ b) (p .shown) (p .method)
@@ -201,7 +199,7 @@ module _ (z wanted : List ℤ) (m : ℤ) (g : Grid) (p : Facts z wanted m g) whe
           )
 
       some : (0 < surface g 2 .H) × (0 < surface g 2 .W)
-      unfolding surface settingsOf
+      unfolding surface
       some = let d = spacings (settingsOf g) north east (held .settings) (early (settingsOf g) 2 north east field-tests) in (d .0 .0, d .1 .0)
 
       count : interpolated (surface g 2) (northOf g north) (eastOf g east) ≡ pos 10 *ℤ Lists.at wanted (4 * i + j)

@@ -30,7 +30,7 @@ use Rattle.message_rows.proofs.Head.{head-of, head-passes, head-passed, accepte
 use Rattle.layout_tables.proofs.Length.{total-1021, total-1022, total-names, by-number}
 use Rattle.message_rows.proofs.Trips.{sized-head, message-of-row, row-written, message-accepted, buffers-of-message, length-message}
 use Rattle.message_records.proofs.RecordTrips.{layout-at, kept, kept-written, helmert-row, molodenski-badekas-row, grid-row, projection-row, lambert-row, oblique-mercator-row, helmert-back, molodenski-badekas-back, grid-back, projection-back, lambert-back, oblique-mercator-back}
-use Rattle.demands_messages.specs.Messages.{Bytes, FirstThatApplies, CounterCut, AcceptedLengths, SinFound, ReportedLength, MessageAgain, RowAgain, RecordsAgain, RecordsBack}
+use Rattle.demands_messages.specs.Messages.{FirstThatApplies, CounterCut, AcceptedLengths, SinFound}
 
 -- ---- the order of refusals
 
@@ -156,47 +156,4 @@ sin-found s e =
           (λ _. unfold layoutOf layout1026 decodeAll in refl)
           (λ _. unfold layoutOf layout1027 decodeAll in refl)
           l);
-    }
-
-pub reported-length : ReportedLength
-unfolding answered
-reported-length z b n e = rw e (length-message z b n e)
-
--- ---- round trips
-
-pub message-again : MessageAgain
-message-again s b e = (message-of-row s e b, row-written s e)
-
-pub row-again : RowAgain
-row-again z b n e =
-    let d = buffers-of-message z b n e in
-    record { accepted = message-accepted z b n e; values = d .0; present = d .1 }
-
--- with both names good the writer answers as for a kind without names
-named-too : (a b : Name) (lo hi n : ℕ) (v : List Reading) → (goodName a ≡ true) × (goodName b ≡ true)
-    → kindWriteRefusal lo hi true (valuesOf v) (presentOf v) n ≡ 0 → kindWriteRefusal lo hi (goodName a && goodName b) (valuesOf v) (presentOf v) n ≡ 0
-named-too a b lo hi n v g e = rw (g .0, g .1) e
-
-pub records-again : (s : List ℕ) → Bytes s → RecordsAgain s
-records-again s b =
-    record {
-      helmert = λ e. unfold readHelmert in (kept 1021 1021 s _ e b (helmert-row s e), λ n h. named-too _ _ 1021 1021 n (helmertRow (helmertOf (says (kindRow 1021 1021 s)))) (helmert-good _) (kept-written 1021 1021 s _ n e (helmert-row s e) h));
-      molodenskiBadekas =
-          λ e. unfold readMolodenskiBadekas in (kept 1022 1022 s _ e b (molodenski-badekas-row s e), λ n h. named-too _ _ 1022 1022 n (molodenskiBadekasRow (molodenskiBadekasOf (says (kindRow 1022 1022 s)))) (molodenski-badekas-good _) (kept-written 1022 1022 s _ n e (molodenski-badekas-row s e) h));
-      grid = λ e. unfold readGrid in (kept 1023 1024 s _ e b (grid-row s e), λ n. kept-written 1023 1024 s _ n e (grid-row s e));
-      projection = λ e. unfold readProjection in (kept 1025 1025 s _ e b (projection-row s e), λ n. kept-written 1025 1025 s _ n e (projection-row s e));
-      lambert = λ e. unfold readLambert in (kept 1026 1026 s _ e b (lambert-row s e), λ n. kept-written 1026 1026 s _ n e (lambert-row s e));
-      obliqueMercator =
-          λ e. unfold readObliqueMercator in (kept 1027 1027 s _ e b (oblique-mercator-row s e), λ n. kept-written 1027 1027 s _ n e (oblique-mercator-row s e));
-    }
-
-pub records-back : (n : ℕ) → RecordsBack n
-records-back n =
-    record {
-      helmert = λ r a b e. helmert-back n r (a .long) (b .long) (a .bytes) (b .bytes) e;
-      molodenskiBadekas = λ r a b e. molodenski-badekas-back n r (a .long) (b .long) (a .bytes) (b .bytes) e;
-      grid = grid-back n;
-      projection = projection-back n;
-      lambert = lambert-back n;
-      obliqueMercator = oblique-mercator-back n;
     }

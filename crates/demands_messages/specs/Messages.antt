@@ -1,28 +1,21 @@
--- The demands on messages, in document 01's words, as statements. The proofs are in proofs/Messages.antt.
+-- The demands on messages, in document 01's words, as statements. The proofs are in proofs/Messages.antt and proofs/Trips.antt.
 -- Assumes nothing.
 use Prim.Native.Nat.{ℕ, _+_, _*_, _≤_, _<_}
 use mathlib.Core.Path.{_≡_}
 use mathlib.Core.Logic.{_⊎_}
-use mathlib.Core.Bool.{Bool, true, false, _&&_}
-use mathlib.Core.List.{List}
+use mathlib.Core.Bool.{Bool, true, false}
+use mathlib.Core.List.{List, [], _∷_, _++_}
+use lib.Dec.{ltb}
 use lib.IntN.{ℤ, pos}
-use lib.ListN.{length, getD}
-use Rattle.field.specs.declared.Reading.{Reading}
+use lib.ListN.{length, getD, drop}
+use lib.ListN as ListN
+use Rattle.arith.specs.First.{first}
 use Rattle.field.specs.declared.Reading.the-variants.{Value}
 use Rattle.record_rows.specs.Numbers.{says, valuesOf, presentOf}
-use Rattle.layout.specs.Layout.{size, total, zeroFrom, allTake, decodeAll, rowOf, answered}
+use Rattle.layout.specs.Layout.{size, total, zeroFrom, allTake, decodeAll}
 use Rattle.record_transformations.specs.declared.Name.{Name}
-use Rattle.record_transformations.specs.declared.Helmert.{Helmert}
-use Rattle.record_transformations.specs.declared.MolodenskiBadekas.{MolodenskiBadekas}
-use Rattle.record_grids.specs.declared.Grid.{Grid}
-use Rattle.record_projections.specs.declared.Projection.{Projection}
-use Rattle.record_projections.specs.declared.Lambert.{Lambert}
-use Rattle.record_projections.specs.declared.ObliqueMercator.{ObliqueMercator}
-use Rattle.record_transformations.specs.Transformations.{goodName, helmertRow, molodenskiBadekasRow}
-use Rattle.record_grids.specs.Grids.{gridRow}
-use Rattle.record_projections.specs.Projections.{projectionRow, lambertRow, obliqueMercatorRow}
-use Rattle.message_rows.specs.Message.{numberOf, sourceCount, targetCount, sinOf, layout, refusal, row, rowLayout, writeRefusal, message, kindWriteRefusal}
-use Rattle.message_records.specs.Kinds.{readHelmert, readMolodenskiBadekas, readGrid, readProjection, readLambert, readObliqueMercator}
+use Rattle.message_rows.specs.Message.{numberOf, sourceCount, targetCount, sinOf, layout, refusal, row, Outcome, writeRow}
+use Rattle.message_records.specs.Kinds.{readHelmert, readMolodenskiBadekas, readGrid, readProjection, readLambert, readObliqueMercator, writeHelmert, writeMolodenskiBadekas, writeGrid, writeProjection, writeLambert, writeObliqueMercator}
 
 -- a list of bytes
 abbrev pub Bytes : List ℕ → Type 0
@@ -74,56 +67,62 @@ pub record SinPlace (s : List ℕ) : Type 0 where
 abbrev pub SinFound : Type 0
 SinFound = (s : List ℕ) → refusal s ≡ 0 → SinPlace s
 
--- "The length reported by the writer is the layout's"
-abbrev pub ReportedLength : Type 0
-ReportedLength =
-    (z : List ℤ) (b : List ℕ) (n : ℕ) → writeRefusal z b n ≡ 0 → answered (writeRefusal z b n) (message (rowOf z b)) .length ≡ size (rowLayout (rowOf z b))
+-- ---- demand 2: both round trips, the reported length, and a writer's refusals, once over what a reader and a writer of one thing promise
 
--- ---- demand 2: both round trips
+-- written: "it fills the first bytes and keeps the rest"; not written: zero results, and the output as it was
+abbrev pub written : List ℕ → List ℕ → Outcome
+written m out = record { answer = record { refusal = 0; length = length m }; output = m ++ drop (length m) out }
 
--- an accepted message, read as a row and written again wherever there is room for it, gives the same bytes
-abbrev pub MessageAgain : Type 0
-MessageAgain =
-    (s : List ℕ) → Bytes s → refusal s ≡ 0 → (message (row s) ≡ s) × ((n : ℕ) → length s ≤ n → writeRefusal (valuesOf (row s)) (presentOf (row s)) n ≡ 0)
+abbrev pub unwritten : ℕ → List ℕ → Outcome
+unwritten n out = record { answer = record { refusal = n; length = 0 }; output = out }
 
--- a row that is written, values z and presence bytes b, is an accepted message, and reads back as itself in both buffers
-pub record RowBack (z : List ℤ) (b : List ℕ) : Type 0 where
-  pub accepted : refusal (message (rowOf z b)) ≡ 0
-  pub values : valuesOf (row (message (rowOf z b))) ≡ z
-  pub present : presentOf (row (message (rowOf z b))) ≡ b
+-- the output of w begins with an accepted message, of which the value r is read again; "The length reported by the writer is the layout's"
+pub record Back {R : Type 0} (refused : List ℕ → ℕ) (value : List ℕ → R) (r : R) (out : List ℕ) (w : Outcome) : Type 0 where
+  pub bytes : List ℕ
+  pub is : w ≡ written bytes out
+  pub room : length bytes ≤ length out
+  pub sized : length bytes ≡ size (layout bytes)
+  pub accepted : refused bytes ≡ 0
+  pub same : value bytes ≡ r
 
-abbrev pub RowAgain : Type 0
-RowAgain = (z : List ℤ) (b : List ℕ) (n : ℕ) → writeRefusal z b n ≡ 0 → RowBack z b
+-- 5 RANGE whatever the output is, then 6 ROOM where it is shorter than the message; a refused one writes nothing
+pub record Ordered (write : List ℕ → Outcome) : Type 0 where
+  pub range : Bool
+  pub length : ℕ
+  pub number : (out : List ℕ) → write out .answer .refusal ≡ first ((5, range) ∷ (6, ltb (ListN.length out) length) ∷ [])
+  pub kept : (out : List ℕ) → (write out .answer .refusal ≡ 0 → ⊥) → write out ≡ unwritten (write out .answer .refusal) out
 
--- the same of a record kind, read by its reader and written from its row
-abbrev pub Rewritten : ℕ → ℕ → Bool → List Reading → List ℕ → Type 0
-Rewritten lo hi good v s = (message v ≡ s) × ((n : ℕ) → length s ≤ n → kindWriteRefusal lo hi good (valuesOf v) (presentOf v) n ≡ 0)
+-- of a thing R the reader answers `refused` and `value` for a message, the writer `write` for a value and an output; Whole is what the code's types say of a value
+pub record RoundTrips {R : Type 0} (Whole : R → Type 0) (refused : List ℕ → ℕ) (value : List ℕ → R) (write : R → List ℕ → Outcome) : Type 0 where
+  -- an accepted message, read and written again wherever there is room for it, gives the same bytes: so a writer that only refuses is none
+  pub again : (s out : List ℕ) → Bytes s → refused s ≡ 0 → length s ≤ length out → write (value s) out ≡ written s out
+  -- what is written reads back as itself
+  pub back : (r : R) (out : List ℕ) → Whole r → write r out .answer .refusal ≡ 0 → Back refused value r out (write r out)
+  -- 5, 6
+  pub order : (r : R) → Ordered (write r)
 
-pub record RecordsAgain (s : List ℕ) : Type 0 where
-  pub helmert : readHelmert s .refusal ≡ 0
-      → Rewritten 1021 1021 (goodName (readHelmert s .value .source) && goodName (readHelmert s .value .target)) (helmertRow (readHelmert s .value)) s
-  pub molodenskiBadekas : readMolodenskiBadekas s .refusal ≡ 0
-      → Rewritten 1022 1022 (goodName (readMolodenskiBadekas s .value .source) && goodName (readMolodenskiBadekas s .value .target)) (molodenskiBadekasRow (readMolodenskiBadekas s .value)) s
-  pub grid : readGrid s .refusal ≡ 0 → Rewritten 1023 1024 true (gridRow (readGrid s .value)) s
-  pub projection : readProjection s .refusal ≡ 0 → Rewritten 1025 1025 true (projectionRow (readProjection s .value)) s
-  pub lambert : readLambert s .refusal ≡ 0 → Rewritten 1026 1026 true (lambertRow (readLambert s .value)) s
-  pub obliqueMercator : readObliqueMercator s .refusal ≡ 0 → Rewritten 1027 1027 true (obliqueMercatorRow (readObliqueMercator s .value)) s
+-- a row as its two buffers
+pub record Buffers : Type 0 where
+  pub values : List ℤ
+  pub present : List ℕ
+
+abbrev pub buffersIn : List ℕ → Buffers
+buffersIn s = record { values = valuesOf (row s); present = presentOf (row s) }
+
+abbrev pub writeBuffers : Buffers → List ℕ → Outcome
+writeBuffers b out = writeRow (b .values) (b .present) out
 
 -- a name as a record has it: 31 bytes
 pub record NameBytes (n : Name) : Type 0 where
   pub long : length (n .chars) ≡ 31
   pub bytes : (j : ℕ) → j < n .length → getD (n .chars) j 0 < 256
 
--- a record that is written reads back as itself, for each kind
-pub record RecordsBack (n : ℕ) : Type 0 where
-  pub helmert : (r : Helmert) → NameBytes (r .source) → NameBytes (r .target)
-      → kindWriteRefusal 1021 1021 (goodName (r .source) && goodName (r .target)) (valuesOf (helmertRow r)) (presentOf (helmertRow r)) n ≡ 0
-      → readHelmert (message (helmertRow r)) ≡ record { refusal = 0; value = r }
-  pub molodenskiBadekas : (r : MolodenskiBadekas) → NameBytes (r .source) → NameBytes (r .target)
-      → kindWriteRefusal 1022 1022 (goodName (r .source) && goodName (r .target)) (valuesOf (molodenskiBadekasRow r)) (presentOf (molodenskiBadekasRow r)) n ≡ 0
-      → readMolodenskiBadekas (message (molodenskiBadekasRow r)) ≡ record { refusal = 0; value = r }
-  pub grid : (r : Grid) → length (r .nodes) ≡ 16 → kindWriteRefusal 1023 1024 true (valuesOf (gridRow r)) (presentOf (gridRow r)) n ≡ 0 → readGrid (message (gridRow r)) ≡ record { refusal = 0; value = r }
-  pub projection : (r : Projection) → kindWriteRefusal 1025 1025 true (valuesOf (projectionRow r)) (presentOf (projectionRow r)) n ≡ 0 → readProjection (message (projectionRow r)) ≡ record { refusal = 0; value = r }
-  pub lambert : (r : Lambert) → kindWriteRefusal 1026 1026 true (valuesOf (lambertRow r)) (presentOf (lambertRow r)) n ≡ 0 → readLambert (message (lambertRow r)) ≡ record { refusal = 0; value = r }
-  pub obliqueMercator : (r : ObliqueMercator) → kindWriteRefusal 1027 1027 true (valuesOf (obliqueMercatorRow r)) (presentOf (obliqueMercatorRow r)) n ≡ 0
-      → readObliqueMercator (message (obliqueMercatorRow r)) ≡ record { refusal = 0; value = r }
+-- of rows, and of each kind of record
+pub record BothTrips : Type 0 where
+  pub rows : RoundTrips (λ b. Unit {0}) refusal buffersIn writeBuffers
+  pub helmert : RoundTrips (λ r. NameBytes (r .source) × NameBytes (r .target)) (λ s. readHelmert s .refusal) (λ s. readHelmert s .value) writeHelmert
+  pub molodenskiBadekas : RoundTrips (λ r. NameBytes (r .source) × NameBytes (r .target)) (λ s. readMolodenskiBadekas s .refusal) (λ s. readMolodenskiBadekas s .value) writeMolodenskiBadekas
+  pub grid : RoundTrips (λ r. length (r .nodes) ≡ 16) (λ s. readGrid s .refusal) (λ s. readGrid s .value) writeGrid
+  pub projection : RoundTrips (λ r. Unit {0}) (λ s. readProjection s .refusal) (λ s. readProjection s .value) writeProjection
+  pub lambert : RoundTrips (λ r. Unit {0}) (λ s. readLambert s .refusal) (λ s. readLambert s .value) writeLambert
+  pub obliqueMercator : RoundTrips (λ r. Unit {0}) (λ s. readObliqueMercator s .refusal) (λ s. readObliqueMercator s .value) writeObliqueMercator

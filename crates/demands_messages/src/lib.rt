@@ -1,7 +1,7 @@
 // The demands on messages as theorems, each the promise of a function that does nothing, so that none can be taken away unnoticed.
 ghost use Prim.Native.Nat.{ℕ};
 ghost use mathlib.Core.List.{List};
-ghost use Rattle.demands_messages.specs.Messages.{Bytes, FirstThatApplies, CounterCut, AcceptedLengths, SinFound, ReportedLength, MessageAgain, RowAgain, RecordsAgain, RecordsBack};
+ghost use Rattle.demands_messages.specs.Messages.{FirstThatApplies, CounterCut, AcceptedLengths, SinFound, BothTrips};
 
 // Demand 1 of reading: the first refusal that applies, and only then.
 pub fn refusals()
@@ -12,14 +12,10 @@ pub fn refusals()
 // Demand 2: the lengths of messages, and where the system identification number stands.
 pub fn lengths()
     ensures accepted { λ r. ⌜ AcceptedLengths ⌝ }
-    ensures reported { λ r. ⌜ ReportedLength ⌝ }
     ensures sin { λ r. ⌜ SinFound ⌝ }
 {}
 
-// Demand 2: both round trips, of rows and of records.
+// Demand 2: both round trips, the reported length and the writers' refusals, of rows and of records.
 pub fn round_trips()
-    ensures messages { λ r. ⌜ MessageAgain ⌝ }
-    ensures rows { λ r. ⌜ RowAgain ⌝ }
-    ensures records { λ r. ⌜ ((s : List ℕ) → Bytes s → RecordsAgain s) ⌝ }
-    ensures back { λ r. ⌜ ((n : ℕ) → RecordsBack n) ⌝ }
+    ensures trips { λ r. ⌜ BothTrips ⌝ }
 {}

@@ -1,4 +1,5 @@
 // The search for frames in a stream of which a window is held.
+use arith::refusals::NOFRAME;
 ghost use Prim.Native.Nat.{_+_, _≤_};
 ghost use mathlib.Core.Path.{_≡_};
 ghost use mathlib.Core.List.{_++_};
@@ -28,7 +29,7 @@ pub fn next_step(bytes: &[u8], from: usize, ended: bool) -> Step
             next: f.at + f.length + 6,
         };
     }
-    if f.refusal == 20 {
+    if f.refusal == NOFRAME {
         return Step {
             found: false,
             more: true,

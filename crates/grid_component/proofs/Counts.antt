@@ -91,7 +91,6 @@ module _ (s : List ℕ) (c : ℕ) (n e : ℤ) where
     place = ap (λ (f : Settings). heldPlace f c n e) (settings-said s h) ∙ held-place (settingsOf g) (fields .settings) c n e
 
     number : settings .number ≡ g .number
-    unfolding settingsOf
     number = ap (λ (f : Settings). f .number) (settings-said s h)
 
     part-is : partShift (settings .number) c (p .refusal) (meanSays s c) (cellSays s c (p .row) (p .column)) (weightsIn (p .height) (p .width) (p .north) (p .east)) ≡ messageShift s c n e

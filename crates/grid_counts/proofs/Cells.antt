@@ -8,8 +8,7 @@ use lib.IntN.{ℤ}
 use Rattle.arith.proofs.Tests.{false-ne-true}
 use Rattle.field.specs.declared.Reading.{Reading}
 use Rattle.field.specs.declared.Reading.the-variants.{Value, Absent}
-use Rattle.layout.specs.Layout.{valueIn}
-use Rattle.grid_refusals.specs.Refusals.{available}
+use Rattle.layout.specs.Layout.{valueIn, available}
 use Rattle.grid_bilinear.specs.Bilinear.{lacks}
 use Rattle.grid_cell.specs.declared.Corners.{Corners}
 use Rattle.grid_cell.specs.declared.Weights.{Weights}

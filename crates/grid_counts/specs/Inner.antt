@@ -4,8 +4,7 @@ use mathlib.Core.Bool.{Bool, not, cond, _||_}
 use Prim.Native.Nat.{ℕ}
 use lib.IntN.{ℤ, pos, _*ℤ_}
 use Rattle.field.specs.declared.Reading.{Reading}
-use Rattle.layout.specs.Layout.{valueIn}
-use Rattle.grid_refusals.specs.Refusals.{available}
+use Rattle.layout.specs.Layout.{valueIn, available}
 use Rattle.grid_bilinear.specs.Bilinear.{lacks}
 use Rattle.grid_cell.specs.Inner.{countBy}
 use Rattle.grid_cell.specs.declared.Corners.{Corners}

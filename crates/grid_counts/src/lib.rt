@@ -1,10 +1,11 @@
 // The count in a cell from what its mean and its nodes say.
+use arith::refusals::ABSENT;
 use field::Reading;
 use grid_cell::Corners;
 use grid_cell::Weights;
 use grid_fields::Nodes;
 ghost use mathlib.Core.Path.{_≡_};
-ghost use Rattle.grid_refusals.specs.Refusals.{available};
+ghost use Rattle.layout.specs.Layout.{available};
 ghost use Rattle.grid_bilinear.specs.Bilinear.{lacks};
 ghost use Rattle.grid_counts.specs.Counts.{nodeFactor, refusedWith};
 ghost use Rattle.grid_counts.specs.Inner.{valuesIn, lacking, countAt, cellCount};
@@ -114,23 +115,23 @@ pub fn cell_count(number: i64, component: u8, mean: Reading, n: Nodes, k: Weight
     ensures { λ r. ⌜ r ≡ cellCount number component mean n k ⌝ }
 {
     let Reading::Value(m) = mean else {
-        return refused(15);
+        return refused(ABSENT);
     };
     let a = n.sw;
     let Reading::Value(sw) = needed(k.sw, a) else {
-        return refused(15);
+        return refused(ABSENT);
     };
     let b = n.se;
     let Reading::Value(se) = needed(k.se, b) else {
-        return refused(15);
+        return refused(ABSENT);
     };
     let c = n.nw;
     let Reading::Value(nw) = needed(k.nw, c) else {
-        return refused(15);
+        return refused(ABSENT);
     };
     let d = n.ne;
     let Reading::Value(ne) = needed(k.ne, d) else {
-        return refused(15);
+        return refused(ABSENT);
     };
     let count = count_in(number, component, m, Corners { sw, se, nw, ne }, k);
     Counted { refusal: 0, count }

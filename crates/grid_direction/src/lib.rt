@@ -1,4 +1,5 @@
 // The arithmetic of a grid along one direction.
+use arith::refusals::OUTSIDE;
 ghost use mathlib.Core.Path.{_≡_};
 ghost use Prim.Native.Nat.{_≤_, _<_};
 ghost use lib.IntN.{natAbs};
@@ -17,7 +18,7 @@ fn outer() -> PlaceAlong
     ensures { λ r. ⌜ (r .refusal ≡ 14) × (r .steps ≡ 0) × (r .cell ≡ 0) ⌝ }
 {
     PlaceAlong {
-        refusal: 14,
+        refusal: OUTSIDE,
         steps: 0,
         cell: 0,
     }

@@ -22,8 +22,8 @@ use Rattle.grid_direction.specs.Inner.{alongOf}
 use Rattle.grid_cell.specs.Private.{Within}
 use Rattle.grid_direction.specs.declared.PlaceAlong.{PlaceAlong}
 use Rattle.grid_direction.proofs.Placed.{along-steps, along-cell}
-use Rattle.grid_place.specs.Position.{stepsOf}
-use Rattle.grid_place.specs.Inner.{heightOf, widthOf, northFrom, eastFrom, placeTests, noPlace, placeOf, located}
+use Rattle.grid_place.specs.Position.{stepsOf, heightOf, widthOf, northFrom, eastFrom, placeTests}
+use Rattle.grid_place.specs.Inner.{noPlace, placeOf, located}
 use Rattle.grid_place.specs.Private.{Fields}
 use Rattle.grid_place.specs.declared.Located.{Located}
 

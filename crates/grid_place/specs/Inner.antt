@@ -1,42 +1,21 @@
 -- What only promises between crates name.
 -- Assumes nothing.
 use Prim.Native.Nat.{ℕ, _-_, _*_}
-use mathlib.Core.Bool.{Bool, not, cond, _&&_, _||_}
-use mathlib.Core.List.{List, [], _∷_, _++_}
+use mathlib.Core.Bool.{Bool, not, cond, _&&_}
 use lib.Dec.{eqb, leb}
-use lib.IntN.{ℤ, pos, natAbs, _-ℤ_, _*ℤ_}
+use lib.IntN.{ℤ, pos, natAbs}
 use lib.Signed.{ltZ}
-use Rattle.arith.specs.First.{Test, first}
-use Rattle.arith.specs.Whole.{natural}
+use Rattle.arith.specs.First.{first}
 use Rattle.layout.specs.Layout.{valueIn}
 use Rattle.record_grids.specs.declared.Settings.{Settings}
-use Rattle.grid_refusals.specs.Refusals.{ellipsoidal, fieldTests}
-use Rattle.grid_bilinear.specs.Bilinear.{outside}
+use Rattle.grid_refusals.specs.Refusals.{ellipsoidal}
 use Rattle.grid_direction.specs.Inner.{alongOf}
 use Rattle.grid_direction.specs.declared.PlaceAlong.{PlaceAlong}
 use Rattle.grid_place.specs.declared.Located.{Located}
 use Rattle.grid_place.specs.declared.TwoPlaces.{TwoPlaces}
-use Rattle.grid_place.specs.Position.{stepsOf, eastBy}
-
--- ---- the height and the width of a cell, and the differences position minus origin, in steps
-
-abbrev pub heightOf : Settings → ℕ
-heightOf f = natural (f .spacing .north) * stepsOf (f .number)
-
-abbrev pub widthOf : Settings → ℕ
-widthOf f = natural (f .spacing .east) * stepsOf (f .number)
-
-abbrev pub northFrom : Settings → ℤ → ℤ
-northFrom f n = n -ℤ pos (stepsOf (f .number)) *ℤ valueIn (f .origin .north)
-
-abbrev pub eastFrom : Settings → ℤ → ℤ
-eastFrom f e = eastBy (f .number) (e -ℤ pos (stepsOf (f .number)) *ℤ valueIn (f .origin .east))
+use Rattle.grid_place.specs.Position.{heightOf, widthOf, northFrom, eastFrom, placeTests}
 
 -- ---- the place
-
--- 8 to 13 (`fieldTests`, crate grid_refusals), then 14 OUTSIDE
-abbrev pub placeTests : Settings → ℕ → ℤ → ℤ → List Test
-placeTests f c n e = fieldTests f c n e ++ ((14, outside (heightOf f) (northFrom f n) || outside (widthOf f) (eastFrom f e)) ∷ [])
 
 -- refusal r, and no place
 abbrev pub noPlace : ℕ → Located

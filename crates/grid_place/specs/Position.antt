@@ -1,9 +1,15 @@
 -- The place of a position in a grid: document 01, "The grid" and "Refusal numbers", with request A2.
 -- Assumes nothing.
-use Prim.Native.Nat.{ℕ, _-_, _%_}
-use mathlib.Core.Bool.{cond}
-use lib.IntN.{ℤ, pos, negsuc, _+ℤ_, _-ℤ_}
-use Rattle.grid_refusals.specs.Refusals.{ellipsoidal}
+use Prim.Native.Nat.{ℕ, _-_, _*_, _%_}
+use mathlib.Core.Bool.{cond, _||_}
+use mathlib.Core.List.{List, [], _∷_, _++_}
+use lib.IntN.{ℤ, pos, negsuc, _+ℤ_, _-ℤ_, _*ℤ_}
+use Rattle.arith.specs.First.{Test}
+use Rattle.arith.specs.Whole.{natural}
+use Rattle.layout.specs.Layout.{valueIn}
+use Rattle.record_grids.specs.declared.Settings.{Settings}
+use Rattle.grid_refusals.specs.Refusals.{ellipsoidal, fieldTests}
+use Rattle.grid_bilinear.specs.Bilinear.{outside}
 
 -- ---- steps, document 01's unit of positions
 
@@ -32,3 +38,23 @@ byTurns z = pos (withoutTurns (z +ℤ pos halfTurn)) -ℤ pos halfTurn
 -- longitudes are compared across the antimeridian, eastings of 1024 as plain numbers
 abbrev pub eastBy : ℤ → ℤ → ℤ
 eastBy number d = cond (ellipsoidal number) (byTurns d) d
+
+-- ---- the height and the width of a cell, and the differences position minus origin, in steps
+
+abbrev pub heightOf : Settings → ℕ
+heightOf f = natural (f .spacing .north) * stepsOf (f .number)
+
+abbrev pub widthOf : Settings → ℕ
+widthOf f = natural (f .spacing .east) * stepsOf (f .number)
+
+abbrev pub northFrom : Settings → ℤ → ℤ
+northFrom f n = n -ℤ pos (stepsOf (f .number)) *ℤ valueIn (f .origin .north)
+
+abbrev pub eastFrom : Settings → ℤ → ℤ
+eastFrom f e = eastBy (f .number) (e -ℤ pos (stepsOf (f .number)) *ℤ valueIn (f .origin .east))
+
+-- ---- refusals
+
+-- 8 to 13 (`fieldTests`, crate grid_refusals), then 14 OUTSIDE
+abbrev pub placeTests : Settings → ℕ → ℤ → ℤ → List Test
+placeTests f c n e = fieldTests f c n e ++ ((14, outside (heightOf f) (northFrom f n) || outside (widthOf f) (eastFrom f e)) ∷ [])

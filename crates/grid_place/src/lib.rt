@@ -1,4 +1,6 @@
 // The place of a position in a grid: COMPONENT to OUTSIDE, or the cell and the steps in it.
+use arith::refusals::OUTSIDE;
+use arith::refusals::RANGE;
 use record_grids::Settings;
 ghost use mathlib.Core.Path.{_≡_};
 ghost use mathlib.Core.Bool.{true, not, cond, _&&_};
@@ -133,14 +135,14 @@ fn place_of(f: Settings, component: u8, north: i64, east: i64) -> Located
     let u = difference(north, layout::value_in(latitude), steps);
     let n = grid_direction::along(u, h);
     if n.refusal != 0 {
-        return no_place(14);
+        return no_place(OUTSIDE);
     }
     let longitude = origin.east;
     let w = spacing_of(spacing.east, steps);
     let v = east_difference(number, east, layout::value_in(longitude), steps);
     let e = grid_direction::along(v, w);
     if e.refusal != 0 {
-        return no_place(14);
+        return no_place(OUTSIDE);
     }
     place_in(n, e, h, w)
 }
@@ -195,7 +197,7 @@ pub fn locate(f: Settings, component: u8, north: i64, east: i64) -> Located
     ensures { λ r. ⌜ r ≡ heldPlace f component north east ⌝ }
 {
     if !settings_held(f) {
-        return no_place(5);
+        return no_place(RANGE);
     }
     place_of(f, component, north, east)
 }
@@ -221,7 +223,7 @@ fn vertical_of(f: Settings, p: Located, north: i64, east: i64) -> Located
     if refusal == 0 {
         return vertical_at(f, p, north, east);
     }
-    if refusal == 14 {
+    if refusal == OUTSIDE {
         return vertical_at(f, p, north, east);
     }
     place_of(f, 2, north, east)
@@ -252,7 +254,7 @@ pub fn locate_both(f: Settings, north: i64, east: i64) -> TwoPlaces
     ensures { λ r. ⌜ r ≡ heldTwoPlaces f north east ⌝ }
 {
     if !settings_held(f) {
-        return two_places_of(no_place(5), no_place(5));
+        return two_places_of(no_place(RANGE), no_place(RANGE));
     }
     let h = place_of(f, 0, north, east);
     let v = vertical_of(f, h, north, east);

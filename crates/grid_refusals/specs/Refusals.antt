@@ -1,14 +1,13 @@
 -- Refusals 8 COMPONENT to 13 SPACING of the shift: document 01, "The grid" and "Refusal numbers".
 -- Assumes nothing.
 use Prim.Native.Nat.{ℕ}
-use mathlib.Core.Bool.{Bool, true, false, not, cond, _&&_, _||_}
+use mathlib.Core.Bool.{Bool, not, cond, _&&_, _||_}
 use mathlib.Core.List.{List, [], _∷_}
 use lib.Dec.{eqb, ltb}
 use lib.IntN.{ℤ, pos, natAbs}
 use Rattle.arith.specs.First.{Test}
 use Rattle.arith.specs.Whole.{sameZ}
-use Rattle.field.specs.declared.Reading.{Reading}
-use Rattle.field.specs.declared.Reading.the-variants.{Value, Absent}
+use Rattle.layout.specs.Layout.{available}
 use Rattle.record_grids.specs.declared.Origin.{Origin}
 use Rattle.record_grids.specs.declared.Settings.{Settings}
 use Rattle.record_rows.specs.declared.Pair.{Pair}
@@ -20,11 +19,6 @@ ellipsoidal number = sameZ number (pos 1023)
 -- components 0 and 1 go by the horizontal indicators, component 2 by the vertical ones
 abbrev pub side : ℕ → Pair → ℤ
 side c p = cond (eqb c 2) (p .vertical) (p .horizontal)
-
--- a field has a value
-abbrev pub available : Reading → Bool
-available (Value z) = true
-available Absent = false
 
 -- DF192 and DF193, DF202; DF203, which is unsigned, has a value in every message
 abbrev pub originAvailable : Origin → Bool

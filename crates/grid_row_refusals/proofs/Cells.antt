@@ -24,8 +24,8 @@ use Rattle.grid_refusals.specs.Refusals.{beyond, ellipsoidal, fieldTests}
 use Rattle.grid_bilinear.specs.Bilinear.{fromEdge, outside, cell}
 use Rattle.grid_bilinear.proofs.Place.{steps-are, steps-most, cell-le, cell-from, cell-upto}
 use Rattle.grid_cell.specs.Private.{Within}
-use Rattle.grid_place.specs.Position.{turn, halfTurn, byTurns, eastBy, stepsOf}
-use Rattle.grid_place.specs.Inner.{heightOf, widthOf, northFrom, eastFrom, placeTests, located}
+use Rattle.grid_place.specs.Position.{turn, halfTurn, byTurns, eastBy, stepsOf, heightOf, widthOf, northFrom, eastFrom, placeTests}
+use Rattle.grid_place.specs.Inner.{located}
 use Rattle.grid_place.specs.declared.Located.{Located}
 use Rattle.grid_place.proofs.Antimeridian.{turnsOf, turned-same, turned-low, turned-only}
 use Rattle.grid_place.proofs.Places.{inside, spacings}
@@ -132,15 +132,15 @@ module _ (s : List ℕ) (h : kindRefusal 1023 1024 s ≡ 0) (c : ℕ) (n e : ℤ
         passes (fieldTests (settingsOf g) c n e) ((14, outside (heightOf (settingsOf g)) (northFrom (settingsOf g) n) || outside (widthOf (settingsOf g)) (eastFrom (settingsOf g) e)) ∷ []) tt none .0
 
     north-in : outside H (northOf g n) ≡ false
-    unfolding settingsOf surface northOf
+    unfolding surface northOf
     north-in = inside (settingsOf g) c n e none .north
 
     east-in : outside W (eastOf g e) ≡ false
-    unfolding settingsOf surface eastOf
+    unfolding surface eastOf
     east-in = inside (settingsOf g) c n e none .east
 
     spaced : ((0 < H) × (H ≤ 40950000)) × ((0 < W) × (W ≤ 40950000))
-    unfolding settingsOf surface
+    unfolding surface
     spaced = spacings (settingsOf g) n e (fields .settings) (inside (settingsOf g) c n e none .early)
 
     -- those of the second
@@ -166,7 +166,6 @@ module _ (s : List ℕ) (h : kindRefusal 1023 1024 s ≡ 0) (c : ℕ) (n e : ℤ
     on-inside = ap (outside W) on-east ∙ still-inside W (eastOf g e) t east-in on-grid
 
     on-tests : first (fieldTests (settingsOf g) c n (e +ℤ pos t)) ≡ 0
-    unfolding settingsOf
     on-tests = other (ltb 2 c) (beyond (g .number) n e) (beyond (g .number) n (e +ℤ pos t)) (drop 2 (fieldTests (settingsOf g) c n e)) early near
 
     -- the place in the cell of the first

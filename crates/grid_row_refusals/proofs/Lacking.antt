@@ -13,7 +13,7 @@ use Rattle.arith.proofs.Lists.{all-true}
 use Rattle.arith.proofs.Tests.{all-stops}
 use Rattle.field.specs.declared.Reading.{Reading}
 use Rattle.grid_bilinear.specs.Bilinear.{lacks}
-use Rattle.grid_refusals.specs.Refusals.{available}
+use Rattle.layout.specs.Layout.{available}
 use Rattle.grid_fields.specs.declared.Nodes.{Nodes}
 use Rattle.grid_row_refusals.specs.Private.{lackingAt}
 

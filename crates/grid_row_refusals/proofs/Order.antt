@@ -64,7 +64,6 @@ natural-step (negsuc m) h = absurd (false-ne-true (sym h))
 
 -- the number that the settings says
 pub number-said : (s : List ℕ) {f : Settings} → kindRefusal 1023 1024 s ≡ 0 → f ≡ settingsAt (gridSays s) → f .number ≡ gridOf (says (row s)) .number
-unfolding settingsOf
 number-said s h k = ap (λ (f : Settings). f .number) (k ∙ settings-said s h)
 
 pub ready : {s : List ℕ} {f : Settings} {n e step : ℤ} {count : ℕ} → kindRefusal 1023 1024 s ≡ 0 → f ≡ settingsAt (gridSays s)

@@ -20,7 +20,8 @@ use Rattle.message_rows.specs.Message.{row, kindRefusal}
 use Rattle.grid_refusals.specs.Refusals.{beyond}
 use Rattle.grid_fields.specs.Inner.{gridSays, meanSays, cellSays}
 use Rattle.grid_fields.specs.declared.Nodes.{Nodes}
-use Rattle.grid_place.specs.Inner.{placeTests, located, heldPlace}
+use Rattle.grid_place.specs.Position.{placeTests}
+use Rattle.grid_place.specs.Inner.{located, heldPlace}
 use Rattle.grid_place.specs.declared.Located.{Located}
 use Rattle.grid_place.proofs.Held.{held-place}
 use Rattle.grid_place.proofs.Places.{located-refusal, within, in-grid}
@@ -88,7 +89,6 @@ module _ (s : List ℕ) (h : kindRefusal 1023 1024 s ≡ 0) {f : Settings} (sett
 
     -- t steps further east in the cell
     pub shift-there : (t : ℕ) → beyond (f .number) n (e +ℤ pos t) ≡ false → p .east + t ≤ p .width → messageShift s c n (e +ℤ pos t) ≡ cellShift (f .number) c mean nodes (weightsAt (further p t))
-    unfolding settingsOf
     shift-there t near b =
         let back : located (settingsOf g) c n e ≡ p = sym place in
         on-in-cell s h c n e there t (subst (λ (q : Settings). beyond (q .number) n (e +ℤ pos t) ≡ false) settings-is near)

@@ -11,7 +11,7 @@ use Rattle.arith.specs.First.{Test, first}
 use Rattle.arith.specs.Lists.{upTo, allBelow}
 use Rattle.record_rows.specs.Numbers.{says}
 use Rattle.record_grids.specs.Grids.{gridOf}
-use Rattle.message_rows.specs.Message.{tests, numberOf, row}
+use Rattle.message_rows.specs.Message.{row, kindTests}
 use Rattle.grid_refusals.specs.Refusals.{beyond}
 use Rattle.grid_shifts.specs.Shift.{messageShift}
 use Rattle.grid_shifts.specs.declared.Shift.{Shift}
@@ -36,9 +36,8 @@ refusedTest p = (p .refusal, not (eqb (p .refusal) 0))
 -- "Refusals: 1 to 5, KIND, COMPONENT; POSITION ..; then 10 to 15, that of the first place refused; then ROOM, if the row lent is too short"
 unfoldable pub shiftRowRefusal : List ℕ → ℕ → (n e step : ℤ) → (count room : ℕ) → ℕ
 shiftRowRefusal s c n e step count room =
-    first (tests s
-    ++ (7, not (leb 1023 (numberOf s) && leb (numberOf s) 1024))
-    ∷ (8, ltb 2 c)
+    first (kindTests 1023 1024 s
+    ++ (8, ltb 2 c)
     ∷ (9, misplaced (gridOf (says (row s)) .number) n e step count)
     ∷ upTo (λ k. refusedTest (messageShift s c n (eastAt e step k))) count
     ++ (6, ltb room count)

@@ -1,4 +1,8 @@
 // The refusal of a row of shifts at equal steps east.
+use arith::refusals::ABSENT;
+use arith::refusals::COMPONENT;
+use arith::refusals::POSITION;
+use arith::refusals::ROOM;
 use field::Reading;
 use grid_fields::Nodes;
 use record_grids::Settings;
@@ -54,13 +58,13 @@ fn run_refusal(
     ensures { λ r. ⌜ r ≡ cond (allBelow (λ j. not (lackingAt mean n h w y (x + j * step))) places) 0 15 ⌝ }
 {
     if grid_counts::cell_lacks(mean, n, grid_cell::weights_in(h, w, y, x)) {
-        return 15;
+        return ABSENT;
     }
     if places < 2 {
         return 0;
     }
     if grid_counts::cell_lacks(mean, n, grid_cell::weights_in(h, w, y, x + step)) {
-        return 15;
+        return ABSENT;
     }
     0
 }
@@ -140,13 +144,13 @@ fn ends_refusal(component: u8, number: i64, north: i64, east: i64, step: i64, co
     ensures { λ r. ⌜ r ≡ cond (anyBeyond number north east step count) 9 0 ⌝ }
 {
     if grid_refusals::position_refusal(component, number, north, east) != 0 {
-        return 9;
+        return POSITION;
     }
     if count == 1 {
         return 0;
     }
     if 2000000000000 < step {
-        return 9;
+        return POSITION;
     }
     let last = east + (count - 1) as i64 * step;
     grid_refusals::position_refusal(component, number, north, last)
@@ -157,16 +161,16 @@ fn limits_refusal(component: u8, number: i64, north: i64, east: i64, step: i64, 
     ensures { λ r. ⌜ r ≡ first ((8, ltb 2 component) ∷ (9, misplaced number north east step count) ∷ []) ⌝ }
 {
     if 2 < component {
-        return 8;
+        return COMPONENT;
     }
     if count == 0 {
-        return 9;
+        return POSITION;
     }
     if 4096 < count {
-        return 9;
+        return POSITION;
     }
     if step < 0 {
-        return 9;
+        return POSITION;
     }
     ends_refusal(component, number, north, east, step, count)
 }
@@ -197,7 +201,7 @@ pub fn row_refusal(
         return places;
     }
     if room < count {
-        return 6;
+        return ROOM;
     }
     0
 }

@@ -173,7 +173,7 @@ fields-by : (g : Grid) (a : List ℕ) → let es : List ℕ = a ++ points in len
     → Upto (getD es 8 0) 16384 → Upto (getD es 9 0) 16384 → Upto (getD es 10 0) 16384
     → (takes (getD es 5 0) (g .origin .east) ≡ true → ellipsoidal (g .number) ≡ true → natAbs (valueIn (g .origin .east)) ≤ 1296000)
     → allTake es (gridRow g) ≡ true → Held g
-unfolding gridRow settingsOf pairRow originRow spacingRow shiftsRow
+unfolding gridRow pairRow originRow spacingRow shiftsRow
 fields-by g a l m north east rows columns p q r turn h =
     let t : (i : ℕ) → i < length (a ++ points) → takes (getD (a ++ points) i 0) (says (gridRow g) i) ≡ true = takes-at (a ++ points) (gridRow g) h in
     record {

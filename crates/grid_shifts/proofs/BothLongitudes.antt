@@ -24,7 +24,7 @@ use Rattle.message_rows.specs.Message.{tests, refusal, numberOf, row}
 use Rattle.message_rows.proofs.Trips.{row-number}
 use Rattle.grid_bilinear.specs.Bilinear.{outside, absent, interpolated}
 use Rattle.grid_refusals.specs.Refusals.{ellipsoidal, fieldTests}
-use Rattle.grid_place.specs.Position.{turn, halfTurn, byTurns, stepsOf}
+use Rattle.grid_place.specs.Position.{turn, halfTurn, byTurns, stepsOf, heightOf, widthOf, northFrom}
 use Rattle.grid_shifts.specs.Shift.{surface, northOf, eastOf, gridTests, shiftRefusal, answerOf, outcome, shiftWith, messageShift}
 use Rattle.grid_place.proofs.Antimeridian.{turnsOf, turned-same, turned-low, turned-high, turned-only}
 
@@ -67,11 +67,12 @@ module _ (s : List ℕ) (c : ℕ) (n : ℤ) where
 
   -- the tests, of an absolute longitude and a difference
   tests-both : ellipsoidal (g .number) ≡ true → gridTests g c n (pos halfTurn) ≡ gridTests g c n (negℤ (pos halfTurn))
+  unfolding northOf eastOf
   tests-both t =
       ap
       (λ (v : ℤ).
       fieldTests (settingsOf g) c n (pos halfTurn)
-      ++ ((14, outside (surface g c .H) (northOf g n) || outside (surface g c .W) v) ∷ (15, absent (surface g c) (northOf g n) v) ∷ []))
+      ++ ((14, outside (heightOf (settingsOf g)) (northFrom (settingsOf g) n) || outside (widthOf (settingsOf g)) v) ∷ (15, absent (surface g c) (northOf g n) v) ∷ []))
       (east-both g t)
 
   with-turns : ellipsoidal (g .number) ≡ true → messageShift s c n (pos halfTurn) ≡ messageShift s c n (negℤ (pos halfTurn))

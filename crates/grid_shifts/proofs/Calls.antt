@@ -61,7 +61,7 @@ module _ (s : List ℕ) (c : ℕ) (n e : ℤ) where
 
       pub shared-answer : k * surface g c .H ≤ Y → Y ≤ suc k * surface g c .H → l * surface g c .W ≤ X → X ≤ suc l * surface g c .W
           → messageShift s c n e ≡ inCellShift g c k l Y X
-      unfolding messageShift surface settingsOf northOf eastOf
+      unfolding messageShift surface northOf eastOf
       shared-answer p q r t =
           let d = spacings (settingsOf g) n e (message-fields s c n e h .settings) (early (settingsOf g) c n e f) in
           ap (shiftWith g c n e) (sym (message-passed s c n e h)) ∙ sym (in-out g c n e (both-pass (settingsOf g) c n e f a b))

@@ -34,7 +34,7 @@ module _ (s : List ℕ) (c : ℕ) (n e : ℤ) (h : shiftRefusal s c n e ≡ 0) w
   fields = message-fields s c n e (message-none s c n e h .0)
 
   pub spaced : (0 < surface g c .H) × (0 < surface g c .W)
-  unfolding surface settingsOf
+  unfolding surface
   spaced = let p = spacings (settingsOf g) n e (fields .settings) (placed .early) in (p .0 .0, p .1 .0)
 
   pub counted : messageShift s c n e .count ≡ interpolated (surface g c) (northOf g n) (eastOf g e)

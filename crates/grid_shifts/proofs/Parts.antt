@@ -29,7 +29,8 @@ use Rattle.grid_counts.specs.Counts.{nodeFactor, meanFactor, refusedWith}
 use Rattle.grid_counts.specs.Inner.{valuesIn, lacking, countAt, cellCount}
 use Rattle.grid_counts.specs.declared.Counted.{Counted}
 use Rattle.grid_counts.proofs.Bounds.{count-most}
-use Rattle.grid_place.specs.Inner.{heightOf, widthOf, northFrom, eastFrom, placeTests, located}
+use Rattle.grid_place.specs.Position.{heightOf, widthOf, northFrom, eastFrom, placeTests}
+use Rattle.grid_place.specs.Inner.{located}
 use Rattle.grid_shifts.specs.Shift.{part, surface, northOf, eastOf, gridTests, answerOf, outcome, inCellShift, shiftWith}
 use Rattle.grid_shifts.specs.Private.{Held, nodesIn, cellShift, partShift}
 use Rattle.grid_shifts.specs.declared.Answer.the-variants.{Refused}
@@ -152,7 +153,7 @@ module _ (g : Grid) (c : ℕ) (n e : ℤ) where
 
   -- a refusal of the place
   pub refused-as : {r : ℕ} → r ≡ first (placeTests (settingsOf g) c n e) → (r ≡ 0 → ⊥) → r ≡ first (gridTests g c n e)
-  unfolding settingsOf surface northOf eastOf
+  unfolding surface northOf eastOf
   refused-as h k = stops (placeTests (settingsOf g) c n e) late tt h k
 
   pub refused-out : (s : Shift) → (p .refusal ≡ 0 → ⊥) → Refuses (p .refusal) s → s ≡ shiftWith g c n e (first (gridTests g c n e))
@@ -162,7 +163,7 @@ module _ (g : Grid) (c : ℕ) (n e : ℤ) where
 
   -- the answer in the cell of the place
   passed-as : first (placeTests (settingsOf g) c n e) ≡ 0 → cond (absent (surface g c) (northOf g n) (eastOf g e)) 15 0 ≡ first (gridTests g c n e)
-  unfolding settingsOf surface northOf eastOf
+  unfolding surface northOf eastOf
   passed-as h = goes-on (placeTests (settingsOf g) c n e) late tt h
 
   pub in-out : first (placeTests (settingsOf g) c n e) ≡ 0 → inCellShift g c (cell H y) (cell W x) y x ≡ shiftWith g c n e (first (gridTests g c n e))
@@ -175,7 +176,7 @@ module _ (g : Grid) (c : ℕ) (n e : ℤ) where
     none-before = sym (located-refusal (settingsOf g) c n e) ∙ h
 
     pub place-is : p ≡ placeAt g c (cell H y) (cell W x) y x
-    unfolding settingsOf surface northOf eastOf
+    unfolding surface northOf eastOf
     place-is =
         let f = settingsOf g in
         let i = inside f c n e none-before in
@@ -231,7 +232,7 @@ pub record Answered (g : Grid) (c : ℕ) (n e : ℤ) : Type 0 where
   pub found : located (settingsOf g) c n e .refusal ≡ 0
 
 pub answered : (g : Grid) (c : ℕ) (n e : ℤ) → first (gridTests g c n e) ≡ 0 → Answered g c n e
-unfolding settingsOf surface northOf eastOf
+unfolding surface northOf eastOf
 answered g c n e h =
     let p = passes (placeTests (settingsOf g) c n e) (late g c n e) tt h .0 in
     let i = inside (settingsOf g) c n e p in

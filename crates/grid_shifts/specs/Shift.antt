@@ -14,14 +14,14 @@ use Rattle.record_grids.specs.declared.Shifts.{Shifts}
 use Rattle.record_grids.specs.Grids.{gridOf, settingsOf}
 use Rattle.field.specs.declared.Reading.{Reading}
 use Rattle.field.specs.declared.Reading.the-variants.{Value}
-use Rattle.layout.specs.Layout.{valueIn}
+use Rattle.layout.specs.Layout.{valueIn, available}
 use Rattle.record_rows.specs.Numbers.{says}
-use Rattle.message_rows.specs.Message.{tests, numberOf, row}
+use Rattle.message_rows.specs.Message.{row, kindTests}
 use Rattle.message_records.specs.Kinds.{gridHeld}
-use Rattle.grid_refusals.specs.Refusals.{ellipsoidal, available, fieldTests}
-use Rattle.grid_place.specs.Position.{stepsOf, eastBy}
+use Rattle.grid_refusals.specs.Refusals.{ellipsoidal}
+use Rattle.grid_place.specs.Position.{heightOf, widthOf, northFrom, eastFrom, placeTests}
 use Rattle.grid_counts.specs.Counts.{nodeFactor, meanFactor}
-use Rattle.grid_bilinear.specs.Bilinear.{Surface, nearestWhole, outside, inCell, absentIn, absent, interpolated}
+use Rattle.grid_bilinear.specs.Bilinear.{Surface, nearestWhole, inCell, absentIn, absent, interpolated}
 use Rattle.grid_shifts.specs.declared.Answer.{Answer}
 use Rattle.grid_shifts.specs.declared.Answer.the-variants.{Seconds, Metres, Refused}
 use Rattle.grid_shifts.specs.declared.Shift.{Shift}
@@ -40,8 +40,8 @@ nodeOf nodes c i j = part c (getD nodes (4 * i + j) (record { north = Value (pos
 unfoldable pub surface : Grid → ℕ → Surface
 surface g c =
     record {
-      H = natural (g .spacing .north) * stepsOf (g .number);
-      W = natural (g .spacing .east) * stepsOf (g .number);
+      H = heightOf (settingsOf g);
+      W = widthOf (settingsOf g);
       mean = pos meanFactor *ℤ valueIn (part c (g .mean));
       node = λ i j. pos (nodeFactor (g .number) c) *ℤ valueIn (nodeOf (g .nodes) c i j);
       present = λ i j. available (nodeOf (g .nodes) c i j);
@@ -50,19 +50,16 @@ surface g c =
 
 -- the differences position minus origin, in steps: "rover minus origin"
 unfoldable pub northOf : Grid → ℤ → ℤ
-northOf g n = n -ℤ pos (stepsOf (g .number)) *ℤ valueIn (g .origin .north)
+northOf g n = northFrom (settingsOf g) n
 
 unfoldable pub eastOf : Grid → ℤ → ℤ
-eastOf g e = eastBy (g .number) (e -ℤ pos (stepsOf (g .number)) *ℤ valueIn (g .origin .east))
+eastOf g e = eastFrom (settingsOf g) e
 
--- ---- refusals: 8 to 13 (`fieldTests`, crate grid_refusals), then 14 OUTSIDE, 15 ABSENT
+-- ---- refusals: 8 to 14 (`placeTests`, crate grid_place), then 15 ABSENT
 
 abbrev pub gridTests : Grid → ℕ → ℤ → ℤ → List Test
 gridTests g c n e =
-    fieldTests (settingsOf g) c n e
-    ++ ((14, outside (surface g c .H) (northOf g n) || outside (surface g c .W) (eastOf g e))
-    ∷ (15, absent (surface g c) (northOf g n) (eastOf g e))
-    ∷ [])
+    placeTests (settingsOf g) c n e ++ ((15, absent (surface g c) (northOf g n) (eastOf g e)) ∷ [])
 
 -- of a record: 5 RANGE where it is not one that a grid message holds, then 8 to 15
 unfoldable pub recordShiftRefusal : Grid → ℕ → ℤ → ℤ → ℕ
@@ -71,7 +68,7 @@ recordShiftRefusal g c n e = first ((5, not (gridHeld g)) ∷ gridTests g c n e)
 -- of a message: 1 to 5, 7 KIND, 8 to 15
 unfoldable pub shiftRefusal : List ℕ → ℕ → ℤ → ℤ → ℕ
 shiftRefusal s c n e =
-    first (tests s ++ (7, not (leb 1023 (numberOf s) && leb (numberOf s) 1024)) ∷ gridTests (gridOf (says (row s))) c n e)
+    first (kindTests 1023 1024 s ++ gridTests (gridOf (says (row s))) c n e)
 
 -- ---- answers
 

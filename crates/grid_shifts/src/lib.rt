@@ -1,4 +1,6 @@
 // The shift at a position from a grid message, 1023 or 1024.
+use arith::refusals::LENGTH;
+use arith::refusals::RANGE;
 use field::Reading;
 use grid_cell::Weights;
 use grid_fields::Nodes;
@@ -174,7 +176,7 @@ pub fn shifts_at(message: &[u8], north: i64, east: i64) -> ThreeShifts
     }
     // Never so: that the bytes are there spares the compiler a test at each field.
     if message.len() < 71 {
-        return all_refused(3);
+        return all_refused(LENGTH);
     }
     let f = grid_fields::settings_at(message);
     let number = f.number;
@@ -198,7 +200,7 @@ pub fn shifts_of(grid: Grid, north: i64, east: i64) -> ThreeShifts
     ensures { λ r. ⌜ r ≡ recordShifts grid north east ⌝ }
 {
     if !message_records::grid_held(grid) {
-        return all_refused(5);
+        return all_refused(RANGE);
     }
     let settings = record_grids::settings_of(grid);
     let number = settings.number;

@@ -1,4 +1,10 @@
 // Making a height grid: a 1023 message from sixteen wanted heights in millimetres and the rest of its row.
+use arith::refusals::METHOD;
+use arith::refusals::NOMEAN;
+use arith::refusals::OFF;
+use arith::refusals::ORIGIN;
+use arith::refusals::RANGE;
+use arith::refusals::SPACING;
 use heights_mean::Mean;
 use layout::Written;
 ghost use mathlib.Core.Path.{_≡_};
@@ -44,22 +50,22 @@ fn record_refusal(values: &[i64], present: &[u8]) -> u8
     ensures { λ r. ⌜ r ≡ first (recordTests (now (values .entry)) (now (present .entry))) ⌝ }
 {
     if zero_beside(values, present, 3, 1) {
-        return 10;
+        return OFF;
     }
     if says_other(values, present, 60) {
-        return 11;
+        return METHOD;
     }
     if zero_beside(values, present, 4, 0) {
-        return 12;
+        return ORIGIN;
     }
     if zero_beside(values, present, 5, 0) {
-        return 12;
+        return ORIGIN;
     }
     if zero_beside(values, present, 6, 1) {
-        return 13;
+        return SPACING;
     }
     if zero_beside(values, present, 7, 1) {
-        return 13;
+        return SPACING;
     }
     0
 }
@@ -141,19 +147,19 @@ pub fn write_heights(values: &[i64], present: &[u8], wanted: &[i64], out: &mut [
 {
     if values.len() != 64 {
         return Written {
-            refusal: 5,
+            refusal: RANGE,
             length: 0,
         };
     }
     if present.len() != 64 {
         return Written {
-            refusal: 5,
+            refusal: RANGE,
             length: 0,
         };
     }
     if wanted.len() != 16 {
         return Written {
-            refusal: 5,
+            refusal: RANGE,
             length: 0,
         };
     }
@@ -167,7 +173,7 @@ pub fn write_heights(values: &[i64], present: &[u8], wanted: &[i64], out: &mut [
     let chosen = heights_mean::smallest_mean(wanted);
     let Mean::Is(mean) = chosen else {
         return Written {
-            refusal: 23,
+            refusal: NOMEAN,
             length: 0,
         };
     };

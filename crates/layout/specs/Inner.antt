@@ -8,7 +8,7 @@ use lib.ListN.{length}
 use lib.IntN.{ℤ}
 use Rattle.arith.specs.First.{Test, first}
 use Rattle.field.specs.Inner.{fieldAt}
-use Rattle.layout.specs.Layout.{width, readingOf, takes, total, zeroFrom, readTests, encodeTests}
+use Rattle.layout.specs.Layout.{width, readingOf, takes, total, zeroFrom, readTests, roomTests, encodeTests}
 
 -- the same for at most 96 entries, else 0
 unfoldable pub bitsOf : List ℕ → ℕ
@@ -29,9 +29,9 @@ sizeRefusal bits s = first (sizeTests bits s)
 unfoldable pub placeRefusal : ℕ → ℕ → ℕ → List ℕ → ℕ
 placeRefusal r p e s = cond (eqb r 0) (cond (takes e (readingOf e (fieldAt s p (width e)))) 0 5) r
 
--- why it is not read to rows of m values and n bytes: the same, then 6 ROOM
+-- the same, then 6 ROOM
 abbrev pub decodeTests : List ℕ → List ℕ → ℕ → ℕ → List Test
-decodeTests es s m n = readTests es s ++ ((6, ltb m (length es)) ∷ (6, ltb n (length es)) ∷ [])
+decodeTests es s m n = readTests es s ++ roomTests es m n
 
 unfoldable pub decodeRefusal : List ℕ → List ℕ → ℕ → ℕ → ℕ
 decodeRefusal es s m n = first (decodeTests es s m n)

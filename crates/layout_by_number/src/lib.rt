@@ -1,7 +1,8 @@
 // Messages 1025, 1026 and 1027 checked, read and written by their layouts.
+use arith::refusals::ROOM;
 use layout::Written;
+use layout_tables::DECLARED;
 use layout_tables::INT;
-use layout_tables::RANGE;
 ghost use mathlib.Core.Path.{_≡_};
 ghost use mathlib.Core.List.{map, _++_};
 ghost use lib.ListN.{length, take};
@@ -14,11 +15,11 @@ ghost use Prim.Native.Nat.{_+_, _≤_};
 ghost use Rattle.layout_by_number.specs.Private.{Other, namedRefusal};
 
 // A latitude, a longitude or an azimuth of a projection.
-const ANGLE_90: u64 = 8181818181 * RANGE + INT + 34;
+const ANGLE_90: u64 = 8181818181 * DECLARED + INT + 34;
 
-const ANGLE_180: u64 = 16363636363 * RANGE + INT + 35;
+const ANGLE_180: u64 = 16363636363 * DECLARED + INT + 35;
 
-const ANGLE_360: u64 = 32727272727 * RANGE + 35;
+const ANGLE_360: u64 = 32727272727 * DECLARED + 35;
 
 const LAYOUT_1025: [u64; 8] = [
     12, // DF002
@@ -95,10 +96,10 @@ pub fn decode_checked(r: u8, s: &[u8], layout: &[u64], values: &mut [i64], prese
         return r;
     }
     if values.len() < layout.len() {
-        return 6;
+        return ROOM;
     }
     if present.len() < layout.len() {
-        return 6;
+        return ROOM;
     }
     layout_reader::read(s, 0, layout, values, present);
     0
@@ -180,9 +181,9 @@ const COUNTER: u64 = 5;
 const CHARACTER: u64 = 8;
 
 // DF152 and DF153: the origin of the area of validity.
-const LATITUDE: u64 = 162000 * RANGE + INT + 19;
+const LATITUDE: u64 = 162000 * DECLARED + INT + 19;
 
-const LONGITUDE: u64 = 324000 * RANGE + INT + 20;
+const LONGITUDE: u64 = 324000 * DECLARED + INT + 20;
 
 // Behind the names of 1021.
 const TAIL_1021: [u64; 22] = [

@@ -1,4 +1,5 @@
 // The seven layouts as definitions and laws, and how the code's tables write an entry: range * 128 + signed * 64 + width.
+use arith::refusals::ROOM;
 use layout::Written;
 ghost use mathlib.Core.Path.{_≡_};
 ghost use Prim.Native.Nat.{_+_, _*_, _≤_};
@@ -9,7 +10,7 @@ ghost use Rattle.layout.specs.Inner.{refusalOf, decodeRefusal, encodeRefusal};
 ghost use Rattle.layout_tables.specs.Layouts.{points, layout1023, layout1024};
 ghost use Rattle.layout_tables.specs.Private.{nodes, behind};
 
-pub const RANGE: u64 = 128;
+pub const DECLARED: u64 = 128;
 
 pub const INT: u64 = 64;
 
@@ -19,9 +20,9 @@ pub const INT: u64 = 64;
 const NODE: u64 = INT + 9;
 
 // DF192 and DF193: the origin of the grids.
-const GRID_LATITUDE: u64 = 648000 * RANGE + INT + 21;
+const GRID_LATITUDE: u64 = 648000 * DECLARED + INT + 21;
 
-const GRID_LONGITUDE: u64 = 1296000 * RANGE + INT + 22;
+const GRID_LONGITUDE: u64 = 1296000 * DECLARED + INT + 22;
 
 const LAYOUT_1023: [u64; 64] = [
     12, // DF002
@@ -225,10 +226,10 @@ fn decode_grid(
         return r;
     }
     if values.len() < 64 {
-        return 6;
+        return ROOM;
     }
     if present.len() < 64 {
-        return 6;
+        return ROOM;
     }
     read_grid(s, head, p, values, present);
     0

@@ -16,10 +16,10 @@ use Rattle.arith.proofs.First.{first-append, stops, goes-on}
 use native.Mathlib.Decide.{ℕ-discrete}
 use Rattle.field.specs.Inner.{fieldAt}
 use Rattle.field.specs.declared.Reading.{Reading}
-use Rattle.layout.specs.Layout.{rowOf, stored}
+use Rattle.layout.specs.Layout.{rowOf, stored, roomTests}
 use Rattle.record_rows.specs.Numbers.{says, valuesOf, presentOf}
 use Rattle.record_rows.proofs.Rows.{says-filled}
-use Rattle.message_rows.specs.Message.{numberOf, layout, tests, refusal, row, roomTests, rowRefusal, valuesRead, presentRead, kindTests, kindRefusal, kindRow}
+use Rattle.message_rows.specs.Message.{numberOf, layout, tests, refusal, row, rowRefusal, valuesRead, presentRead, kindTests, kindRefusal, kindRow}
 use Rattle.message_rows.specs.Inner.{kindRoomRefusal}
 use Rattle.message_rows.proofs.Head.{layout-most, number-read, head-of, accepted-head}
 
@@ -67,9 +67,9 @@ kind-of lo hi s e = by (refusal s) (leb lo (numberOf s)) (leb (numberOf s) hi) r
 
 module _ (lo hi : ℕ) (s : List ℕ) where
   module _ (m n : ℕ) where
-    kind-room-is : kindRoomRefusal lo hi s m n ≡ cond (eqb (kindRefusal lo hi s) 0) (first (roomTests s m n)) (kindRefusal lo hi s)
+    kind-room-is : kindRoomRefusal lo hi s m n ≡ cond (eqb (kindRefusal lo hi s) 0) (first (roomTests (layout s) m n)) (kindRefusal lo hi s)
     unfolding kindRoomRefusal kindRefusal
-    kind-room-is = first-append (kindTests lo hi s) (roomTests s m n) tt
+    kind-room-is = first-append (kindTests lo hi s) (roomTests (layout s) m n) tt
 
     -- a refusal of the message or its kind
     pub kind-kept : (r : ℕ) → r ≡ kindRefusal lo hi s → (r ≡ 0 → ⊥) → kindRoomRefusal lo hi s m n ≡ r
@@ -77,12 +77,12 @@ module _ (lo hi : ℕ) (s : List ℕ) where
 
     refused-row : (refusal s ≡ 0 → ⊥) → refusal s ≡ rowRefusal s m n
     unfolding rowRefusal refusal
-    refused-row f = stops (tests s) (roomTests s m n) tt refl f
+    refused-row f = stops (tests s) (roomTests (layout s) m n) tt refl f
 
     -- else that of any row
     pub kind-row : kindRefusal lo hi s ≡ 0 → rowRefusal s m n ≡ kindRoomRefusal lo hi s m n
     unfolding rowRefusal refusal
-    kind-row e = sym (goes-on (tests s) (roomTests s m n) tt (kind-of lo hi s e .accepted)) ∙ sym (rw (kind-room-is, e))
+    kind-row e = sym (goes-on (tests s) (roomTests (layout s) m n) tt (kind-of lo hi s e .accepted)) ∙ sym (rw (kind-room-is, e))
 
     -- where the number that was read is one of the kind, that of any row
     pub kind-numbered : {k : ℕ} → k ≡ fieldAt s 0 12 → lo ≤ k → k ≤ hi → rowRefusal s m n ≡ kindRoomRefusal lo hi s m n

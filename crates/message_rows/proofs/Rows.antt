@@ -11,14 +11,14 @@ use lib.ListN.{length}
 use Rattle.arith.specs.First.{first}
 use Rattle.arith.proofs.First.{stops, goes-on, passes}
 use Rattle.field.specs.declared.Reading.{Reading}
-use Rattle.layout.specs.Layout.{decodeAll, stored}
+use Rattle.layout.specs.Layout.{decodeAll, stored, roomTests}
 use Rattle.layout.specs.Inner.{decodeTests, decodeRefusal}
 use Rattle.layout.proofs.Round.{length-decodeAll}
 use Rattle.layout.proofs.Answer.{refused-read}
 use Rattle.record_rows.specs.Numbers.{says, counterAt, valuesOf, presentOf}
 use Rattle.record_rows.proofs.Rows.{counter-most}
 use Rattle.layout_tables.proofs.Length.{length-layout}
-use Rattle.message_rows.specs.Message.{headTests, tests, layout, refusal, row, roomTests, rowRefusal, valuesRead, presentRead, rowLayout}
+use Rattle.message_rows.specs.Message.{headTests, tests, layout, refusal, row, rowRefusal, valuesRead, presentRead, rowLayout}
 use Rattle.message_rows.proofs.Head.{row-of, layout-most}
 
 pub row-layout-most : (v : List Reading) → length (rowLayout v) ≤ 90
@@ -57,7 +57,7 @@ module _ (s : List ℕ) (z : List ℤ) (b : List ℕ) where
   -- a refusal keeps both
   pub row-refused : (d : ℕ) → d ≡ refusal s → (d ≡ 0 → ⊥) → (d ≡ r) × ((z ≡ valuesRead r s z) × (b ≡ presentRead r s b))
   unfolding rowRefusal refusal
-  row-refused d e f = refused-read d r (valuesOf (row s)) z (presentOf (row s)) b (sym (stops (tests s) (roomTests s (length z) (length b)) tt e f)) f
+  row-refused d e f = refused-read d r (valuesOf (row s)) z (presentOf (row s)) b (sym (stops (tests s) (roomTests (layout s) (length z) (length b)) tt e f)) f
 
   module _ (h : first (headTests s) ≡ 0) where
     decoded : decodeRefusal (layout s) s (length z) (length b) ≡ r
@@ -66,7 +66,7 @@ module _ (s : List ℕ) (z : List ℤ) (b : List ℕ) where
 
     row-is : r ≡ 0 → decodeAll (layout s) 0 s ≡ row s
     unfolding rowRefusal refusal
-    row-is e = sym (row-of s (passes (tests s) (roomTests s (length z) (length b)) tt e .0))
+    row-is e = sym (row-of s (passes (tests s) (roomTests (layout s) (length z) (length b)) tt e .0))
 
     -- what was read by the layout
     pub row-read : {es : List ℕ} {d : ℕ} {z′ : List ℤ} {b′ : List ℕ} → es ≡ layout s → DecodedBy es s z b d z′ b′ → (d ≡ r) × ((z′ ≡ valuesRead r s z) × (b′ ≡ presentRead r s b))

@@ -11,7 +11,7 @@ use Rattle.arith.specs.Whole.{natural}
 use Rattle.field.specs.Field.{field}
 use Rattle.field.specs.declared.Reading.{Reading}
 use Rattle.record_rows.specs.Numbers.{says, numberAt, counterAt, valuesOf, presentOf}
-use Rattle.layout.specs.Layout.{rowOf, rowTakes, decodeAll, encodeAll, readTests, encodeTests, answered, stored}
+use Rattle.layout.specs.Layout.{rowOf, rowTakes, decodeAll, encodeAll, readTests, roomTests, encodeTests, answered, stored}
 use Rattle.layout.specs.declared.Written.{Written}
 use Rattle.layout_tables.specs.Layouts.{known, named, layoutOf}
 use Rattle.message_rows.specs.declared.Header.{Header}
@@ -70,12 +70,9 @@ header s =
       length = cond (eqb (refusal s) 0) (length s) 0;
     }
 
--- into buffers of m values and n presence bytes: then 6 ROOM, where either is shorter than the message's fields
-abbrev pub roomTests : List ℕ → ℕ → ℕ → List Test
-roomTests s m n = (6, ltb m (length (layout s))) ∷ (6, ltb n (length (layout s))) ∷ []
-
+-- into buffers of m values and n presence bytes: then 6 ROOM
 unfoldable pub rowRefusal : List ℕ → ℕ → ℕ → ℕ
-rowRefusal s m n = first (tests s ++ roomTests s m n)
+rowRefusal s m n = first (tests s ++ roomTests (layout s) m n)
 
 -- the caller's buffers after a call that answered r: the row in their first places, or as they were
 abbrev pub valuesRead : ℕ → List ℕ → List ℤ → List ℤ

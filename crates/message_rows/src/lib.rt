@@ -1,4 +1,9 @@
 // Messages 1021 to 1027 on the wire: the header, and rows read of any kind or of one. A row is two buffers side by side, values and presence bytes.
+use arith::refusals::KIND;
+use arith::refusals::LENGTH;
+use arith::refusals::NUMBER;
+use arith::refusals::RANGE;
+use arith::refusals::SHORT;
 ghost use mathlib.Core.Path.{_≡_};
 ghost use Prim.Native.Nat.{_≤_};
 ghost use lib.ListN.{length};
@@ -37,22 +42,22 @@ fn head_refusal(s: &[u8], number: u64, n: usize) -> u8
 {
     let len = s.len();
     if len < 2 {
-        return 1;
+        return SHORT;
     }
     if number < 1021 {
-        return 2;
+        return NUMBER;
     }
     if 1027 < number {
-        return 2;
+        return NUMBER;
     }
     if 1022 < number {
         return 0;
     }
     if len < 3 {
-        return 3;
+        return LENGTH;
     }
     if len < n + 3 {
-        return 3;
+        return LENGTH;
     }
     0
 }
@@ -96,10 +101,10 @@ pub fn check_kind(s: &[u8], lo: u64, hi: u64) -> u8
         return r;
     }
     if number < lo {
-        return 7;
+        return KIND;
     }
     if hi < number {
-        return 7;
+        return KIND;
     }
     0
 }
@@ -202,13 +207,13 @@ pub fn write_row(values: &[i64], present: &[u8], out: &mut [u8]) -> Written
     let number = record_rows::natural_at(values, present, 0);
     if number < 1021 {
         return Written {
-            refusal: 5,
+            refusal: RANGE,
             length: 0,
         };
     }
     if 1027 < number {
         return Written {
-            refusal: 5,
+            refusal: RANGE,
             length: 0,
         };
     }
@@ -231,20 +236,20 @@ pub fn write_kind(
 {
     if !good {
         return Written {
-            refusal: 5,
+            refusal: RANGE,
             length: 0,
         };
     }
     let number = record_rows::natural_at(values, present, 0);
     if number < lo {
         return Written {
-            refusal: 5,
+            refusal: RANGE,
             length: 0,
         };
     }
     if hi < number {
         return Written {
-            refusal: 5,
+            refusal: RANGE,
             length: 0,
         };
     }

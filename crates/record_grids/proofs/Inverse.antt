@@ -66,5 +66,5 @@ grid-of-row r e =
     (sym (is-upTo f 16 zeroShifts (r .nodes) e (λ i h. refl))) (sixteen r f)
 
 pub settings-of-grid : (v : ℕ → Reading) → settingsOf (gridOf v) ≡ settingsAt v
-unfolding settingsOf gridOf settingsAt
+unfolding gridOf settingsAt
 settings-of-grid v = refl

@@ -73,6 +73,6 @@ gridRow r =
 
 -- ---- what a grid says besides its shifts
 
-unfoldable pub settingsOf : Grid → Settings
+abbrev pub settingsOf : Grid → Settings
 settingsOf g =
     record { number = g .number; indicators = g .indicators; origin = g .origin; spacing = g .spacing; methods = g .methods }

@@ -15,9 +15,9 @@ use Rattle.arith.proofs.First.{passed, or-false}
 use Rattle.arith.proofs.Int.{at, nat, minus, _⊞_, _⊟_, _⊠_, ring, order, order-lt, known, abs-above, abs-within, within-abs, abs-most}
 use Rattle.arith.proofs.Lists.{getD-upTo}
 use Rattle.arith.proofs.Tests.{all-at, both-first, both-second}
-use Rattle.layout.specs.Layout.{valueIn}
+use Rattle.layout.specs.Layout.{valueIn, available}
 use Rattle.record_grids.specs.declared.Settings.{Settings}
-use Rattle.grid_refusals.specs.Refusals.{beyond, ellipsoidal, available, fieldTests}
+use Rattle.grid_refusals.specs.Refusals.{beyond, ellipsoidal, fieldTests}
 use Rattle.grid_bilinear.specs.Bilinear.{fromEdge, outside, cell, lacks}
 use Rattle.grid_bilinear.proofs.Place.{steps-are, cell-le}
 use Rattle.grid_direction.specs.Inner.{alongOf}
@@ -27,8 +27,8 @@ use Rattle.grid_cell.specs.declared.Weights.{Weights}
 use Rattle.grid_direction.proofs.Placed.{along-steps, along-cell}
 use Rattle.grid_fields.specs.Inner.{meanSays, nodeSays, nodesSaid, cellSays}
 use Rattle.grid_fields.specs.declared.Nodes.{Nodes}
-use Rattle.grid_place.specs.Position.{turn, halfTurn, byTurns, stepsOf}
-use Rattle.grid_place.specs.Inner.{heightOf, widthOf, northFrom, eastFrom, settingsHeld, placeTests, placeOf, heldPlace}
+use Rattle.grid_place.specs.Position.{turn, halfTurn, byTurns, stepsOf, heightOf, widthOf, northFrom, eastFrom, placeTests}
+use Rattle.grid_place.specs.Inner.{settingsHeld, placeOf, heldPlace}
 use Rattle.grid_place.specs.Private.{Fields}
 use Rattle.grid_place.specs.declared.Located.{Located}
 use Rattle.grid_place.proofs.Antimeridian.{turnsOf, turned-same, turned-only}

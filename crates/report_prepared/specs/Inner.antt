@@ -6,9 +6,9 @@ use Prim.Native.Nat.{ℕ, _+_, _*_}
 use lib.Dec.{eqb, ltb}
 use lib.IntN.{ℤ, pos, natAbs, _+ℤ_, _-ℤ_, _*ℤ_}
 use Rattle.arith.specs.First.{first}
-use Rattle.layout.specs.Layout.{valueIn}
+use Rattle.layout.specs.Layout.{valueIn, available}
 use Rattle.record_grids.specs.declared.Settings.{Settings}
-use Rattle.grid_refusals.specs.Refusals.{available, beyond}
+use Rattle.grid_refusals.specs.Refusals.{beyond}
 use Rattle.grid_place.specs.Position.{stepsOf}
 use Rattle.grid_place.specs.Inner.{heldPlace}
 use Rattle.grid_place.specs.declared.Located.{Located}

@@ -3,7 +3,7 @@ use field::Reading;
 use grid_component::Kept;
 use grid_place::Located;
 ghost use mathlib.Core.Path.{_≡_};
-ghost use Rattle.grid_refusals.specs.Refusals.{available};
+ghost use Rattle.layout.specs.Layout.{available};
 ghost use Rattle.report_prepared.specs.Inner.{nodeValue, nodesAvailable, nodeValues, middleOf, noEdges, aroundOf, edgesAt, preparedOf};
 ghost use Rattle.report_prepared.specs.Private.{Near};
 

@@ -1,4 +1,6 @@
 // A running tally of points and one component, updated point by point.
+use arith::refusals::COMPONENT;
+use arith::refusals::LENGTH;
 use report_update::Report;
 use report_update::Tally;
 ghost use mathlib.Core.Path.{_≡_};
@@ -34,7 +36,7 @@ pub fn tally_next(t: Tally, message: &[u8], component: u8, north: i64, east: i64
 {
     if 2 < component {
         return Report {
-            refusal: 8,
+            refusal: COMPONENT,
             tally: t,
         };
     }
@@ -42,13 +44,13 @@ pub fn tally_next(t: Tally, message: &[u8], component: u8, north: i64, east: i64
     let n = points_in(t.answered, refused);
     if 10000 <= n {
         return Report {
-            refusal: 3,
+            refusal: LENGTH,
             tally: t,
         };
     }
     if 100000000000 < field::magnitude(t.sum) {
         return Report {
-            refusal: 3,
+            refusal: LENGTH,
             tally: t,
         };
     }

@@ -12,6 +12,7 @@ ghost use Rattle.report_update.specs.Update.{asRead, withRefused, withAn
 ghost use Rattle.report_update.specs.Inner.{countable, refusable, grownBy};
 
 // Points answered, points refused under 1 to 15, the smallest and the greatest count, their first places, and the sum of counts.
+#[repr(C)]
 pub struct Tally {
     pub answered: u64,
     pub refused: [u64; 15],
@@ -23,6 +24,7 @@ pub struct Tally {
 }
 
 // A refusal number, or 0, and a tally.
+#[repr(C)]
 pub struct Report {
     pub refusal: u8,
     pub tally: Tally,

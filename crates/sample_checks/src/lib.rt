@@ -1,15 +1,12 @@
 // Checking a vendor's sample answers against the shifts of their message. The functions with a requires are private.
+use arith::refusals::CLAIM;
+use arith::refusals::LAYOUT;
 use grid_component::Kept;
 use sample_files::SamplePoint;
 ghost use mathlib.Core.Path.{_≡_};
 ghost use Rattle.grid_component.specs.Inner.{keptOf};
 ghost use Rattle.sample_files.specs.File.{pointsOf};
 ghost use Rattle.sample_checks.specs.Check.{right, firstBad, checked};
-
-// Refusal numbers.
-const LAYOUT: u8 = 24;
-
-const CLAIM: u8 = 25;
 
 // A refusal number, or 0; and with CLAIM the place, from 1, of the first bad point.
 #[repr(C)]

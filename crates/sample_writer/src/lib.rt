@@ -1,4 +1,6 @@
 // Why no samples are made of a message and points. The functions with a requires are private.
+use arith::refusals::LENGTH;
+use arith::refusals::ROOM;
 use grid_component::Kept;
 ghost use mathlib.Core.Path.{_≡_};
 ghost use lib.ListN.{length};
@@ -12,9 +14,6 @@ ghost use Rattle.sample_files.specs.File.{pointSize, pointField, pointFields};
 ghost use Rattle.sample_writer.specs.Write.{sample, samplesFile, writeRefusal};
 
 const MOST_POINTS: usize = 1000;
-
-// Refusal number.
-const LENGTH: u8 = 3;
 
 // The refusal of the first point that is refused, 0 where none is.
 fn first_refused(message: &[u8], kept: Kept, components: &[u8], north: &[i64], east: &[i64]) -> u8
@@ -67,9 +66,6 @@ pub fn points_refusal(message: &[u8], components: &[u8], north: &[i64], east: &[
 // Writing a file of sample answers from a message and points. The functions with a requires are private.
 
 const POINT_SIZE: usize = 28;
-
-// Refusal number.
-const ROOM: u8 = 6;
 
 // Fills out with the field of a point.
 fn put_point(out: &mut [u8], component: u8, north: i64, east: i64, claim: i64)

@@ -1,4 +1,8 @@
 // The table of messages with its index: each call takes both buffers. Find reads the entries of a binary search and one slot.
+use arith::refusals::INDEX;
+use arith::refusals::NONE;
+use arith::refusals::OWNER;
+use arith::refusals::TABLE;
 ghost use mathlib.Core.Path.{_≡_};
 ghost use lib.ListN.{length};
 ghost use Rattle.arith.specs.Lists.{upTo};
@@ -13,15 +17,6 @@ use table_slots::NO_TAG;
 use table_slots::SLOT_SIZE;
 use table_slots::SLOTS;
 use table_slots::TABLE_SIZE;
-
-// Refusal numbers.
-const NONE: u8 = 17;
-
-const TABLE: u8 = 18;
-
-const OWNER: u8 = 21;
-
-const INDEX: u8 = 22;
 
 // Owner, SIN and group as one number.
 fn entry_key(owner: u8, sin: u8, group: u8) -> u64

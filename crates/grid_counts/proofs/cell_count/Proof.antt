@@ -7,10 +7,9 @@ use mir.Syntax.{w64}
 use mir.Val.{toZ, ofZ}
 use Rattle.arith.proofs.Back.{held}
 use Rattle.arith.proofs.Machine.{is-back}
-use Rattle.layout.specs.Layout.{valueIn}
+use Rattle.layout.specs.Layout.{valueIn, available}
 use Rattle.grid_bilinear.specs.Bilinear.{lacks}
 use Rattle.grid_cell.specs.declared.Corners.{Corners}
-use Rattle.grid_refusals.specs.Refusals.{available}
 use Rattle.grid_counts.specs.Inner.{valuesIn}
 use Rattle.grid_counts.specs.Private.{asked}
 use Rattle.grid_fields.specs.declared.Nodes.{Nodes}

@@ -3,7 +3,7 @@
 use mathlib.Core.Path.{_≡_, sym, ap, _∙_}
 use mathlib.Core.Bool.{Bool, true}
 use borrow.Author.Needs.{needs}
-use Rattle.grid_refusals.specs.Refusals.{available}
+use Rattle.layout.specs.Layout.{available}
 use Rattle.grid_bilinear.specs.Bilinear.{lacks}
 use Rattle.grid_counts.proofs.cell_lacks.Statement.{statement}
 use Rattle.grid_counts.proofs.cell_lacks.Tie as tie

@@ -3,7 +3,7 @@
 use mathlib.Core.Path.{ap}
 use borrow.Author.Needs.{needs}
 use borrow.Author.Tests.{eq-eqb, ne-eqb}
-use Rattle.grid_refusals.specs.Refusals.{available}
+use Rattle.layout.specs.Layout.{available}
 use Rattle.grid_bilinear.specs.Bilinear.{lacks}
 use Rattle.grid_counts.proofs.node_lacks.Statement.{statement}
 use Rattle.grid_counts.proofs.node_lacks.Tie as tie

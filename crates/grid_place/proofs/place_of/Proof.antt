@@ -17,8 +17,8 @@ use Rattle.grid_direction.specs.declared.PlaceAlong.{PlaceAlong}
 use Rattle.grid_direction.proofs.Placed.{along-refusal}
 use Rattle.record_grids.specs.declared.Settings.{Settings}
 use Rattle.grid_refusals.specs.Refusals.{ellipsoidal, fieldTests}
-use Rattle.grid_place.specs.Position.{stepsOf, eastBy}
-use Rattle.grid_place.specs.Inner.{heightOf, widthOf, northFrom, eastFrom, placeOf}
+use Rattle.grid_place.specs.Position.{stepsOf, eastBy, heightOf, widthOf, northFrom, eastFrom}
+use Rattle.grid_place.specs.Inner.{placeOf}
 use Rattle.grid_place.proofs.Places.{Early, early, Spaced, spacings, steps-some, turn-most, in-cell, outside-yes, outside-no, early-out, north-out, east-out, both-in}
 use Rattle.grid_place.proofs.place_of.Statement.{statement}
 use Rattle.grid_place.proofs.place_of.Tie as tie

@@ -9,7 +9,8 @@ use mir.Val.{toZ, ofZ}
 use Rattle.arith.proofs.Machine.{is-back}
 use Rattle.record_grids.specs.declared.Settings.{Settings}
 use Rattle.grid_refusals.specs.Refusals.{fieldTests}
-use Rattle.grid_place.specs.Inner.{placeTests, located}
+use Rattle.grid_place.specs.Position.{placeTests}
+use Rattle.grid_place.specs.Inner.{located}
 use Rattle.grid_place.specs.declared.Located.{Located}
 use Rattle.grid_place.proofs.Places.{located-refusal, placed-passes, outer-passes}
 use Rattle.grid_place.proofs.vertical_of.Statement.{statement}

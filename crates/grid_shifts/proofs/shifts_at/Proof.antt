@@ -86,7 +86,6 @@ module _ (q : tie.After-means-at) where
   settings = l .before .before .settings-at .ensures ∙ settings-said (m s) none
 
   number : toZ w64 (ofZ w64 (l .before .before .settings-at .result .number)) ≡ g s .number
-  unfolding settingsOf
   number = held (l .before .before .settings-at .result .number) (l .before .struct-told .given .0 .1) ∙ ap (λ (f : Settings). f .number) settings
 
   sides : l .locate-both .result ≡ heldTwoPlaces (settingsOf (g s)) (n s) (e s)

@@ -67,7 +67,6 @@ module _ (l : tie.After-locate-both) where
   settings = l .before .before .settings-of .ensures
 
   number : toZ w64 (ofZ w64 (l .before .before .settings-of .result .number)) ≡ g s .number
-  unfolding settingsOf
   number = held (l .before .before .settings-of .result .number) (l .before .struct-told .given .0 .1) ∙ ap (λ (f : Settings). f .number) settings
 
   sides : l .locate-both .result ≡ heldTwoPlaces (settingsOf (g s)) (n s) (e s)

@@ -6,7 +6,6 @@ use Rattle.record_grids.proofs.settings_of.Statement.{statement}
 use Rattle.record_grids.proofs.settings_of.Tie as tie
 
 returns : tie.Need-returns
-unfolding settingsOf
 returns c =
     let r = c .before .before .before .before .before .args .r in
     λ i. record {

@@ -7,7 +7,7 @@ use mathlib.Core.Bool.{true}
 use borrow.Author.Tests.{not-true, not-false}
 use Rattle.arith.specs.Lists.{allBelow}
 use Rattle.arith.proofs.Tests.{all-more, all-stops}
-use Rattle.grid_refusals.specs.Refusals.{available}
+use Rattle.layout.specs.Layout.{available}
 use Rattle.report_prepared.specs.Inner.{nodeAvailable, nodesAvailable}
 use Rattle.report_prepared.proofs.nodes_available.Statement.{statement}
 use Rattle.report_prepared.proofs.nodes_available.Tie as tie

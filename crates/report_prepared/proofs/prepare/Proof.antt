@@ -10,9 +10,8 @@ use borrow.Author.Tests.{eq-eqb, ne-eqb, not-true, not-false}
 use mir.Syntax.{w64}
 use mir.Val.{toZ, ofZ}
 use Rattle.arith.proofs.Back.{held}
-use Rattle.layout.specs.Layout.{valueIn}
+use Rattle.layout.specs.Layout.{valueIn, available}
 use Rattle.record_grids.specs.declared.Settings.{Settings}
-use Rattle.grid_refusals.specs.Refusals.{available}
 use Rattle.grid_fields.specs.Inner.{meanSays}
 use Rattle.grid_component.specs.declared.Kept.{Kept}
 use Rattle.report_prepared.specs.Inner.{nodesAvailable, noEdges, middleOf, edgesAt, preparedOf}
