@@ -1,1 +1,5 @@
 pub mod Sign
+pub mod Reading
+pub mod Writing
+pub mod DigitPairs
+pub mod Answers

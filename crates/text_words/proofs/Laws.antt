@@ -111,7 +111,7 @@ pub next-past : (s : List ℕ) (k r : ℕ) → k < length s → Next s k r → k
 unfolding rest
 next-past s k r h n =
     let e : length s - r ≡ length s - k - suc (find 32 (drop k s)) =
-        sym (length-drop r s) ∙ ap length (n .behind) ∙ length-drop (suc (find 32 (drop k s))) (drop k s) ∙ ap (λ m. m - suc (find 32 (drop k s))) (length-drop k s) in
+    sym (length-drop r s) ∙ ap length (n .behind) ∙ length-drop (suc (find 32 (drop k s))) (drop k s) ∙ ap (λ m. m - suc (find 32 (drop k s))) (length-drop k s) in
     let i : r ≤ length s = n .inside in
     omega arith
 
