@@ -1,4 +1,4 @@
--- `frame_search::move_down` meets its contract: a byte not yet moved stands as at the start.
+-- `text_lines::move_down` meets its contract: a byte not yet moved stands as at the start.
 -- Assumes nothing.
 use Prim.Native.Nat.{_-_, _≤_}
 use native.Mathlib.Omega.{arith}
@@ -7,9 +7,9 @@ use mathlib.Core.List.{_++_}
 use lib.ListN.{length, drop, length-set}
 use Rattle.arith.specs.Row.{upTo}
 use Rattle.arith.proofs.Rows.{fill-turn}
-use Rattle.frame_search.proofs.Moved.{source, still, all-moved}
-use Rattle.frame_search.proofs.move_down.Statement.{statement}
-use Rattle.frame_search.proofs.move_down.Tie as tie
+use Rattle.text_lines.proofs.Moved.{source, still, all-moved}
+use Rattle.text_lines.proofs.move_down.Statement.{statement}
+use Rattle.text_lines.proofs.move_down.Tie as tie
 
 abbrev Inv-loop : tie.InvT-loop
 Inv-loop window₀ from n i₀ window i = (i ≤ n) × ((length window ≡ length window₀) × (window ≡ upTo (source window₀ from) i ++ drop i window₀))

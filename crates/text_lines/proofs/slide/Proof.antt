@@ -1,13 +1,13 @@
--- `frame_search::slide` meets its contract.
+-- `text_lines::slide` meets its contract.
 -- Assumes nothing.
 use Prim.Native.Nat.{_-_}
 use mathlib.Core.Path.{_≡_, sym, _∙_}
 use native.Mathlib.Omega.{arith}
 use borrow.Author.Needs.{needs}
-use Rattle.frame_search.specs.Search.{slid}
-use Rattle.frame_search.proofs.Moved.{keeps, keeps-none, past-window}
-use Rattle.frame_search.proofs.slide.Statement.{statement}
-use Rattle.frame_search.proofs.slide.Tie as tie
+use Rattle.text_lines.specs.Lines.{slid}
+use Rattle.text_lines.proofs.Moved.{keeps, keeps-none, past-window}
+use Rattle.text_lines.proofs.slide.Statement.{statement}
+use Rattle.text_lines.proofs.slide.Tie as tie
 
 returns : tie.Need-returns
 returns c =

@@ -10,7 +10,7 @@ use lib.Seq.{length-take-le, getD-append-add, getD-drop, getD-take}
 use borrow.Author.Tests.{lt-ltb, le-ltb}
 use Rattle.arith.specs.Row.{upTo}
 use Rattle.arith.proofs.Rows.{length-upTo, is-upTo}
-use Rattle.frame_search.specs.Search.{kept, slid}
+use Rattle.text_lines.specs.Lines.{kept, slid}
 
 -- the byte to be moved by turn i
 pub source : List ℕ → ℕ → ℕ → ℕ
