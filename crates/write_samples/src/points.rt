@@ -2,13 +2,13 @@
 use text_numerals::Byte;
 use text_numerals::Integer;
 
-pub type Components = [u8; 1001];
+pub(crate) type Components = [u8; 1001];
 
-pub type Positions = [i64; 1001];
+pub(crate) type Positions = [i64; 1001];
 
 // The point that a line spells, held behind the first `count`; of a point behind 1,001 only the refusal is kept in `later`, where it is the first.
 // Answers whether the line spells a point.
-pub fn take_point(
+pub(crate) fn take_point(
     s: &[u8],
     message: &[u8],
     components: &mut Components,
