@@ -28,10 +28,10 @@ pub(crate) fn start() -> Place {
 pub(crate) fn next_line(window: &mut Window, place: Place) -> Got {
     let line = text_lines::line_at(text_words::before(window, place.held), place.from);
     if line.whole {
-        return got(line, place.held);
+        return found(line, place.held);
     }
     let held = read_more(window, place.from, place.held);
-    got(
+    found(
         text_lines::line_at(text_words::before(window, held), 0),
         held,
     )
@@ -42,7 +42,7 @@ pub(crate) fn text_of(window: &Window, got: Got) -> &[u8] {
     text_words::before(text_words::behind(window, got.from), got.length)
 }
 
-fn got(line: Line, held: usize) -> Got {
+fn found(line: Line, held: usize) -> Got {
     let place = Place {
         from: line.next,
         held,
