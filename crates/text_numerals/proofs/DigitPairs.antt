@@ -66,7 +66,7 @@ byte-at (a ∷ []) k h = absurd (let i : k < 0 = h in omega arith)
 byte-at (a ∷ (b ∷ s)) zero h = refl
 byte-at (a ∷ (b ∷ s)) (suc k) h = rw (next-high a b s k, next-low a b s k) (byte-at s k (omega arith))
 
-and-both : (x y : Bool) → (x && y) ≡ true → (x ≡ true) × (y ≡ true)
+pub and-both : (x y : Bool) → (x && y) ≡ true → (x ≡ true) × (y ≡ true)
 and-both true true e = (refl, refl)
 and-both true false e = (refl, e)
 and-both false y e = absurd (let z : _≡_ {A = Bool} false true = e in let n : _≡_ {A = ℕ} 0 1 = cc in omega arith)
