@@ -1,10 +1,10 @@
 -- What only promises between crates name.
 -- Assumes nothing.
-use Prim.Native.Nat.{ℕ, _+_, _-_}
+use Prim.Native.Nat.{ℕ, _+_}
 use mathlib.Core.Bool.{Bool, true, false, cond}
-use mathlib.Core.List.{List, _++_}
-use lib.ListN.{length, take, drop}
-use lib.Dec.{ltb, eqb}
+use mathlib.Core.List.{List}
+use lib.ListN.{length}
+use lib.Dec.{eqb}
 use Rattle.frame.specs.declared.Frame.{Frame}
 use Rattle.frame.specs.Frames.{found, findFrame}
 use Rattle.frame_search.specs.declared.Step.{Step}
@@ -34,10 +34,3 @@ stepBy f n ended =
 unfoldable pub stepOf : List ℕ → ℕ → Bool → Step
 stepOf s from ended = stepBy (findFrame s from) (length s) ended
 
--- ---- the bytes that stay in a window
-
-unfoldable pub kept : ℕ → ℕ → ℕ → ℕ
-kept n from end = cond (ltb n end) 0 (end - from)
-
-unfoldable pub slid : List ℕ → ℕ → ℕ → List ℕ
-slid w from end = take (kept (length w) from end) (drop from w) ++ drop (kept (length w) from end) w
