@@ -32,6 +32,7 @@ use Rattle.message_rows.proofs.Trips.{row-taken}
 use Rattle.message_rows.proofs.Rows.{row-layout-most}
 use Rattle.message_records.specs.Kinds.{readHelmert, readMolodenskiBadekas, readGrid, readProjection, readLambert, readObliqueMercator}
 use Rattle.grid_bilinear.specs.Bilinear.{outside, absent}
+use Rattle.grid_place.specs.Position.{heightOf, widthOf, northFrom, eastFrom}
 use Rattle.grid_shifts.specs.Shift.{northOf, eastOf, gridTests, shiftRefusal, outcome, shiftWith, messageShift}
 use Rattle.demands_grids.specs.Grids.{AnsweredAt, gridAt, surfaceAt}
 use Rattle.demands_grids.specs.Absent.{NoneIsThePattern, UnsignedHasValue, PatternRefused, RefusedIsZero, MeanFormed}
@@ -110,7 +111,7 @@ unfolding messageShift shiftWith outcome shiftRefusal
 mean-formed s c n e h =
     let g = gridAt s in
     let k : Bool = not (leb 1023 (numberOf s) && leb (numberOf s) 1024) in
-    let o : Bool = outside (surfaceAt s c .H) (northOf g n) || outside (surfaceAt s c .W) (eastOf g e) in
+    let o : Bool = outside (heightOf (settingsOf g)) (northFrom (settingsOf g) n) || outside (widthOf (settingsOf g)) (eastFrom (settingsOf g) e) in
     let m : Bool = absent (surfaceAt s c) (northOf g n) (eastOf g e) in
     let a = passes (tests s) ((7, k) ∷ gridTests g c n e) tt h .1 in
     let b = passed 6 k (first (gridTests g c n e)) a .1 in

@@ -22,6 +22,7 @@ use Rattle.record_grids.specs.Grids.{gridOf, settingsOf}
 use Rattle.message_rows.specs.Message.{numberOf, row, kindRefusal}
 use Rattle.grid_bilinear.specs.Bilinear.{outside, absent}
 use Rattle.grid_refusals.specs.Refusals.{side, originAvailable, beyond}
+use Rattle.grid_place.specs.Position.{heightOf, widthOf, northFrom, eastFrom}
 use Rattle.grid_shifts.specs.Shift.{surface, northOf, eastOf, outcome, shiftWith, shiftRefusal, messageShift}
 use Rattle.grid_shifts.specs.declared.Shift.{Shift}
 use Rattle.grid_shifts.proofs.Accepted.{message-passed}
@@ -149,7 +150,7 @@ module _ (s : List ℕ) (c : ℕ) (n e step : ℤ) (count room : ℕ) where
       late k b o =
           let x : ℤ = e +ℤ pos k *ℤ step in
           late-numbers (sameZ (side c (g .indicators)) (pos 0)) (not (sameZ (side c (g .methods)) (pos 0))) (not (originAvailable (g .origin)))
-          (sameZ (g .spacing .north) (pos 0) || sameZ (g .spacing .east) (pos 0)) (outside (surface g c .H) (northOf g n) || outside (surface g c .W) (eastOf g x))
+          (sameZ (g .spacing .north) (pos 0) || sameZ (g .spacing .east) (pos 0)) (outside (heightOf (settingsOf g)) (northFrom (settingsOf g) n) || outside (widthOf (settingsOf g)) (eastFrom (settingsOf g) x))
           (absent (surface g c) (northOf g n) (eastOf g x)) (sym (message-passed s c n x h) ∙ rw (le-ltb 2 c l, p .near k b)) o
 
       at-place : (k : ℕ) → k < count → ((j : ℕ) → j < k → refusals j ≡ 0) → (refusals k ≡ 0 → ⊥) → (Q ≡ refusals k) × (10 ≤ Q) × (Q ≤ 15)

@@ -190,6 +190,7 @@ module _ (z wanted : List ℤ) (m : ℤ) (g : Grid) (p : Facts z wanted m g) whe
           ∷ []
 
       inside : first (gridTests g 2 north east) ≡ 0
+      unfolding surface northOf eastOf
       inside =
           sym (goes-on (fieldTests (settingsOf g) 2 north east) late tt field-tests)
           ∙ rw (

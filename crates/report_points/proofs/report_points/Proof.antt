@@ -248,7 +248,7 @@ module _ {M : Type 1} (𝓤 : URA M) (H : Heap 𝓤) (A : Atoms 𝓤) (W : Given
     Turned t = afterTurn 𝓤 H (Below 𝓤 H A Nearer At t) (afterBlock 𝓤 H (afterSeq 𝓤 H (Wp 𝓤 H C Λ En mir.t-6 (atReturn 𝓤 H En Post)) (atReturn 𝓤 H En Post)))
 
     -- a round at a point
-    more : (t : Turn′) → ltb (t .at) n ≡ true → t .at < n → Sq W (At t) (runs C Λ En mir.round-1 (anyQ (Turned t)))
+    more : (t : Turn′) → ltb (t .at) n ≡ true → t .at < n → Sq W (At t) (runs C Λ En mir.turn-1 (anyQ (Turned t)))
     unfolding afterTurn
     more t here less = let i = t .at in let p = getD ps i no-point in
         assigns ! (of-opd ! (load ! (from ! (fld ! refl (stop !))) (look-in ! 11 (sub ! 1 refl (whole !))))) (from ! (stop !)) (init ! 6 refl (tt, record { fits = room .0 })) $
@@ -294,7 +294,7 @@ module _ {M : Type 1} (𝓤 : URA M) (H : Heap 𝓤) (A : Atoms 𝓤) (W : Given
         next = lt-of-le-of-lt (add-one-le less) (room .0)
 
     -- the round that leaves the loop, and the rest of the body
-    ends : (t : Turn′) → ltb (t .at) n ≡ false → n ≤ t .at → Sq W (At t) (runs C Λ En mir.round-1 (anyQ (Turned t)))
+    ends : (t : Turn′) → ltb (t .at) n ≡ false → n ≤ t .at → Sq W (At t) (runs C Λ En mir.turn-1 (anyQ (Turned t)))
     unfolding afterTurn
     ends t left over =
         assigns ! (of-opd ! (load ! (from ! (fld ! refl (stop !))) (look-in ! 11 (sub ! 1 refl (whole !))))) (from ! (stop !)) (init ! 6 refl (tt, record { fits = room .0 })) $
@@ -306,7 +306,7 @@ module _ {M : Type 1} (𝓤 : URA M) (H : Heap 𝓤) (A : Atoms 𝓤) (W : Given
         move ! (8 ∷ 9 ∷ []) $ free1 ! $ move ! (4 ∷ 8 ∷ []) $ free1 ! $ move ! (4 ∷ 7 ∷ []) $ free1 ! $ move ! (4 ∷ 6 ∷ []) $ free1 ! $ move ! (4 ∷ 5 ∷ []) $ free1 ! $ free0 ! $
         by ! (exits (t .got) (sym (all-done (now m) kept c ps (t .at) (t .got) over) ∙ t .left) (t .is))
 
-    rounds : (t : Turn′) → Sq W (At t) (runs C Λ En mir.round-1 (anyQ (Turned t)))
+    rounds : (t : Turn′) → Sq W (At t) (runs C Λ En mir.turn-1 (anyQ (Turned t)))
     rounds t = tested (ltb (t .at) n) (λ y. more t y (ltb-true (t .at) n y)) (λ z. ends t z (ltb-false (t .at) n z))
 
     looped : (t : Turn′) → Sq W (At t) (runs C Λ En mir.t-5 (atRet En Post))
