@@ -33,4 +33,3 @@ stepBy f n ended =
 
 unfoldable pub stepOf : List ℕ → ℕ → Bool → Step
 stepOf s from ended = stepBy (findFrame s from) (length s) ended
-
