@@ -8,7 +8,6 @@ use mathlib.Core.List.{List, [], _∷_, _++_}
 use lib.Dec.{ltb}
 use lib.IntN.{ℤ, pos}
 use lib.ListN.{length, getD, drop}
-use lib.ListN as ListN
 use Rattle.arith.specs.First.{first}
 use Rattle.field.specs.declared.Reading.the-variants.{Value}
 use Rattle.record_rows.specs.Numbers.{says, valuesOf, presentOf}
@@ -16,6 +15,7 @@ use Rattle.layout.specs.Layout.{size, total, zeroFrom, allTake, decodeAll}
 use Rattle.record_transformations.specs.declared.Name.{Name}
 use Rattle.message_rows.specs.Message.{numberOf, sourceCount, targetCount, sinOf, layout, refusal, row, Outcome, writeRow}
 use Rattle.message_records.specs.Kinds.{readHelmert, readMolodenskiBadekas, readGrid, readProjection, readLambert, readObliqueMercator, writeHelmert, writeMolodenskiBadekas, writeGrid, writeProjection, writeLambert, writeObliqueMercator}
+use lib.ListN as ListN
 
 -- a list of bytes
 abbrev pub Bytes : List ℕ → Type 0

@@ -4,11 +4,15 @@ use Prim.Native.Nat.{ℕ, _+_}
 use mathlib.Core.Path.{_≡_}
 use mathlib.Core.Bool.{true, cond}
 use mathlib.Core.List.{List}
-use lib.ListN.{replicate}
+use lib.ListN.{replicate, take, drop}
 use Rattle.table_slots.specs.Slots.{slots}
 use Rattle.table_slots.specs.Inner.{noTag, marks}
-use Rattle.table.specs.Table.{wellFormed, found, foundAt}
+use Rattle.table.specs.Table.{wellFormed, foundAt, foundLength}
 use denote.Ref.{RefT, now, ptr}
+
+-- the bytes of the part, none with a refusal
+unfoldable pub found : List ℕ → ℕ → ℕ → ℕ → List ℕ
+found t o sin group = take (foundLength t o sin group) (drop (foundAt t o sin group) t)
 
 -- a table that is not well formed has no tags
 unfoldable pub checkedMarks : List ℕ → List ℕ

@@ -95,10 +95,6 @@ unfoldable pub foundOf : List ℕ → ℕ → ℕ → ℕ → WalkFound
 foundOf t o sin group =
     record { refusal = findRefusal t o sin group; at = foundAt t o sin group; length = foundLength t o sin group }
 
--- the bytes of the part, none with a refusal
-unfoldable pub found : List ℕ → ℕ → ℕ → ℕ → List ℕ
-found t o sin group = take (foundLength t o sin group) (drop (foundAt t o sin group) t)
-
 -- "Remove zeroes the slot"
 unfoldable pub removeTable : List ℕ → ℕ → ℕ → ℕ → List ℕ
 removeTable t o sin group = cond (eqb (findRefusal t o sin group) 0) (put t (keyPlace t o sin group) 0 []) t

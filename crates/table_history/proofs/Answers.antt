@@ -11,9 +11,10 @@ use lib.Seq.{drop-drop, take-take}
 use lib.Dec.{eqb}
 use borrow.Author.Tests.{ne-eqb, lt-ltb, le-ltb}
 use Rattle.table_slots.specs.Slots.{slots, messageSize, bodySize, slotSize, isOwner, key, joined, slot, held}
-use Rattle.table.specs.Table.{place, wellFormed, keyPlace, findRefusal, foundAt, found}
+use Rattle.table.specs.Table.{place, wellFormed, keyPlace, findRefusal, foundAt}
+use Rattle.table.specs.Inner.{found}
 use Rattle.table_history.specs.History.{Call, afterAll, logOf, lastOf}
-use Rattle.table_history.specs.Inner.{walk}
+use Rattle.table_history.specs.Private.{walk}
 use Rattle.table.proofs.Whole.{Formed, formed, well-formed}
 use Rattle.table_slots.proofs.Slot.{size-byte, used-size, tag-free}
 use Rattle.table.proofs.Calls.{Find, find-owner, find-none, find-done, keyPlace-in, keyPlace-out}

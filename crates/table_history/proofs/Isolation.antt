@@ -15,7 +15,7 @@ use Rattle.arith.proofs.Tests.{both-first, both-second}
 use Rattle.table_slots.specs.Slots.{slots, most, isOwner, keyOf}
 use Rattle.table.specs.Table.{holding, usedSlots}
 use Rattle.table_history.specs.History.{fresh, Ask, store, find, remove, Call, callsOf, afterAll, logOf, Reply, replies}
-use Rattle.table_history.specs.Inner.{number, after, shown, walk}
+use Rattle.table_history.specs.Private.{number, after, shown, walk}
 use Rattle.table_history.specs.Dict.{Dict, storedUnder, isNew, freeNumber, freeShown, changed, freeAfter, Dicts, total, full, dictNumber, dictShown, changedFor, dictAfter}
 use Rattle.table_history.specs.Isolation.{ofOwner, repliesTo, atMost, keptAfter, none, hasKey, noKeyTwice}
 use Rattle.table.proofs.Whole.{formed}

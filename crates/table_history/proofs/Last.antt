@@ -12,7 +12,7 @@ use Rattle.message_rows.specs.Message.{refusal}
 use Rattle.table_slots.specs.Slots.{slots, isOwner, key, keyOf, joined}
 use Rattle.table.specs.Table.{wellFormed, put, storePlace, storeRefusal, storeTable, keyPlace, findRefusal, removeTable}
 use Rattle.table_history.specs.History.{Ask, store, find, remove, Call, afterAll, logOf, leftUnder, lastOf}
-use Rattle.table_history.specs.Inner.{number, after, walk}
+use Rattle.table_history.specs.Private.{number, after, walk}
 use Rattle.table.proofs.Whole.{Formed, formed, well-formed}
 use Rattle.table.proofs.Calls.{Store, Find, store-kept, remove-kept, store-owner, store-refused, store-full, store-done, find-owner, find-none, find-done}
 use Rattle.table_slots.proofs.Owner.{joined-same}

@@ -13,9 +13,10 @@ use borrow.Author.Tests.{eq-eqb, ne-eqb, lt-ltb, lt-leb}
 use Rattle.message_rows.specs.Message.{refusal, numberOf, sinOf}
 use Rattle.message_rows.proofs.Limits.{accepted-size}
 use Rattle.table_slots.specs.Slots.{slots, messageSize, most, slotSize, isOwner, groupOf, key, keyOf, slot, ownerAt}
-use Rattle.table.specs.Table.{holding, usedSlots, wellFormed, storePlace, storeRefusal, storeTable, keyPlace, findRefusal, foundAt, foundLength, found, removeTable}
+use Rattle.table.specs.Table.{holding, usedSlots, wellFormed, storePlace, storeRefusal, storeTable, keyPlace, findRefusal, foundAt, foundLength, removeTable}
+use Rattle.table.specs.Inner.{found}
 use Rattle.table_history.specs.History.{Ask, store, find, remove, Call, afterAll, callsOf}
-use Rattle.table_history.specs.Inner.{number, after, shown, walk}
+use Rattle.table_history.specs.Private.{number, after, shown, walk}
 use Rattle.table_history.specs.Dict.{isNew, keyNumber, freeNumber, Dicts, total, full, dictNumber, entries}
 use Rattle.table_slots.proofs.Owner.{not-none, by-owner}
 use Rattle.table_slots.proofs.Slot.{size-byte}

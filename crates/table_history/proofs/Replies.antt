@@ -14,9 +14,10 @@ use Rattle.arith.specs.Places.{firstOf}
 use Rattle.message_rows.specs.Message.{refusal}
 use Rattle.message_rows.proofs.Limits.{accepted-size}
 use Rattle.table_slots.specs.Slots.{slots, most, isOwner, wellSlot, allZero, key, keyOf, joined, slot, ownerAt, held, tag}
-use Rattle.table.specs.Table.{flawed, wellSlots, countOf, newKey, place, owns, holding, isUsed, usedSlots, wellFormed, put, storePlace, storeTable, keyPlace, findRefusal, removeTable, found}
+use Rattle.table.specs.Table.{flawed, wellSlots, countOf, newKey, place, owns, holding, isUsed, usedSlots, wellFormed, put, storePlace, storeTable, keyPlace, findRefusal, removeTable}
+use Rattle.table.specs.Inner.{found}
 use Rattle.table_history.specs.History.{fresh, Ask, store, find, remove, Call, leftUnder, Reply, replies}
-use Rattle.table_history.specs.Inner.{number, after, shown, walk}
+use Rattle.table_history.specs.Private.{number, after, shown, walk}
 use Rattle.table_history.specs.Dict.{Dict, storedUnder, without, isNew, keyNumber, freeNumber, freeShown, changed, Dicts, total, full, dictNumber, dictShown, changedFor, dictAfter, dictionaries, entriesTo, entries}
 use Rattle.table_slots.proofs.Owner.{not-none, by-owner}
 use Rattle.table.proofs.Count.{count-all, count-lt}

@@ -1,4 +1,4 @@
 pub mod History
 pub mod Dict
 pub mod Isolation
-pub mod Inner
+pub mod Private

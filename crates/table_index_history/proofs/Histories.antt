@@ -17,7 +17,7 @@ use Rattle.table_slots.specs.Slots.{slots, slotSize, tableSize, isOwner, slot}
 use Rattle.table.specs.Table.{wellFormed}
 use Rattle.table.proofs.Whole.{formed}
 use Rattle.table_history.specs.History.{fresh, Ask, store, find, remove, Call, afterAll, replies, logOf}
-use Rattle.table_history.specs.Inner.{walk}
+use Rattle.table_history.specs.Private.{walk}
 use Rattle.table_history.proofs.Replies.{fresh-formed}
 use Rattle.table_index_search.specs.Index.{indexSize}
 use Rattle.table_index_search.specs.Search.{named, searched, entriesAt}

@@ -14,11 +14,12 @@ use Rattle.table_slots.specs.Slots.{slots, most, isOwner, groupOf, key, keyOf, 
 use Rattle.table_slots.proofs.Owner.{owner-range, not-none}
 use Rattle.table_slots.proofs.Slot.{tag-none}
 use Rattle.table_slots.proofs.Marks.{group-most}
-use Rattle.table.specs.Table.{place, holding, wellFormed, put, storePlace, storeRefusal, storeTable, keyPlace, findRefusal, removeTable, foundLength, found}
+use Rattle.table.specs.Table.{place, holding, wellFormed, put, storePlace, storeRefusal, storeTable, keyPlace, findRefusal, removeTable, foundLength}
+use Rattle.table.specs.Inner.{found}
 use Rattle.table.proofs.Whole.{Formed, formed, well-formed}
 use Rattle.table.proofs.Calls as walk
 use Rattle.table_history.specs.History.{Ask, store, find, remove}
-use Rattle.table_history.specs.Inner as plain
+use Rattle.table_history.specs.Private as plain
 use Rattle.table_history.proofs.Look.{place-of}
 use Rattle.table_history.proofs.Step.{group-low, key-at}
 use Rattle.table_history.proofs.Last.{keep}

@@ -6,7 +6,7 @@ use mathlib.Core.Bool.{true, false}
 use mathlib.Core.List.{List}
 use lib.ListN.{length}
 use borrow.Author.Tests.{lt-ltb, le-ltb}
-use Rattle.text_lines.specs.Lines.{lineOf}
+use Rattle.text_lines.specs.Inner.{lineOf}
 use Rattle.text_lines.specs.declared.Line.{Line}
 
 module _ (s : List ℕ) (from n : ℕ) where

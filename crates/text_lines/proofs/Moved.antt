@@ -10,7 +10,7 @@ use lib.Seq.{length-take-le, getD-append-add, getD-drop, getD-take}
 use borrow.Author.Tests.{lt-ltb, le-ltb}
 use Rattle.arith.specs.Lists.{upTo}
 use Rattle.arith.proofs.Lists.{length-upTo, is-upTo}
-use Rattle.text_lines.specs.Lines.{kept, slid}
+use Rattle.text_lines.specs.Inner.{kept, slid}
 
 -- the byte to be moved by turn i
 pub source : List ℕ → ℕ → ℕ → ℕ

@@ -3,7 +3,7 @@ ghost use Prim.Native.Nat.{_+_, _≤_};
 ghost use mathlib.Core.Path.{_≡_};
 ghost use mathlib.Core.List.{_++_};
 ghost use lib.ListN.{length, take, drop};
-ghost use Rattle.text_lines.specs.Lines.{lineAt, kept, slid};
+ghost use Rattle.text_lines.specs.Inner.{lineAt, kept, slid};
 
 // A line without its newline; `whole` where a newline ends it, and the place behind that.
 pub struct Line {

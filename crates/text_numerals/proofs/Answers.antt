@@ -9,9 +9,9 @@ use lib.Dec.{ltb, leb}
 use lib.ListN.{length, take, drop}
 use lib.Seq.{paste, take-length}
 use borrow.Author.Tests.{lt-ltb, le-ltb, le-leb, lt-leb}
-use Rattle.text_words.specs.Words.{put}
+use Rattle.text_words.specs.Inner.{put}
 use Rattle.text_words.proofs.Laws.{put-in}
-use Rattle.text_numerals.specs.Hexadecimal.{none, pairs, bytesOf, hexBytes, spellsBytes, hexCount, hexFilled, pairsOf, hexadecimal}
+use Rattle.text_numerals.specs.Inner.{none, pairs, bytesOf, hexBytes, spellsBytes, hexCount, hexFilled, pairsOf, hexadecimal}
 use Rattle.text_numerals.specs.declared.Count.{Count}
 use Rattle.text_numerals.specs.declared.Count.the-variants.{Is, Bad}
 use Rattle.text_numerals.proofs.DigitPairs.{bytes-length}

@@ -11,8 +11,7 @@ use lib.ListN.{length, getD, length-append, List·getD-append}
 use lib.IntN.{ℤ, pos, negsuc}
 use lib.Signed.{mag}
 use borrow.Author.Tests.{lt-ltb, le-ltb, le-leb, lt-leb, ltb-true, ltb-false, ne-eqb}
-use Rattle.text_numerals.specs.Decimal.{digitsOnly, spelled, natural, positive, negative, whole, digitsOf, decimal, wholeDecimal}
-use Rattle.text_numerals.specs.Hexadecimal.{digit, glyph, pairs, bytesOf, pairsOf}
+use Rattle.text_numerals.specs.Inner.{digitsOnly, spelled, natural, positive, negative, whole, digitsOf, decimal, wholeDecimal, digit, glyph, pairs, bytesOf, pairsOf}
 use Rattle.text_numerals.specs.declared.Count.the-variants as count
 use Rattle.text_numerals.specs.declared.Integer.the-variants as integer
 use Rattle.text_numerals.proofs.Reading.{natural-is}

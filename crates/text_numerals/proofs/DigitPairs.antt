@@ -11,7 +11,7 @@ use lib.Dec.{ltb}
 use lib.ListN.{length, getD, set, take, drop, drop-of-length-le}
 use lib.Seq.{drop-cons, paste, paste-suc}
 use borrow.Author.Tests.{lt-ltb, le-ltb, ltb-true}
-use Rattle.text_numerals.specs.Hexadecimal.{digit, glyph, pairs, bytesOf, pairsOf}
+use Rattle.text_numerals.specs.Inner.{digit, glyph, pairs, bytesOf, pairsOf}
 
 -- ---- whether all are pairs
 

@@ -11,8 +11,7 @@ use lib.Dec.{ltb}
 use lib.ListN.{length, getD, drop, drop-of-length-le}
 use lib.Seq.{drop-cons}
 use borrow.Author.Tests.{lt-ltb, le-ltb}
-use Rattle.text_numerals.specs.Decimal.{digitsOnly, numeral, spelled, natural, positive, whole}
-use Rattle.text_numerals.specs.Hexadecimal.{digit}
+use Rattle.text_numerals.specs.Inner.{digitsOnly, numeral, spelled, natural, positive, whole, digit}
 use Rattle.text_numerals.specs.declared.Count.the-variants.{Is, Bad}
 use Rattle.text_numerals.specs.declared.Integer.the-variants as integer
 

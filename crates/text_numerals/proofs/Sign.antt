@@ -12,7 +12,7 @@ use mir.Syntax.{w64}
 use mir.Val.{SFits, toZ, ofZ}
 use mir.ValLaws.{toZ-ofZ, toZ-pos}
 use borrow.Author.Tests.{le-ltb, ltb-true}
-use Rattle.text_numerals.specs.Decimal.{decimal, wholeDecimal}
+use Rattle.text_numerals.specs.Inner.{decimal, wholeDecimal}
 
 flip-pos : (x : ℕ) → negsuc 0 -ℤ pos x ≡ negsuc x
 flip-pos zero = refl

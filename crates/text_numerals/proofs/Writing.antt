@@ -8,8 +8,7 @@ use mathlib.Core.List.{List, [], _∷_, _++_, append-nil}
 use lib.ListN.{length, set, drop, length-set, drop-of-length-le}
 use lib.Seq.{drop-cons, getD-set-same, drop-set-lt, append-snoc}
 use borrow.Author.Tests.{lt-ltb, le-ltb}
-use Rattle.text_numerals.specs.Decimal.{digitsOf, decimal}
-use Rattle.text_numerals.specs.Hexadecimal.{glyph}
+use Rattle.text_numerals.specs.Inner.{digitsOf, decimal, glyph}
 
 pub glyph-low : (n : ℕ) → n < 10 → glyph n ≡ 48 + n
 unfolding glyph

@@ -6,9 +6,8 @@ ghost use mathlib.Core.Path.{_≡_};
 ghost use lib.IntN.{natAbs};
 ghost use lib.ListN.{length, take, drop};
 ghost use lib.Seq.{paste};
-ghost use Rattle.text_words.specs.Words.{put, placeBehind};
-ghost use Rattle.text_numerals.specs.Decimal.{natural, byteOf, positive, negative, whole, decimal, wholeDecimal};
-ghost use Rattle.text_numerals.specs.Hexadecimal.{digit, glyph, pairs, bytesOf, hexCount, hexFilled, pairsOf, hexadecimal};
+ghost use Rattle.text_words.specs.Inner.{put, placeBehind};
+ghost use Rattle.text_numerals.specs.Inner.{natural, byteOf, positive, negative, whole, decimal, wholeDecimal, digit, glyph, pairs, bytesOf, hexCount, hexFilled, pairsOf, hexadecimal};
 
 // A natural number, or how many were read.
 pub enum Count {

@@ -10,7 +10,8 @@ use lib.Dec.{eqb}
 use lib.ListN.{length, getD, take, drop, length-drop, drop-of-length-le}
 use lib.Seq.{drop-cons, drop-length, drop-drop}
 use borrow.Author.Tests.{eq-eqb, ne-eqb, le-leb, lt-leb}
-use Rattle.text_words.specs.Words.{find, word, rest, Next, same, longer, words, placeIn, hasRoom, put, placeBehind}
+use Rattle.text_words.specs.Inner.{find, word, rest, Next, longer, words, placeIn, hasRoom, put, placeBehind}
+use Rattle.text_words.specs.Words.{same}
 
 module _ (b : ℕ) (s : List ℕ) (k : ℕ) where
   pub find-end : length s ≤ k → find b (drop k s) ≡ 0

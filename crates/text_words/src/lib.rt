@@ -3,7 +3,8 @@ ghost use Prim.Native.Nat.{_+_, _≤_};
 ghost use lib.ListN.{length, take, drop};
 ghost use lib.Seq.{paste};
 ghost use mathlib.Core.Path.{_≡_};
-ghost use Rattle.text_words.specs.Words.{find, word, rest, Next, same, words, placeIn, put, placeBehind};
+ghost use Rattle.text_words.specs.Inner.{find, word, rest, Next, words, placeIn, put, placeBehind};
+ghost use Rattle.text_words.specs.Words.{same};
 
 // The place of the first byte `b`, the length where there is none.
 pub fn find(s: &[u8], b: u8) -> usize

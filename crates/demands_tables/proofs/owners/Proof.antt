@@ -14,7 +14,7 @@ use Rattle.table_slots.specs.Slots.{groupOf, slots, messageSize, key, joined, s
 use Rattle.table_slots.proofs.Slot.{size-byte, tag-says}
 use Rattle.table.specs.Table.{holding, usedSlots, storeTable, removeTable}
 use Rattle.table_history.specs.History.{Ask, store, find, remove}
-use Rattle.table_history.specs.Inner as plain
+use Rattle.table_history.specs.Private as plain
 use Rattle.table_history.proofs.Others.{owner-refused, others-kept, full-exactly, twelve-there}
 use Rattle.table_indexed.specs.Indexed.{agreesRefusal, storedTable, removedTable}
 use Rattle.table_indexed.specs.Find.{probed, usedBy, findNumber, given, partAt, partLength}

@@ -5,9 +5,10 @@ use mathlib.Core.Path.{_≡_, refl, sym, ap, subst, _∙_}
 use mathlib.Core.List.{List}
 use lib.ListN.{take, drop}
 use Rattle.table_slots.specs.Slots.{key}
-use Rattle.table.specs.Table.{findRefusal, foundLength, found}
+use Rattle.table.specs.Table.{findRefusal, foundLength}
+use Rattle.table.specs.Inner.{found}
 use Rattle.table_history.specs.History.{afterAll, logOf, lastOf}
-use Rattle.table_history.specs.Inner.{walk}
+use Rattle.table_history.specs.Private.{walk}
 use Rattle.table_history.proofs.Replies.{replies-same, fresh-empty}
 use Rattle.table_history.proofs.Answers.{find-last, find-other}
 use Rattle.table.proofs.Whole.{formed}

@@ -3,8 +3,8 @@
 use borrow.Author.Needs.{needs}
 use native.Mathlib.Omega.{arith}
 use mathlib.Core.Path.{sym, ap, _∙_}
-use Rattle.text_words.specs.Words.{find}
-use Rattle.text_lines.specs.Lines.{lineOf, lineAt}
+use Rattle.text_words.specs.Inner.{find}
+use Rattle.text_lines.specs.Inner.{lineOf, lineAt}
 use Rattle.text_lines.proofs.Laws.{line-ended, line-open}
 use Rattle.text_lines.proofs.line_at.Statement.{statement}
 use Rattle.text_lines.proofs.line_at.Tie as tie

@@ -4,7 +4,7 @@ use Prim.Native.Nat.{_-_}
 use mathlib.Core.Path.{_≡_, sym, _∙_}
 use native.Mathlib.Omega.{arith}
 use borrow.Author.Needs.{needs}
-use Rattle.text_lines.specs.Lines.{slid}
+use Rattle.text_lines.specs.Inner.{slid}
 use Rattle.text_lines.proofs.Moved.{keeps, keeps-none, past-window}
 use Rattle.text_lines.proofs.slide.Statement.{statement}
 use Rattle.text_lines.proofs.slide.Tie as tie

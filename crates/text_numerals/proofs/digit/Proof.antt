@@ -3,7 +3,7 @@
 use native.Mathlib.Omega.{arith}
 use borrow.Author.Needs.{needs}
 use borrow.Author.Tests.{le-leb, lt-leb}
-use Rattle.text_numerals.specs.Hexadecimal.{digit}
+use Rattle.text_numerals.specs.Inner.{digit}
 use Rattle.text_numerals.proofs.digit.Statement.{statement}
 use Rattle.text_numerals.proofs.digit.Tie as tie
 

@@ -6,7 +6,7 @@ use native.Mathlib.Omega.{arith}
 use mathlib.Core.Path.{_≡_, refl, sym, _∙_}
 use mathlib.Core.List.{_++_}
 use lib.ListN.{length, drop, length-set}
-use Rattle.text_numerals.specs.Decimal.{digitsOf, decimal}
+use Rattle.text_numerals.specs.Inner.{digitsOf, decimal}
 use Rattle.text_numerals.proofs.Writing.{digits-start, digits-last, digits-on, digits-none}
 use Rattle.text_numerals.proofs.digits.Statement.{statement}
 use Rattle.text_numerals.proofs.digits.Tie as tie

@@ -7,7 +7,7 @@ use mathlib.Core.Path.{_≡_, refl, sym, ap, _∙_}
 use mathlib.Core.List.{_++_}
 use lib.ListN.{length, getD, set, take, drop, length-set}
 use lib.Seq.{take-all}
-use Rattle.text_numerals.specs.Hexadecimal.{digit, bytesOf}
+use Rattle.text_numerals.specs.Inner.{digit, bytesOf}
 use Rattle.text_numerals.proofs.DigitPairs.{bytes-length, byte-at, pairs-at, front-turn}
 use Rattle.text_numerals.proofs.fill.Statement.{statement}
 use Rattle.text_numerals.proofs.fill.Tie as tie

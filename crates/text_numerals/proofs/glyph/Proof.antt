@@ -3,7 +3,7 @@
 use native.Mathlib.Omega.{arith}
 use borrow.Author.Needs.{needs}
 use borrow.Author.Tests.{lt-ltb, le-ltb}
-use Rattle.text_numerals.specs.Hexadecimal.{glyph}
+use Rattle.text_numerals.specs.Inner.{glyph}
 use Rattle.text_numerals.proofs.glyph.Statement.{statement}
 use Rattle.text_numerals.proofs.glyph.Tie as tie
 

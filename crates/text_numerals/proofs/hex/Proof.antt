@@ -4,7 +4,7 @@ use borrow.Author.Needs.{needs}
 use borrow.Author.Tests.{not-true, not-false}
 use mathlib.Core.Path.{_≡_, sym, ap, _∙_}
 use mathlib.Core.Bool.{true, false}
-use Rattle.text_numerals.specs.Hexadecimal.{none, pairs}
+use Rattle.text_numerals.specs.Inner.{none, pairs}
 use Rattle.text_numerals.proofs.Answers.{hex-none, hex-empty, hex-large, hex-odd, hex-is}
 use Rattle.text_numerals.proofs.hex.Statement.{statement}
 use Rattle.text_numerals.proofs.hex.Tie as tie

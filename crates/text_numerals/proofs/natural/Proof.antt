@@ -5,8 +5,7 @@ use Prim.Native.Nat.{_+_, _-_, _*_, _^_, _<_}
 use native.Mathlib.Omega.{arith}
 use mathlib.Core.Path.{_≡_, refl, sym, ap, _∙_}
 use lib.ListN.{length, getD, drop}
-use Rattle.text_numerals.specs.Decimal.{digitsOnly, spelled}
-use Rattle.text_numerals.specs.Hexadecimal.{digit}
+use Rattle.text_numerals.specs.Inner.{digitsOnly, spelled, digit}
 use Rattle.text_numerals.specs.declared.Count.the-variants.{Is}
 use Rattle.text_numerals.proofs.Reading.{digits-end, digits-bad, digits-on, spelled-end, spelled-on, spelled-least, natural-none, natural-bad, natural-large, natural-is}
 use Rattle.text_numerals.proofs.natural.Statement.{statement}

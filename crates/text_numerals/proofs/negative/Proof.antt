@@ -5,7 +5,7 @@ use borrow.Author.Tests.{le-leb, lt-leb}
 use Prim.Native.Nat.{_-_, _^_}
 use native.Mathlib.Omega.{arith}
 use mathlib.Core.Path.{sym, ap}
-use Rattle.text_numerals.specs.Decimal.{negative}
+use Rattle.text_numerals.specs.Inner.{negative}
 use Rattle.text_numerals.proofs.Sign.{flip-fits, flip-back}
 use Rattle.text_numerals.proofs.negative.Statement.{statement}
 use Rattle.text_numerals.proofs.negative.Tie as tie

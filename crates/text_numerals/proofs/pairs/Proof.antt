@@ -5,7 +5,7 @@ use Prim.Native.Nat.{_+_, _-_, _≤_}
 use native.Mathlib.Omega.{arith}
 use mathlib.Core.Path.{_≡_, refl, sym, _∙_}
 use lib.ListN.{length, drop}
-use Rattle.text_numerals.specs.Hexadecimal.{pairs}
+use Rattle.text_numerals.specs.Inner.{pairs}
 use Rattle.text_numerals.proofs.DigitPairs.{pairs-end, pairs-odd, pairs-high, pairs-low, pairs-on}
 use Rattle.text_numerals.proofs.pairs.Statement.{statement}
 use Rattle.text_numerals.proofs.pairs.Tie as tie

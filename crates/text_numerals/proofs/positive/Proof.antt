@@ -4,7 +4,7 @@ use borrow.Author.Needs.{needs}
 use borrow.Author.Tests.{lt-ltb, le-ltb}
 use Prim.Native.Nat.{_^_}
 use mathlib.Core.Path.{sym, ap}
-use Rattle.text_numerals.specs.Decimal.{positive}
+use Rattle.text_numerals.specs.Inner.{positive}
 use Rattle.text_numerals.proofs.positive.Statement.{statement}
 use Rattle.text_numerals.proofs.positive.Tie as tie
 

@@ -5,9 +5,9 @@ use Prim.Native.Nat.{_+_, _*_, _<_}
 use native.Mathlib.Omega.{arith}
 use mathlib.Core.Path.{_≡_, sym, ap, _∙_}
 use lib.ListN.{length}
-use Rattle.text_words.specs.Words.{put, placeBehind}
+use Rattle.text_words.specs.Inner.{put, placeBehind}
 use Rattle.text_words.proofs.Laws.{put-not, behind-in, behind-not}
-use Rattle.text_numerals.specs.Hexadecimal.{pairsOf, hexadecimal}
+use Rattle.text_numerals.specs.Inner.{pairsOf, hexadecimal}
 use Rattle.text_numerals.proofs.DigitPairs.{pairs-length}
 use Rattle.text_numerals.proofs.Answers.{no-bytes, some-bytes, paste-put}
 use Rattle.text_numerals.proofs.put_hex.Statement.{statement}

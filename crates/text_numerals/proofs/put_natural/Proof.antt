@@ -6,8 +6,8 @@ use native.Mathlib.Omega.{arith}
 use mathlib.Core.Path.{_≡_, ap, _∙_}
 use lib.ListN.{take, drop, length-drop}
 use lib.Seq.{take-all}
-use Rattle.text_words.specs.Words.{put, placeBehind}
-use Rattle.text_numerals.specs.Decimal.{decimal}
+use Rattle.text_words.specs.Inner.{put, placeBehind}
+use Rattle.text_numerals.specs.Inner.{decimal}
 use Rattle.text_numerals.proofs.put_natural.Statement.{statement}
 use Rattle.text_numerals.proofs.put_natural.Tie as tie
 

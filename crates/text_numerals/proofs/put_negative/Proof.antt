@@ -8,8 +8,8 @@ use mathlib.Core.Path.{_≡_, sym, ap, _∙_}
 use mathlib.Core.List.{_∷_}
 use lib.ListN.{set, take, drop, length-set, length-drop}
 use lib.Seq.{take-all}
-use Rattle.text_words.specs.Words.{put, placeBehind}
-use Rattle.text_numerals.specs.Decimal.{decimal}
+use Rattle.text_words.specs.Inner.{put, placeBehind}
+use Rattle.text_numerals.specs.Inner.{decimal}
 use Rattle.text_numerals.proofs.Writing.{stored}
 use Rattle.text_numerals.proofs.put_negative.Statement.{statement}
 use Rattle.text_numerals.proofs.put_negative.Tie as tie

@@ -6,8 +6,8 @@ use mathlib.Core.List.{_∷_}
 use lib.IntN.{natAbs}
 use mir.Syntax.{w64}
 use mir.ValLaws.{toZ-ofZ}
-use Rattle.text_words.specs.Words.{put, placeBehind}
-use Rattle.text_numerals.specs.Decimal.{decimal}
+use Rattle.text_words.specs.Inner.{put, placeBehind}
+use Rattle.text_numerals.specs.Inner.{decimal}
 use Rattle.text_numerals.proofs.Sign.{below-text, other-text}
 use Rattle.text_numerals.proofs.put_whole.Statement.{statement}
 use Rattle.text_numerals.proofs.put_whole.Tie as tie

@@ -3,7 +3,7 @@
 use borrow.Author.Needs.{needs}
 use borrow.Author.Tests.{lt-ltb, le-ltb}
 use mathlib.Core.Path.{sym, ap, _∙_}
-use Rattle.text_numerals.specs.Decimal.{byteOf}
+use Rattle.text_numerals.specs.Inner.{byteOf}
 use Rattle.text_numerals.proofs.small.Statement.{statement}
 use Rattle.text_numerals.proofs.small.Tie as tie
 

@@ -6,7 +6,7 @@ use native.Mathlib.Omega.{arith}
 use mathlib.Core.Path.{_≡_, refl, sym, ap, _∙_}
 use lib.ListN.{length, getD, set, length-set}
 use lib.Seq.{paste, paste-zero}
-use Rattle.text_numerals.specs.Hexadecimal.{glyph, pairsOf}
+use Rattle.text_numerals.specs.Inner.{glyph, pairsOf}
 use Rattle.text_numerals.proofs.DigitPairs.{paste-pair}
 use Rattle.text_numerals.proofs.spell.Statement.{statement}
 use Rattle.text_numerals.proofs.spell.Tie as tie

@@ -5,7 +5,7 @@ use borrow.Author.Tests.{eq-eqb, ne-eqb}
 use native.Mathlib.Omega.{arith}
 use mathlib.Core.Path.{sym, ap, _∙_}
 use lib.ListN.{getD}
-use Rattle.text_numerals.specs.Decimal.{natural, positive, negative, whole}
+use Rattle.text_numerals.specs.Inner.{natural, positive, negative, whole}
 use Rattle.text_numerals.proofs.Reading.{whole-none}
 use Rattle.text_numerals.proofs.whole.Statement.{statement}
 use Rattle.text_numerals.proofs.whole.Tie as tie

@@ -6,7 +6,7 @@ use native.Mathlib.Omega.{arith}
 use Rattle.text_words.proofs.Laws.{find-here, find-on, find-end}
 use mathlib.Core.Path.{_≡_}
 use lib.ListN.{length, drop}
-use Rattle.text_words.specs.Words.{find}
+use Rattle.text_words.specs.Inner.{find}
 use Rattle.text_words.proofs.find.Statement.{statement}
 use Rattle.text_words.proofs.find.Tie as tie
 

@@ -4,7 +4,7 @@ use Prim.Native.Nat.{_+_}
 use native.Mathlib.Omega.{arith}
 use mathlib.Core.Path.{_≡_, ap, _∙_}
 use lib.ListN.{drop}
-use Rattle.text_words.specs.Words.{find}
+use Rattle.text_words.specs.Inner.{find}
 use Rattle.text_words.proofs.Laws.{next-end, next-on}
 use borrow.Author.Needs.{needs}
 use Rattle.text_words.proofs.next.Statement.{statement}

@@ -6,7 +6,8 @@ use native.Mathlib.Numerals.{add-one}
 use native.Mathlib.Omega.{arith}
 use mathlib.Core.Path.{_≡_, refl, sym, ap, _∙_}
 use lib.ListN.{length, drop}
-use Rattle.text_words.specs.Words.{word, words, placeIn, same}
+use Rattle.text_words.specs.Inner.{word, words, placeIn}
+use Rattle.text_words.specs.Words.{same}
 use Rattle.text_words.proofs.Laws.{place-end, place-here, place-on, next-past}
 use Rattle.text_words.proofs.place.Statement.{statement}
 use Rattle.text_words.proofs.place.Tie as tie

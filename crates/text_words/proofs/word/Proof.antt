@@ -2,7 +2,7 @@
 -- Assumes nothing.
 use mathlib.Core.Path.{ap, _∙_}
 use lib.ListN.{take}
-use Rattle.text_words.specs.Words.{word}
+use Rattle.text_words.specs.Inner.{word}
 use borrow.Author.Needs.{needs}
 use Rattle.text_words.proofs.word.Statement.{statement}
 use Rattle.text_words.proofs.word.Tie as tie

@@ -1,11 +1,11 @@
--- Lines of a text, and the bytes that stay in a window over a stream.
+-- What only promises between crates name.
 -- Assumes nothing.
 use Prim.Native.Nat.{ℕ, _+_, _-_}
-use mathlib.Core.Bool.{Bool, cond}
+use mathlib.Core.Bool.{cond}
 use mathlib.Core.List.{List, _++_}
 use lib.ListN.{length, take, drop}
 use lib.Dec.{ltb}
-use Rattle.text_words.specs.Words.{find}
+use Rattle.text_words.specs.Inner.{find}
 use Rattle.text_lines.specs.declared.Line.{Line}
 
 -- the line of n bytes at a place: whole where a byte stands behind it, its newline

@@ -1,8 +1,9 @@
--- The calls of a table without an index.
+-- What private functions and proofs need.
 -- Assumes nothing.
 use Prim.Native.Nat.{ℕ}
 use mathlib.Core.List.{List, []}
-use Rattle.table.specs.Table.{storeRefusal, storeTable, findRefusal, removeTable, found}
+use Rattle.table.specs.Table.{storeRefusal, storeTable, findRefusal, removeTable}
+use Rattle.table.specs.Inner.{found}
 use Rattle.table_history.specs.History.{Ask, store, find, remove, Calls}
 
 -- the number that a call answers, the part that it shows, and the table after it
