@@ -39,9 +39,9 @@ find_node() {
 }
 
 install_packages() { # PACKAGE..
+    local install=(apt-get install -y -q --no-install-recommends -o DPkg::Lock::Timeout=120 "$@")
     mkdir -p target
-    apt-get install -y -q --no-install-recommends "$@" >target/packages.log 2>&1 ||
-        { apt-get update -q >>target/packages.log 2>&1 && apt-get install -y -q --no-install-recommends "$@" >>target/packages.log 2>&1; }
+    "${install[@]}" >target/packages.log 2>&1 || { apt-get update -q && "${install[@]}"; } >>target/packages.log 2>&1
 }
 
 # Installs what is missing, and sets machines, those that can be run. A machine for which something cannot be installed is left out
