@@ -1,5 +1,8 @@
 //! Height grids: the mean, the heights at the nodes, and the refusals in order.
 
+mod common;
+
+use common::{in_repository, text_of};
 use tarnoklej::*;
 
 /// The bytes of a 1023.
@@ -10,11 +13,9 @@ const ORIGIN: [usize; 2] = [4, 5];
 const SPACING: [usize; 2] = [6, 7];
 const METHOD: usize = 60;
 
-/// A row of a 1023 around 49 degrees north and 11 degrees east, heights only.
+/// The row of grid K.
 fn row() -> Vec<Option<i64>> {
-    let mut row = vec![Some(0); 64];
-    row[..8].copy_from_slice(&[1023, 7, 0, 1, 352_800, 79_200, 720, 720].map(Some));
-    row
+    example::grid_k_fields().row()
 }
 
 /// The row with another field.
@@ -27,9 +28,10 @@ fn with(place: usize, field: Option<i64>) -> Vec<Option<i64>> {
 /// The refusal or the message of heights.
 fn written(row: &[Option<i64>], wanted: [i64; NODES]) -> Result<Vec<u8>, Refusal> {
     let mut out = vec![0xa5; LENGTH + 1];
-    let length = write_heights(row, &wanted, &mut out)?;
+    let length = write_heights_into(row, &wanted, &mut out)?;
     assert_eq!(out[length], 0xa5);
     out.truncate(length);
+    assert_eq!(write_heights(row, &wanted).as_ref(), Ok(&out));
     Ok(out)
 }
 
@@ -101,7 +103,7 @@ fn refusals_in_order() {
     assert_eq!(written(&with(ORIGIN[0], None), level), Err(Refusal::Origin));
     assert_eq!(written(&with(SPACING[0], Some(0)), level), Err(Refusal::Spacing));
     let mut out = [0xa5; LENGTH - 1];
-    assert_eq!(write_heights(&row(), &level, &mut out), Err(Refusal::Room));
+    assert_eq!(write_heights_into(&row(), &level, &mut out), Err(Refusal::Room));
     assert_eq!(out, [0xa5; LENGTH - 1]);
 }
 
@@ -112,18 +114,11 @@ fn counts_other_than_those_of_a_1023() {
     for (values_count, present_count, wanted_count) in
         [(63, 64, 16), (64, 63, 16), (64, 65, 16), (64, 64, 15), (64, 64, 17)]
     {
+        let (values, present, wanted) = (values.as_ptr(), present.as_ptr(), wanted.as_ptr());
+        let (to, room) = (out.as_mut_ptr(), out.len());
         // SAFETY: the pointers are those of slices that do not overlap, and the lengths are at most theirs.
         let answer = unsafe {
-            ffi::tarnoklej_write_heights(
-                values.as_ptr(),
-                values_count,
-                present.as_ptr(),
-                present_count,
-                wanted.as_ptr(),
-                wanted_count,
-                out.as_mut_ptr(),
-                out.len(),
-            )
+            ffi::tarnoklej_write_heights(values, values_count, present, present_count, wanted, wanted_count, to, room)
         };
         assert_eq!(answer, ffi::Written { refusal: 5, length: 0 });
     }
@@ -138,4 +133,45 @@ fn the_message_holds_the_wanted_heights() {
     for (node, height) in wanted.into_iter().enumerate() {
         assert_eq!(fields[13 + 3 * node].map(|value| 10 * mean + value), Some(height));
     }
+}
+
+/// The wanted heights of a file of the examples, in millimetres.
+fn heights_of(file: &str) -> [i64; NODES] {
+    let text = std::fs::read_to_string(in_repository(file)).expect("the heights of an example");
+    let millimetres = |word: &str| (1_000.0 * word.parse::<f64>().expect("a height")).round() as i64;
+    let heights: Vec<i64> = text.lines().flat_map(|line| line.split(',')).map(millimetres).collect();
+    heights.try_into().expect("sixteen heights")
+}
+
+/// The fields of a 1023 of heights alone, from the words of an example: number, latitude, longitude and spacing.
+fn grid_of(words: &[&str]) -> Message {
+    let number = |word: &str, steps: f64| (steps * word.parse::<f64>().expect("a number")).round() as i64;
+    let mut grid = Message::new(1023).expect("a grid");
+    let spacing = number(words[3], 2.0);
+    let fields = [(147, number(words[0], 1.0)), (192, number(words[1], 7_200.0)), (193, number(words[2], 7_200.0))];
+    for (df, value) in fields.into_iter().chain([(191, 1), (194, spacing), (195, spacing)]) {
+        grid.set(df, value).expect("a field of a 1023");
+    }
+    for df in [196, 197] {
+        grid.set(df, None).expect("a mean of a 1023");
+    }
+    for (df, node) in [199, 200].into_iter().flat_map(|df| (1..=NODES as u8).map(move |node| (df, node))) {
+        grid.set_node(df, node, None).expect("a node of a 1023");
+    }
+    grid
+}
+
+#[test]
+fn the_examples_get_the_second_programs_lines() {
+    let mut lines = Vec::new();
+    for call in text_of("examples/heights.calls").lines() {
+        let words: Vec<&str> = call.split(' ').collect();
+        let message = write_heights(&grid_of(&words[1..]).row(), &heights_of(words[0]));
+        lines.push(match message {
+            Err(refusal) => format!("refused {}", refusal.name()),
+            Ok(message) => write_frame(&message).expect("a frame").iter().map(|byte| format!("{byte:02x}")).collect(),
+        });
+    }
+    assert_eq!(lines, text_of("examples/heights.expected").lines().collect::<Vec<_>>());
+    assert_eq!(lines.len(), 11);
 }
