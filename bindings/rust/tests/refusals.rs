@@ -5,49 +5,25 @@ mod common;
 use common::text_of;
 use tarnoklej::*;
 
-/// The numbers of the header's enumerations with their comments, as name, number and words.
-fn enumerated(header: &str) -> Vec<(String, usize, String)> {
-    let mut found: Vec<(String, usize, String)> = Vec::new();
-    let mut open = false;
-    for line in header.lines() {
-        if let Some((name, number, comment)) = enumerator(line) {
-            found.push((name, number, String::new()));
-            open = comment.is_some();
-            add_words(&mut found, comment.unwrap_or(""), &mut open);
-        } else if open {
-            add_words(&mut found, line, &mut open);
-        }
-    }
-    found
+/// The names and numbers of the header's enumerations.
+fn enumerated(header: &str) -> Vec<(String, usize)> {
+    header.lines().filter_map(enumerator).collect()
 }
 
-/// The name, the number and the beginning of the comment of a line such as `TARNOKLEJ_SHORT = 1, /* under 2 bytes */`.
-fn enumerator(line: &str) -> Option<(String, usize, Option<&str>)> {
+/// The name and the number of a line such as `TARNOKLEJ_SHORT = 1, /* a message of under 2 bytes */`.
+fn enumerator(line: &str) -> Option<(String, usize)> {
     let (name, rest) = line.trim_start().strip_prefix("TARNOKLEJ_")?.split_once(" = ")?;
     let digits = rest.chars().take_while(char::is_ascii_digit).count();
-    let number = rest[..digits].parse().ok()?;
-    Some((name.to_string(), number, rest.split_once("/*").map(|(_, comment)| comment)))
-}
-
-/// Adds a line of a comment to the words of the last number, up to the comment's end.
-fn add_words(found: &mut [(String, usize, String)], line: &str, open: &mut bool) {
-    let words = line.split("*/").next().unwrap_or("").trim();
-    *open &= !line.contains("*/");
-    if let Some(last) = found.last_mut() {
-        let space = if last.2.is_empty() { "" } else { " " };
-        last.2 += &format!("{space}{words}");
-    }
+    Some((name.to_string(), rest[..digits].parse().ok()?))
 }
 
 #[test]
-fn refusals_have_the_headers_numbers_names_and_words() {
+fn refusals_have_the_headers_numbers() {
     let header = enumerated(&text_of("include/tarnoklej.h"));
-    let first = header.iter().position(|(name, ..)| name == "DONE").expect("the refusals begin with DONE");
-    let end = header.iter().position(|(name, ..)| name == "TABLE_SIZE").expect("the sizes stand behind the refusals");
-    let expected = &header[first + 1..end];
-    let ours = Refusal::ALL
-        .map(|refusal| (refusal.name().to_string(), usize::from(refusal.number()), refusal.words().to_string()));
-    assert_eq!(ours, expected);
+    let first = header.iter().position(|(name, _)| name == "DONE").expect("the refusals begin with DONE");
+    let end = header.iter().position(|(name, _)| name == "TABLE_SIZE").expect("the sizes stand behind the refusals");
+    let ours = Refusal::ALL.map(|refusal| (refusal.name().to_string(), usize::from(refusal.number())));
+    assert_eq!(ours, header[first + 1..end]);
 }
 
 #[test]
@@ -90,9 +66,8 @@ fn sizes_components_and_groups_are_the_headers() {
         ("PROJECTION", usize::from(Group::Projection.number())),
     ];
     let header = enumerated(&text_of("include/tarnoklej.h"));
-    let first = header.iter().position(|(name, ..)| name == "TABLE_SIZE").expect("the sizes");
-    let expected: Vec<(&str, usize)> =
-        header[first..].iter().map(|(name, number, _)| (name.as_str(), *number)).collect();
+    let first = header.iter().position(|(name, _)| name == "TABLE_SIZE").expect("the sizes");
+    let expected: Vec<(&str, usize)> = header[first..].iter().map(|(name, number)| (name.as_str(), *number)).collect();
     assert_eq!(ours.to_vec(), expected);
 }
 
