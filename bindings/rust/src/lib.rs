@@ -93,3 +93,9 @@ pub use units::{Quantity, Resolution, Unit};
 pub const MOST_BYTES: usize = 127;
 /// The fields of the longest row, of the same message.
 pub const MOST_FIELDS: usize = 90;
+
+/// The library that was linked, and where it comes from, as build.rs chose it.
+///
+/// It is the library's file, and in brackets whether it is static or shared, and whether it was named by the environment,
+/// installed, or built in the repository. README.md of this crate says how it is chosen.
+pub const LIBRARY: &str = env!("TARNOKLEJ_LINKED");
