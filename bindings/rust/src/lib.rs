@@ -99,3 +99,8 @@ pub const MOST_FIELDS: usize = 90;
 /// It is the library's file, and in brackets whether it is static or shared, and whether it was named by the environment,
 /// installed, or built in the repository. README.md of this crate says how it is chosen.
 pub const LIBRARY: &str = env!("TARNOKLEJ_LINKED");
+
+/// The program of README.md, which the tests compile.
+#[cfg(doctest)]
+#[doc = include_str!("../README.md")]
+struct Readme;

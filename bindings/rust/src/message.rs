@@ -1,6 +1,6 @@
 //! Messages with their fields by DF number.
 
-use crate::fields::DataField;
+use crate::fields::{DataField, FieldType};
 use crate::layouts::{places, NODES};
 use crate::{read_fields, write_fields, Group, Quantity, Refusal};
 use std::fmt;
@@ -59,22 +59,27 @@ impl Field {
         self.data_field.df
     }
 
-    /// The value with resolution and unit, or nothing where it is not available.
+    /// The value as it is sent, with resolution and unit, or nothing where it is not available.
     pub fn quantity(&self) -> Option<Quantity> {
         self.value.map(|value| self.data_field.quantity(value))
     }
 }
 
 impl fmt::Display for Field {
-    /// DF number, name, node and value.
+    /// DF number, name, node and value, to which a base is added where there is one.
     fn fmt(&self, f: &mut fmt::Formatter) -> fmt::Result {
         write!(f, "{} {}", self.data_field, self.data_field.name)?;
         if let Some(node) = self.node {
             write!(f, ", node {node}")?;
         }
-        match self.quantity() {
-            Some(quantity) => write!(f, ": {quantity}"),
-            None => write!(f, ": not available"),
+        match (self.value, self.data_field.base) {
+            (None, _) => write!(f, ": not available"),
+            (Some(value), 0) if self.data_field.field_type == FieldType::Character => {
+                write!(f, ": {value}")?;
+                u8::try_from(value).map_or(Ok(()), |byte| write!(f, " {:?}", char::from(byte)))
+            }
+            (Some(value), 0) => write!(f, ": {}", self.data_field.quantity(value)),
+            (Some(value), base) => write!(f, ": {base} + {}", self.data_field.quantity(value)),
         }
     }
 }

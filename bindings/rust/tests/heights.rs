@@ -1,8 +1,5 @@
 //! Height grids: the mean, the heights at the nodes, and the refusals in order.
 
-mod common;
-
-use common::{in_repository, text_of};
 use tarnoklej::*;
 
 /// The bytes of a 1023.
@@ -133,45 +130,4 @@ fn the_message_holds_the_wanted_heights() {
     for (node, height) in wanted.into_iter().enumerate() {
         assert_eq!(fields[13 + 3 * node].map(|value| 10 * mean + value), Some(height));
     }
-}
-
-/// The wanted heights of a file of the examples, in millimetres.
-fn heights_of(file: &str) -> [i64; NODES] {
-    let text = std::fs::read_to_string(in_repository(file)).expect("the heights of an example");
-    let millimetres = |word: &str| (1_000.0 * word.parse::<f64>().expect("a height")).round() as i64;
-    let heights: Vec<i64> = text.lines().flat_map(|line| line.split(',')).map(millimetres).collect();
-    heights.try_into().expect("sixteen heights")
-}
-
-/// The fields of a 1023 of heights alone, from the words of an example: number, latitude, longitude and spacing.
-fn grid_of(words: &[&str]) -> Message {
-    let number = |word: &str, steps: f64| (steps * word.parse::<f64>().expect("a number")).round() as i64;
-    let mut grid = Message::new(1023).expect("a grid");
-    let spacing = number(words[3], 2.0);
-    let fields = [(147, number(words[0], 1.0)), (192, number(words[1], 7_200.0)), (193, number(words[2], 7_200.0))];
-    for (df, value) in fields.into_iter().chain([(191, 1), (194, spacing), (195, spacing)]) {
-        grid.set(df, value).expect("a field of a 1023");
-    }
-    for df in [196, 197] {
-        grid.set(df, None).expect("a mean of a 1023");
-    }
-    for (df, node) in [199, 200].into_iter().flat_map(|df| (1..=NODES as u8).map(move |node| (df, node))) {
-        grid.set_node(df, node, None).expect("a node of a 1023");
-    }
-    grid
-}
-
-#[test]
-fn the_examples_get_the_second_programs_lines() {
-    let mut lines = Vec::new();
-    for call in text_of("examples/heights.calls").lines() {
-        let words: Vec<&str> = call.split(' ').collect();
-        let message = write_heights(&grid_of(&words[1..]).row(), &heights_of(words[0]));
-        lines.push(match message {
-            Err(refusal) => format!("refused {}", refusal.name()),
-            Ok(message) => write_frame(&message).expect("a frame").iter().map(|byte| format!("{byte:02x}")).collect(),
-        });
-    }
-    assert_eq!(lines, text_of("examples/heights.expected").lines().collect::<Vec<_>>());
-    assert_eq!(lines.len(), 11);
 }

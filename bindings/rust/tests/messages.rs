@@ -143,6 +143,43 @@ fn a_decimal_has_the_places_of_its_resolution() {
 }
 
 #[test]
+fn bases_are_those_of_table_3_4_1() {
+    let printed =
+        [(166, 6_370_000), (167, 6_350_000), (168, 6_370_000), (169, 6_350_000), (173, 993_000), (187, 993_000)];
+    for field in DataField::all() {
+        let base = printed.iter().find(|(df, _)| *df == field.df).map_or(0, |(_, base)| *base);
+        assert_eq!(field.base, base, "{field}");
+        if base == 0 {
+            assert_eq!(field.quantity_with_base(field.greatest), field.quantity(field.greatest), "{field}");
+        }
+    }
+    let with_base =
+        |df: u16, value: i64| DataField::of(df).expect("a data field").quantity_with_base(value).to_string();
+    assert_eq!(
+        (with_base(166, 8_137_000), with_base(169, 6_078_963)),
+        ("6378137.000 m".into(), "6356078.963 m".into())
+    );
+    assert_eq!(
+        (with_base(173, 700_000_000), with_base(187, 1)),
+        ("1000000.00000 ppm".into(), "993000.00001 ppm".into())
+    );
+}
+
+#[test]
+fn fields_are_printed_for_people() {
+    let helmert = service("a-helmert-gauss-krueger/1021.rtcm");
+    let printed = |df: u16| helmert.field(df).expect("a field of a 1021").to_string();
+    // The axes are those of the ellipsoids GRS80 and Bessel, the source is EPSG 4936.
+    assert_eq!(printed(166), "DF166 Semi-major Axis of Source System Ellipsoid: 6370000 + 8137.000 m");
+    assert_eq!(printed(168), "DF168 Semi-major Axis of Target System Ellipsoid: 6370000 + 7397.155 m");
+    assert_eq!(printed(144), "DF144 Source-Name: 52 '4'");
+    assert_eq!(helmert.source_name().as_deref(), Some("4936"));
+    let absent = Message::new(1023).and_then(|mut grid| grid.set_node(199, 3, None).cloned()).expect("a grid");
+    let node = absent.node_field(199, 3).expect("a node");
+    assert_eq!(node.to_string(), "DF199 Latitude Residual, node 3: not available");
+}
+
+#[test]
 fn a_double_is_the_one_nearest_to_its_decimal() {
     for field in DataField::all() {
         for value in [field.smallest, field.greatest, field.greatest / 3, 1, 7] {

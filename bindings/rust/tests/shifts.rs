@@ -1,8 +1,8 @@
-//! Shifts against numbers that document 01 prints, and against the second program's lines for the examples.
+//! Shifts against numbers that document 01 prints, each part and each refusal.
 
 mod common;
 
-use common::{grid_k_with, in_repository, moved, projection, text_of};
+use common::{grid_k_with, moved, projection};
 use example::{grid_k, grid_k_fields, MIDDLE, NODE_1, NODE_16, NODE_6};
 use tarnoklej::*;
 
@@ -132,38 +132,4 @@ fn a_position_that_is_no_number_is_refused() {
     assert_eq!(Position::from_degrees(49.000_000_013, 10.999_999_987), MIDDLE);
     assert_eq!(Position::from_degrees(49.000_000_014, 10.999_999_986), moved(MIDDLE, 1, -1));
     assert_eq!(Position::from_metres(-0.0006, 0.0004), Position::new(-1, 0));
-}
-
-/// The line of one part, as the second program prints it.
-fn line(component: Component, part: Result<Shift, Refusal>) -> String {
-    match part {
-        Err(refusal) => format!("{component} refused {}", refusal.name()),
-        Ok(shift) => {
-            let unit = if shift.unit == Unit::ArcSecond { "arc seconds" } else { "m" };
-            assert_eq!(shift.value, shift.quantity().to_f64());
-            format!("{component} {} {} {unit}", shift.count, shift.quantity().decimal())
-        }
-    }
-}
-
-/// The position of two words, as degrees or as metres.
-fn parsed(message: &[u8], north: &str, east: &str) -> Position {
-    let [north, east] = [north, east].map(|word| word.parse().expect("a number"));
-    match message_number(message) {
-        Some(1023) => Position::from_degrees(north, east),
-        _ => Position::from_metres(north, east),
-    }
-}
-
-#[test]
-fn the_examples_get_the_second_programs_lines() {
-    let mut lines = Vec::new();
-    for call in text_of("examples/shift.calls").lines() {
-        let words: Vec<&str> = call.split(' ').collect();
-        let message = std::fs::read(in_repository(words[0])).expect("the message of an example");
-        let shifts = shifts_at(&message, parsed(&message, words[1], words[2]));
-        lines.extend(Component::ALL.map(|component| line(component, shifts.of(component))));
-    }
-    assert_eq!(lines, text_of("examples/shift.expected").lines().collect::<Vec<_>>());
-    assert_eq!(lines.len(), 90);
 }
