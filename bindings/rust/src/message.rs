@@ -90,7 +90,7 @@ impl Message {
     /// Refusals: SHORT, NUMBER, LENGTH, FILL, RANGE.
     pub fn read(bytes: &[u8]) -> Result<Self, Refusal> {
         let row = read_fields(bytes)?;
-        Ok(Message::of_row(&row).expect("an accepted message has the fields of its layout"))
+        Ok(Message::from_row(&row).expect("an accepted message has the fields of its layout"))
     }
 
     /// A message of a number whose other fields are 0 and whose names are empty.
@@ -100,11 +100,11 @@ impl Message {
         let places = places(number, [0; 2]).ok_or(Refusal::Number)?;
         let mut row = vec![Some(0); places.len()];
         row[0] = Some(i64::from(number));
-        Message::of_row(&row).ok_or(Refusal::Number)
+        Message::from_row(&row).ok_or(Refusal::Number)
     }
 
     /// The message of a row, or nothing where the row has not the count of fields that its number and name counters call for.
-    pub fn of_row(row: &[Option<i64>]) -> Option<Self> {
+    pub fn from_row(row: &[Option<i64>]) -> Option<Self> {
         let number = u16::try_from((*row.first()?)?).ok()?;
         let length = |place: usize| row.get(place).copied().flatten().and_then(|value| usize::try_from(value).ok());
         let names = match number {
@@ -221,7 +221,7 @@ impl Message {
         self.field(NAMES[0].0).ok_or(Refusal::Range)?;
         let names = [name_fields(source)?, name_fields(target)?].concat();
         row.splice(1..others, names);
-        *self = Message::of_row(&row).ok_or(Refusal::Range)?;
+        *self = Message::from_row(&row).ok_or(Refusal::Range)?;
         Ok(self)
     }
 

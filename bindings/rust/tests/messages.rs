@@ -275,16 +275,16 @@ fn the_nodes_of_a_grid() {
 #[test]
 fn a_row_that_is_no_messages_makes_none() {
     let sound = example::grid_k_fields().row();
-    assert_eq!(Message::of_row(&sound).map(|message| message.row()), Some(sound.clone()));
-    assert_eq!(Message::of_row(&[]), None);
-    assert_eq!(Message::of_row(&sound[..63]), None);
-    assert_eq!(Message::of_row(&[&sound[..], &[Some(0)]].concat()), None);
+    assert_eq!(Message::from_row(&sound).map(|message| message.row()), Some(sound.clone()));
+    assert_eq!(Message::from_row(&[]), None);
+    assert_eq!(Message::from_row(&sound[..63]), None);
+    assert_eq!(Message::from_row(&[&sound[..], &[Some(0)]].concat()), None);
     for number in [None, Some(-1), Some(1_020), Some(1_025), Some(65_536 + 1_023), Some(i64::MAX)] {
-        assert_eq!(Message::of_row(&[&[number], &sound[1..]].concat()), None);
+        assert_eq!(Message::from_row(&[&[number], &sound[1..]].concat()), None);
     }
     for counter in [None, Some(-1), Some(1), Some(32), Some(i64::MAX)] {
         let mut row = Message::new(1021).expect("a transformation").row();
         row[1] = counter;
-        assert_eq!(Message::of_row(&row), None, "{counter:?}");
+        assert_eq!(Message::from_row(&row), None, "{counter:?}");
     }
 }
