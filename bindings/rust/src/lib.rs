@@ -33,8 +33,9 @@
 //! resolution and unit.
 //!
 //! # Buffers
-//! Functions that write come twice: one gives a `Vec`, and one whose name ends with `_into` fills the first places of a buffer
-//! and allocates nothing.
+//! Functions that write come twice: one gives a `Vec`, and one whose name ends with `_into` fills the first places of a buffer.
+//! The library itself allocates nothing; this crate allocates what it gives as a `Vec` or a [`Message`], the bytes of a
+//! [`FrameStream`], and the two or three lists of numbers into which points are taken apart.
 //!
 //! # What is proved
 //! The library's calls are proved to do what include/tarnoklej.h says of them, for every input. This crate hands them slices and

@@ -242,9 +242,6 @@ impl Message {
 fn name_fields(name: &str) -> Result<Vec<Option<i64>>, Refusal> {
     let characters: Result<Vec<u8>, _> = name.chars().map(u8::try_from).collect();
     let characters = characters.map_err(|_| Refusal::Range)?;
-    if characters.len() > MOST_CHARACTERS {
-        return Err(Refusal::Range);
-    }
     let counter = characters.len() as i64;
     Ok(std::iter::once(counter).chain(characters.into_iter().map(i64::from)).map(Some).collect())
 }

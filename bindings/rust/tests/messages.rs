@@ -264,6 +264,17 @@ fn a_message_that_is_none_is_not_written() {
 }
 
 #[test]
+fn the_first_field_of_a_number_is_set() {
+    let mut grid = example::grid_k_fields();
+    grid.set(201, -7).expect("a field of a 1023");
+    assert_eq!((grid.value(201), grid.value_at_node(201, 1)), (Some(-7), Some(-7)));
+    let others: Vec<Option<i64>> = (2..=16).map(Some).collect();
+    assert_eq!(grid.nodes(201).map(|nodes| nodes[1..].to_vec()), Some(others));
+    grid.set_node(201, 16, 9).expect("a node of a 1023");
+    assert_eq!((grid.value_at_node(201, 15), grid.value_at_node(201, 16)), (Some(15), Some(9)));
+}
+
+#[test]
 fn the_nodes_of_a_grid() {
     let grid = example::grid_k_fields();
     assert_eq!(grid.nodes(201), Some(std::array::from_fn(|i| Some(i as i64 + 1))));
