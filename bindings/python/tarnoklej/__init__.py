@@ -39,7 +39,8 @@ from .reports import Report, report_points
 from .rows import Header, read, read_fields, write_fields
 from .samples import Sample, check_samples, write_samples
 from .shifts import Component, Shift, Shifts, shift_row, shifts_at
-from .tables import Found, Group, Table, find, index_agrees, write_index
+from .table import Table
+from .table_calls import Found, Group, find, index_agrees, remove, store, write_index
 
 __all__ = [
     "FIELDS",
@@ -86,10 +87,12 @@ __all__ = [
     "read",
     "read_fields",
     "read_message",
+    "remove",
     "report_points",
     "shift_row",
     "shifts_at",
     "steps_from_degrees",
+    "store",
     "write_fields",
     "write_frame",
     "write_heights",

@@ -20,6 +20,12 @@ def readable(data: BytesLike) -> bytes:
     return data if type(data) is bytes else bytes(memoryview(data))
 
 
+def writable(data: Any) -> Any:
+    """A buffer that a call may change, which is the one given and no copy; TypeError where it cannot be written."""
+    view = memoryview(data).cast("B")
+    return (U8 * len(view)).from_buffer(view)
+
+
 def whole(number: Any) -> int:
     """A whole number that a call takes in 64 bits, that is as it is or the nearest one.
 
