@@ -68,7 +68,7 @@ class Field:
             return None
         steps = to_fraction(value) / Fraction(self.resolution)
         if exact and steps.denominator != 1:
-            raise ValueError(f"DF{self.df:03} has steps of {self.resolution} {self.unit}: {value} is between two")
+            raise ValueError(f"DF{self.df:03} has steps of {self.resolution:f} {self.unit}: {value} is between two")
         return nearest(steps)
 
 

@@ -25,6 +25,11 @@ class Frame:
     message: bytes
 
     @property
+    def data(self) -> bytes:
+        """All bytes of the frame."""
+        return write_frame(self.message)
+
+    @property
     def end(self) -> int:
         """The place behind the frame's last byte."""
         return self.at + FRAME_HEAD + len(self.message) + FRAME_TAIL
@@ -68,7 +73,7 @@ def find_frame(data: buffers.BytesLike, start: int = 0) -> Frame:
     Frame(at=2, message=b'>\\xd0')
     >>> find_frame(bytes.fromhex("00d30002"))
     Traceback (most recent call last):
-    tarnoklej.refusals.Refused: 19 NEED: an unfinished frame calls for bytes that have not arrived (at 1)
+    tarnoklej.refusals.Refused: NEED (19): an unfinished frame calls for bytes that have not arrived, at 1
     """
     if start < 0:
         raise ValueError(f"a place is 0 or more, not {start}")

@@ -23,10 +23,10 @@ class Refusal(enum.IntEnum):
         member.words = words
         return member
 
-    SHORT = 1, "under 2 bytes"
-    NUMBER = 2, "not 1021 to 1027"
+    SHORT = 1, "a message of under 2 bytes"
+    NUMBER = 2, "a message number that is not 1021 to 1027"
     LENGTH = 3, (
-        "not the length called for, a name counter cannot be read, or too long for a frame; "
+        "not the length called for, a name counter that cannot be read, or too long for a frame; "
         "points of a report or of sample answers that are too many, or whose counts differ"
     )
     FILL = 4, "a fill bit is set"
@@ -36,9 +36,9 @@ class Refusal(enum.IntEnum):
         "a file of sample answers"
     )
     KIND = 7, "a grid call on a message other than 1023 or 1024, a datum step on another than 1021"
-    COMPONENT = 8, "not 0 to 2"
+    COMPONENT = 8, "a component that is not 0 to 2"
     POSITION = 9, (
-        "1023: beyond +-3,240,000,000 or +-6,480,000,000; 1024: either beyond +-10^12; "
+        "1023: a position beyond +-3,240,000,000 or +-6,480,000,000; 1024: either beyond +-10^12; "
         "a row of shifts of no place or too many, or with a negative step; "
         "datum step: one of three beyond +-10^11"
     )
@@ -60,7 +60,7 @@ class Refusal(enum.IntEnum):
     CLAIM = 25, "a point of a file of sample answers that is refused, or has another count"
 
     def __str__(self) -> str:
-        return f"{int(self)} {self.name}: {self.words}"
+        return f"{self.name} ({int(self)}): {self.words}"
 
 
 class Refused(Exception):
@@ -76,7 +76,7 @@ class Refused(Exception):
     ...     print(refused.number, refused.name)
     ...     print(refused)
     2 NUMBER
-    2 NUMBER: not 1021 to 1027
+    NUMBER (2): a message number that is not 1021 to 1027
     """
 
     def __init__(self, refusal: int, place: Optional[int] = None) -> None:
@@ -100,7 +100,7 @@ class Refused(Exception):
         return self.refusal.words
 
     def __str__(self) -> str:
-        return f"{self.refusal}" if self.place is None else f"{self.refusal} (at {self.place})"
+        return f"{self.refusal}" if self.place is None else f"{self.refusal}, at {self.place}"
 
     def __reduce__(self) -> Any:
         return Refused, (int(self.refusal), self.place)

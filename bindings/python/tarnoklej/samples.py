@@ -57,7 +57,7 @@ def check_samples(file: buffers.BytesLike) -> int:
 
     >>> check_samples(b"")
     Traceback (most recent call last):
-    tarnoklej.refusals.Refused: 24 LAYOUT: a file of sample answers of another shape
+    tarnoklej.refusals.Refused: LAYOUT (24): a file of sample answers of another shape
     """
     data = buffers.readable(file)
     checked = library().tarnoklej_check_samples(data, len(data))

@@ -126,7 +126,7 @@ def shifts_at(message: AnyMessage, position: AnyPosition) -> Shifts:
     Shifts(north=<refused OFF>, east=<refused OFF>, height=<46.9285 m>)
     >>> middle.north
     Traceback (most recent call last):
-    tarnoklej.refusals.Refused: 10 OFF: DF190 is 0 (components 0, 1) or DF191 is 0 (component 2)
+    tarnoklej.refusals.Refused: OFF (10): DF190 is 0 (components 0, 1) or DF191 is 0 (component 2)
     """
     data = to_bytes(message)
     at = library().tarnoklej_shifts_at(data, len(data), *position_numbers(position))

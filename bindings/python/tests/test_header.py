@@ -101,3 +101,13 @@ class Calls(unittest.TestCase):
             self.assertEqual(len(arguments), len(c_arguments), name)
             for place, (kind, c_type) in enumerate(zip(arguments, c_arguments)):
                 self.assertIn(c_type, c_types(kind) if kind in C_TYPES else (), f"{name}, argument {place + 1}")
+
+
+class Words(unittest.TestCase):
+    def test_names_and_words_by_a_c_compiler(self) -> None:
+        source = (
+            '#include <stdio.h>\n#include "tarnoklej.h"\nint main(void)\n{\n    for (int number = 1; number < 256; number++)\n'
+            '        printf("%s %s\\n", tarnoklej_refusal_name(number), tarnoklej_refusal_words(number));\n    return 0;\n}\n'
+        )
+        printed = [line for line in run_c(source) if not line.startswith("UNKNOWN ")]
+        self.assertEqual([f"{refusal.name} {refusal.words}" for refusal in Refusal], printed)
