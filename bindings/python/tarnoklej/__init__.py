@@ -41,6 +41,7 @@ from .samples import Sample, check_samples, write_samples
 from .shifts import Component, Shift, Shifts, shift_row, shifts_at
 from .table import Table
 from .table_calls import Found, Group, find, index_agrees, remove, store, write_index
+from .table_file import kept_table, read_table
 
 __all__ = [
     "FIELDS",
@@ -82,11 +83,13 @@ __all__ = [
     "frames",
     "height_grid",
     "index_agrees",
+    "kept_table",
     "millimetres",
     "pieces",
     "read",
     "read_fields",
     "read_message",
+    "read_table",
     "remove",
     "report_points",
     "shift_row",

@@ -9,63 +9,76 @@ import os
 import platform
 import sys
 from pathlib import Path
-from typing import Iterator, Tuple
+from typing import Iterator, List, Tuple
 
 from .abi import declare
 
 #: The environment variable that names the shared object.
 VARIABLE = "TARNOKLEJ_LIBRARY"
+#: The first number of the version whose structs and calls this package has.
+MAJOR = 1
 
-# The file's name, and the name of its folder below target/targets, on each system.
-_FILES = {"Windows": "tarnoklej.dll", "Darwin": "libtarnoklej.dylib"}
-_FOLDERS = {"Windows": "{}-windows", "Darwin": "{}-darwin"}
+# The shared object's names, the one with the version first, and its folder below target/targets, on each system.
+_NAMES = {
+    "Linux": [f"libtarnoklej.so.{MAJOR}", "libtarnoklej.so"],
+    "Darwin": [f"libtarnoklej.{MAJOR}.dylib", "libtarnoklej.dylib"],
+    "Windows": ["tarnoklej.dll"],
+}
+_FOLDERS = {"Linux": "{}-linux-gnu", "Darwin": "{}-darwin", "Windows": "{}-windows-gnu"}
 _MACHINES = {"AMD64": "x86_64", "arm64": "aarch64"}
 
 
 class LibraryMissing(ImportError):
-    """There is no shared object, or it is not the library; the text says where it was looked for."""
+    """There is no shared object, or it is not the library; the text says which, and what to do."""
 
 
-def _file_name() -> str:
-    return _FILES.get(platform.system(), "libtarnoklej.so")
+def _names() -> List[str]:
+    return _NAMES.get(platform.system(), _NAMES["Linux"])
 
 
-def _target() -> str:
-    machine = _MACHINES.get(platform.machine(), platform.machine())
-    return _FOLDERS.get(platform.system(), "{}-linux-gnu").format(machine)
-
-
-def _installed() -> Iterator[str]:
-    """Where an installed shared object may be: as the system finds it, and below the prefixes."""
-    found = ctypes.util.find_library("tarnoklej")
-    if found:
-        yield found
+def _in_prefixes() -> Iterator[str]:
+    """The shared objects that stand below the usual prefixes."""
     for prefix in (Path(sys.prefix), Path("/usr/local"), Path.home() / ".local"):
         for folder in ("lib", "lib64", "bin"):
-            path = prefix / folder / _file_name()
-            if path.is_file():
-                yield str(path)
+            for name in _names():
+                if (prefix / folder / name).is_file():
+                    yield str(prefix / folder / name)
+
+
+def _as_the_system_finds_it() -> Iterator[str]:
+    """The shared object by name, where the system's own search finds it, and it is of this version."""
+    try:
+        ctypes.CDLL(_names()[0])
+        yield _names()[0]
+    except OSError:
+        found = ctypes.util.find_library("tarnoklej")
+        if found in _names():
+            yield found
 
 
 def _in_repository() -> Path:
     """Where the repository that this file stands in builds the shared object."""
-    return Path(__file__).resolve().parents[3] / "target" / "targets" / _target() / _file_name()
+    machine = _MACHINES.get(platform.machine(), platform.machine())
+    target = _FOLDERS.get(platform.system(), _FOLDERS["Linux"]).format(machine)
+    return Path(__file__).resolve().parents[3] / "target" / "targets" / target / _names()[-1]
 
 
 def candidates() -> Iterator[Tuple[str, str]]:
-    """The shared objects to try, in order, each with the words of where it comes from."""
+    """The shared objects to be tried, in order, each with the words of where it comes from."""
     named = os.environ.get(VARIABLE)
     if named:
         yield named, f"named by {VARIABLE}"
         return
-    for path in _installed():
+    for path in _as_the_system_finds_it():
+        yield path, "installed"
+    for path in _in_prefixes():
         yield path, "installed"
     if _in_repository().is_file():
         yield str(_in_repository()), "built in the repository"
 
 
-def _load(path: str) -> ctypes.CDLL:
-    """Loads a shared object that has every call."""
+def load(path: str) -> ctypes.CDLL:
+    """Loads a shared object that has every call; LibraryMissing for any other."""
     try:
         loaded = ctypes.CDLL(path)
         declare(loaded)
@@ -78,12 +91,12 @@ def _load(path: str) -> ctypes.CDLL:
 
 @functools.lru_cache(maxsize=None)
 def find_library() -> Tuple[ctypes.CDLL, str]:
-    """The library, and the words of where it was found; LibraryMissing where there is none."""
+    """The library, and the words of which one it is; LibraryMissing where there is none."""
     for path, origin in candidates():
-        return _load(path), f"{path}, {origin}"
+        return load(path), f"{path}, {origin}"
     raise LibraryMissing(
-        f"no {_file_name()} is installed, and there is none at {_in_repository()}: set {VARIABLE} to its path, "
-        "or install it by ./install PREFIX, or build it by ./targets/build, both in the repository"
+        f"{_names()[-1]} is not installed, and there is none at {_in_repository()}: set {VARIABLE} to its path, or, in "
+        "the repository, install it by ./install PREFIX or build it by ./targets/build"
     )
 
 
