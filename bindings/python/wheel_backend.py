@@ -6,10 +6,11 @@ import base64
 import hashlib
 import zipfile
 from pathlib import Path
-from typing import Any, Dict, Iterator, Optional, Tuple
+from typing import Any, Dict, Iterator, List, Optional, Tuple
 
 FOLDER = Path(__file__).resolve().parent
 PACKAGE = "tarnoklej"
+SUMMARY = "RTCM messages 1021 to 1027: reading, writing, grid shifts, datum steps and tables over the proved library"
 # The earliest time that a zip file can say, so that one package is always the same wheel.
 _TIME = (1980, 1, 1, 0, 0, 0)
 
@@ -22,8 +23,7 @@ def version() -> str:
 def _metadata() -> str:
     readme = (FOLDER / "README.md").read_text(encoding="utf-8")
     return (
-        f"Metadata-Version: 2.1\nName: {PACKAGE}\nVersion: {version()}\n"
-        "Summary: RTCM messages 1021 to 1027: reading, writing, grid shifts, datum steps and tables over the proved library\n"
+        f"Metadata-Version: 2.1\nName: {PACKAGE}\nVersion: {version()}\nSummary: {SUMMARY}\n"
         f"Requires-Python: >=3.9\nDescription-Content-Type: text/markdown\n\n{readme}"
     )
 
@@ -57,7 +57,7 @@ def build_wheel(
     return name
 
 
-def get_requires_for_build_wheel(config_settings: Optional[Dict[str, Any]] = None) -> list:
+def get_requires_for_build_wheel(config_settings: Optional[Dict[str, Any]] = None) -> List[str]:
     """The build needs no other package."""
     return []
 

@@ -18,7 +18,7 @@ Decimal('46.92')
 from .datum import datum_step
 from .decimals import Number
 from .fields import FIELDS, Field
-from .frames import Frame, FrameReader, Outside, Piece, find_frame, frames, pieces, write_frame
+from .frames import Frame, Outside, Piece, find_frame, write_frame
 from .heights import height_grid, millimetres, write_heights
 from .kinds import NODES, Message
 from .library import LibraryMissing, find_library
@@ -37,8 +37,9 @@ from .positions import Geocentric, Position, steps_from_degrees
 from .refusals import Refusal, Refused
 from .reports import Report, report_points
 from .rows import Header, read, read_fields, write_fields
-from .samples import Sample, check_samples, write_samples
+from .samples import Claim, Sample, check_samples, read_samples, write_samples
 from .shifts import Component, Shift, Shifts, shift_row, shifts_at
+from .streams import FrameReader, frames, pieces
 from .table import Table
 from .table_calls import Found, Group, find, index_agrees, remove, store, write_index
 from .table_file import kept_table, read_table
@@ -47,6 +48,7 @@ __all__ = [
     "FIELDS",
     "MESSAGES",
     "NODES",
+    "Claim",
     "Component",
     "Field",
     "Found",
@@ -89,6 +91,7 @@ __all__ = [
     "read",
     "read_fields",
     "read_message",
+    "read_samples",
     "read_table",
     "remove",
     "report_points",

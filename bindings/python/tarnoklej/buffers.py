@@ -3,16 +3,17 @@
 from __future__ import annotations
 
 import ctypes
+import mmap
 import operator
 from typing import Any, Iterable, Optional, Sequence, Tuple, Union
 
 from .abi import I64, U8
 
 #: What a call takes for bytes that it only reads.
-BytesLike = Union[bytes, bytearray, memoryview]
+BytesLike = Union[bytes, bytearray, memoryview, mmap.mmap]
 
 _LEAST, _GREATEST = -(2**63), 2**63 - 1
-_MOST_SIZE = ctypes.c_size_t(-1).value
+_MOST_SIZE: int = ctypes.c_size_t(-1).value
 
 
 def readable(data: BytesLike) -> bytes:
@@ -36,8 +37,8 @@ def whole(number: Any) -> int:
 
 def code(number: Any) -> int:
     """A component, an owner or a group in a byte, 255 for every number that is none."""
-    number = operator.index(number)
-    return number if 0 <= number <= 255 else 255
+    value: int = operator.index(number)
+    return value if 0 <= value <= 255 else 255
 
 
 def size(number: Any) -> int:

@@ -77,7 +77,9 @@ def _signed(df: int, name: str, bits: int, resolution: str, unit: str, limit: Op
     return Field(df, name, f"int{bits}", bits, -greatest, greatest, Decimal(resolution), unit)
 
 
-def _unsigned(df: int, name: str, bits: int, resolution: str = "1", unit: str = "", limit: Optional[int] = None) -> Field:
+def _unsigned(
+    df: int, name: str, bits: int, resolution: str = "1", unit: str = "", limit: Optional[int] = None
+) -> Field:
     greatest = 2**bits - 1 if limit is None else limit
     return Field(df, name, f"uint{bits}", bits, 0, greatest, Decimal(resolution), unit)
 

@@ -3,6 +3,7 @@
 from __future__ import annotations
 
 import dataclasses
+import itertools
 from decimal import Decimal
 from typing import Any, ClassVar, Dict, Iterator, List, Optional, Sequence, Tuple, Type, TypeVar, Union
 
@@ -70,7 +71,7 @@ class Message:
         >>> Message1025(sin=5).replace(false_northing=None).false_northing is None
         True
         """
-        return dataclasses.replace(self, **changes)  # type: ignore[type-var]
+        return dataclasses.replace(self, **changes)
 
     def with_node(self: _Message, node: int, **changes: Optional[int]) -> _Message:
         """The same grid with other residuals at one node, 1 to 16.
@@ -100,7 +101,19 @@ class Message:
         return write_fields(self.row())
 
     def describe(self) -> str:
-        """A table of all fields for people: DF number, standard's name, value and unit."""
+        """A table of all fields for people: DF number, standard's name, value and unit.
+
+        >>> from tarnoklej import Message1025
+        >>> print(Message1025(sin=5, projection_type=1, false_easting=500_000_000).describe())
+        DF002  Message Number: 1025
+        DF147  System Identification Number: 5
+        DF170  Projection Type: 1
+        DF171  Latitude of Natural Origin: 0.000000000 degree
+        DF172  Longitude of Natural Origin: 0.000000000 degree
+        DF173  Scale Factor at Natural Origin: 0.00000 ppm
+        DF174  False Easting: 500000.000 m
+        DF175  False Northing: 0.000 m
+        """
         lines = [f"DF002  {FIELDS[2].name}: {self.number}"]
         for attribute, field in self.fields().items():
             lines.append(f"DF{field.df:03}  {field.name}: {_shown(field, getattr(self, attribute))}")
@@ -121,36 +134,32 @@ class Message:
 
     @classmethod
     def from_row(cls: Type[_Message], row: Sequence[Optional[int]]) -> _Message:
-        """The message of a row of its number, as read_fields gives it."""
-        if not row or row[0] != cls.number:
-            raise ValueError(f"not a row of message {cls.number}")
+        """The message of a row of its number, as read_fields gives it; ValueError for any other row."""
+        rest = iter(row[1:])
         values: Dict[str, Any] = {}
-        place = 1
-        residuals = [field for field in _attributes(cls) if "nodes" in field.metadata]
+        residuals = [field.name for field in _attributes(cls) if "nodes" in field.metadata]
         for field in _attributes(cls):
             if "name" in field.metadata:
-                count = _counter(row[place])
-                values[field.name] = bytes(_counter(c) for c in row[place + 1 : place + 1 + count]).decode("latin-1")
-                place += 1 + count
-            elif "nodes" in field.metadata:
-                first = place + residuals.index(field)
-                values[field.name] = tuple(row[first : place + len(residuals) * NODES : len(residuals)])
-                place += len(residuals) * NODES if field is residuals[-1] else 0
-            else:
-                values[field.name] = row[place]
-                place += 1
-        return cls(**values)
+                values[field.name] = _text(rest)
+            elif "nodes" not in field.metadata:
+                values[field.name] = next(rest, None)
+            elif field.name == residuals[0]:
+                node_by_node = list(itertools.islice(rest, len(residuals) * NODES))
+                values.update((name, tuple(node_by_node[i :: len(residuals)])) for i, name in enumerate(residuals))
+        message = cls(**values)
+        if message.row() != list(row):
+            raise ValueError(f"not a row of message {cls.number}")
+        return message
 
 
 def _attributes(kind: Any) -> Tuple["dataclasses.Field[Any]", ...]:
     return dataclasses.fields(kind)
 
 
-def _counter(value: Optional[int]) -> int:
-    """A field that always has a value."""
-    if value is None:
-        raise ValueError("a name's counter and characters always have a value")
-    return value
+def _text(rest: Iterator[Optional[int]]) -> str:
+    """A name from its counter and its characters, all of which have values."""
+    counter = next(rest, None) or 0
+    return bytes(character or 0 for character in itertools.islice(rest, counter)).decode("latin-1")
 
 
 def _characters(text: str) -> List[Optional[int]]:

@@ -3,7 +3,7 @@
 from __future__ import annotations
 
 from dataclasses import dataclass
-from typing import ClassVar, Dict, Optional, Type, Union
+from typing import ClassVar, Dict, Optional, Tuple, Type, Union
 
 from . import buffers
 from .kinds import Message, Nodes, name, nodes, single
@@ -194,11 +194,18 @@ class Message1027(Message):
     center_northing: Optional[int] = single(189)
 
 
+_KINDS: Tuple[Type[Message], ...] = (
+    Message1021,
+    Message1022,
+    Message1023,
+    Message1024,
+    Message1025,
+    Message1026,
+    Message1027,
+)
+
 #: The dataclass of each message number.
-MESSAGES: Dict[int, Type[Message]] = {
-    kind.number: kind
-    for kind in (Message1021, Message1022, Message1023, Message1024, Message1025, Message1026, Message1027)
-}
+MESSAGES: Dict[int, Type[Message]] = {kind.number: kind for kind in _KINDS}
 
 #: What a call takes for a message: its bytes without a frame, or the message itself, which is then written.
 AnyMessage = Union[buffers.BytesLike, Message]

@@ -19,7 +19,8 @@ _EXACT = Context(prec=60)
 
 # Degrees, minutes and seconds with a sign or a letter: -17 45 0.5, 17:45:00.5S, 17°45'00.5"S.
 _SEXAGESIMAL = re.compile(
-    r"\s*([+-]?)(\d+)(?:\s*[°d:]\s*|\s+)([0-5]?\d)(?:\s*['′m:]\s*|\s+)([0-5]?\d(?:\.\d*)?)\s*[\"″s]?\s*([NSEW]?)\s*",
+    r"\s*([+-]?)(\d+)(?:\s*[°d:]\s*|\s+)([0-5]?\d)(?:\s*['′m:]\s*|\s+)"
+    r"([0-5]?\d(?:\.\d*)?)\s*[\"″s]?\s*([NSEW]?)\s*",
     re.ASCII,
 )
 
@@ -110,13 +111,15 @@ def steps_from_degrees(angle: Number, exact: bool = False, letters: str = "NSEW"
     Traceback (most recent call last):
     ValueError: between two steps: 48.9123456
     """
-    if isinstance(angle, str):
-        return _whole(_angle(angle, letters) * STEPS_PER_DEGREE, angle, exact)
-    return _steps(angle, STEPS_PER_DEGREE, exact)
+    return _whole(degrees_of(angle, letters) * STEPS_PER_DEGREE, angle, exact)
 
 
-def _angle(text: str, letters: str) -> Fraction:
-    """The degrees of a text."""
+def degrees_of(angle: Number, letters: str = "NSEW") -> Fraction:
+    """The degrees of an angle, exactly; a text is one that steps_from_degrees takes."""
+    return _degrees_in(angle, letters) if isinstance(angle, str) else to_fraction(angle)
+
+
+def _degrees_in(text: str, letters: str) -> Fraction:
     parts = _SEXAGESIMAL.fullmatch(text)
     if parts:
         sign, degrees, minutes, seconds, letter = parts.groups()

@@ -2,12 +2,14 @@
 
 from __future__ import annotations
 
-from typing import Iterable, NamedTuple
+import struct
+from dataclasses import dataclass
+from typing import Iterable, List, NamedTuple, Tuple
 
 from . import buffers
 from .library import library
 from .messages import AnyMessage, to_bytes
-from .refusals import check
+from .refusals import Refusal, Refused, check
 from .sizes import MOST_SAMPLES, SAMPLE_SIZE, SAMPLES_HEAD
 
 
@@ -19,12 +21,26 @@ class Sample(NamedTuple):
     east: int
 
 
+@dataclass(frozen=True)
+class Claim:
+    """A point of a file of sample answers, with the count that the file claims for it."""
+
+    component: int
+    north: int
+    east: int
+    count: int
+
+
+# The contents of a point behind its tag and length: component, position north and east, claimed count.
+_POINT = struct.Struct(">3xBqqq")
+
+
 def write_samples(message: AnyMessage, samples: Iterable[Sample]) -> bytes:
     """Writes a file of sample answers: the grid message, and each point with its component's count.
 
-    docs/SAMPLES.md has the form of the file. Refusals in order: SHORT, NUMBER, LENGTH, FILL, RANGE, KIND of the message;
-    of the first refused point COMPONENT, POSITION, OFF, METHOD, ORIGIN, SPACING, OUTSIDE, ABSENT; LENGTH above 1,000
-    points.
+    docs/SAMPLES.md has the form of the file. Refusals in order: SHORT, NUMBER, LENGTH, FILL, RANGE, KIND of the
+    message; of the first refused point COMPONENT, POSITION, OFF, METHOD, ORIGIN, SPACING, OUTSIDE, ABSENT; LENGTH above
+    1,000 points.
 
     >>> from tarnoklej.examples import GRID_K
     >>> file = write_samples(GRID_K, [Sample(2, 1_764_000_000, 396_000_000)])
@@ -62,5 +78,29 @@ def check_samples(file: buffers.BytesLike) -> int:
     data = buffers.readable(file)
     checked = library().tarnoklej_check_samples(data, len(data))
     check(checked.refusal, checked.place or None)
-    message = int.from_bytes(data[1:SAMPLES_HEAD], "big")
-    return (len(data) - SAMPLES_HEAD - message) // SAMPLE_SIZE
+    return (len(data) - _message_end(data)) // SAMPLE_SIZE
+
+
+def read_samples(file: buffers.BytesLike) -> Tuple[bytes, List[Claim]]:
+    """Gives the grid message and the points of a file of sample answers, right or wrong, as check_samples counts them.
+
+    Refusals: LAYOUT for any other shape.
+
+    >>> from tarnoklej.examples import GRID_K
+    >>> message, claims = read_samples(write_samples(GRID_K, [Sample(2, 1_764_000_000, 396_000_000)]))
+    >>> claims[0].count
+    469285
+    """
+    data = buffers.readable(file)
+    try:
+        check_samples(data)
+    except Refused as refused:
+        if refused.refusal == Refusal.LAYOUT:
+            raise
+    end = _message_end(data)
+    return data[SAMPLES_HEAD:end], [Claim(*_POINT.unpack_from(data, at)) for at in range(end, len(data), SAMPLE_SIZE)]
+
+
+def _message_end(file: bytes) -> int:
+    """The place behind the message of a file of the right shape."""
+    return SAMPLES_HEAD + int.from_bytes(file[1:SAMPLES_HEAD], "big")

@@ -6,7 +6,8 @@ import threading
 from typing import List, Optional, Tuple
 
 from . import buffers, table_calls
-from .messages import AnyMessage, Message
+from .kinds import Message
+from .messages import AnyMessage
 from .sizes import INDEX_SIZE, TABLE_SIZE
 from .table_calls import Found, Group
 
@@ -60,8 +61,8 @@ class Table:
     def store(self, owner: int, message: AnyMessage) -> None:
         """Stores an owner's message under its key, in place of the one that stands there.
 
-        Refusals in order: OWNER, SHORT, NUMBER, LENGTH, FILL, RANGE, FULL where the key is new to the owner, who holds 20
-        slots or finds no slot free. With a refusal the table stays as it was.
+        Refusals in order: OWNER, SHORT, NUMBER, LENGTH, FILL, RANGE, FULL where the key is new to the owner, who holds
+        20 slots or finds no slot free. With a refusal the table stays as it was.
         """
         with self._lock:
             table_calls.store(self._table, self._index, owner, message)

@@ -8,8 +8,9 @@ from dataclasses import dataclass
 from typing import Any, Tuple
 
 from . import buffers
+from .kinds import Message
 from .library import library
-from .messages import AnyMessage, Message, read_message, to_bytes
+from .messages import AnyMessage, read_message, to_bytes
 from .refusals import check
 from .sizes import INDEX_SIZE
 
@@ -68,8 +69,9 @@ def write_index(table: buffers.BytesLike) -> bytes:
 def store(table: Any, index: Any, owner: int, message: AnyMessage) -> None:
     """Stores an owner's message under its key in buffers that can be written.
 
-    Refusals in order: TABLE, INDEX where the two do not agree, OWNER, SHORT, NUMBER, LENGTH, FILL, RANGE, FULL where the
-    key is new to the owner, who holds 20 slots or finds no slot free. With a refusal both buffers stay as they were.
+    Refusals in order: TABLE, INDEX where the two do not agree, OWNER, SHORT, NUMBER, LENGTH, FILL, RANGE, FULL where
+    the key is new to the owner, who holds 20 slots or finds no slot free. With a refusal both buffers stay as they
+    were.
 
     >>> table, index = bytearray(4224), bytearray(128)
     >>> store(table, index, 2, bytes.fromhex("401050") + bytes(22))
@@ -85,6 +87,11 @@ def find(table: buffers.BytesLike, index: buffers.BytesLike, owner: int, sin: in
     """Gives the message of an owner's key, and does not ask whether table and index agree.
 
     Refusals in order: TABLE and INDEX for a wrong size, OWNER, NONE, INDEX where the entry is not true to its slot.
+
+    >>> table, index = bytearray(4224), bytearray(128)
+    >>> store(table, index, 2, bytes.fromhex("401050") + bytes(22))
+    >>> find(table, index, 2, 5, Group.PROJECTION).at
+    2
     """
     held, beside = buffers.readable(table), buffers.readable(index)
     found = library().tarnoklej_find(held, len(held), beside, len(beside), buffers.code(owner), *_key(sin, group))
@@ -95,7 +102,14 @@ def find(table: buffers.BytesLike, index: buffers.BytesLike, owner: int, sin: in
 def remove(table: Any, index: Any, owner: int, sin: int, group: int) -> None:
     """Removes the message of an owner's key from buffers that can be written.
 
-    Refusals in order: TABLE, INDEX where the two do not agree, OWNER, NONE. With a refusal both buffers stay as they were.
+    Refusals in order: TABLE, INDEX where the two do not agree, OWNER, NONE. With a refusal both buffers stay as they
+    were.
+
+    >>> table, index = bytearray(4224), bytearray(128)
+    >>> store(table, index, 2, bytes.fromhex("401050") + bytes(22))
+    >>> remove(table, index, 2, 5, Group.PROJECTION)
+    >>> any(table), any(index)
+    (False, False)
     """
     held, beside = buffers.writable(table), buffers.writable(index)
     check(library().tarnoklej_remove(held, len(held), beside, len(beside), buffers.code(owner), *_key(sin, group)))

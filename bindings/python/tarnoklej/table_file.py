@@ -21,9 +21,9 @@ _Path = Union[str, "os.PathLike[str]"]
 
 
 def read_table(path: _Path) -> Table:
-    """Reads the table of a file, its 4,224 bytes and the 128 of its index. An index that does not agree is written anew.
+    """Reads the table of a file, its 4,224 bytes and the 128 of its index.
 
-    Refusals: TABLE, also for a file of another size.
+    An index that does not agree is written anew. Refusals: TABLE, also for a file of another size.
     """
     data = Path(path).read_bytes()
     if len(data) != TABLE_SIZE + INDEX_SIZE:
@@ -88,8 +88,7 @@ def _commit(name: Path, held: Tuple[bytes, bytes]) -> None:
     try:
         descriptor = os.open(fresh, os.O_WRONLY | os.O_CREAT | os.O_TRUNC | os.O_NOFOLLOW, 0o666)
         with open(descriptor, "wb") as file:
-            if name.exists():
-                os.fchmod(descriptor, name.stat().st_mode & 0o777)
+            _keep_rights(name, descriptor)
             file.write(b"".join(held))
             file.flush()
             os.fsync(descriptor)
@@ -99,6 +98,15 @@ def _commit(name: Path, held: Tuple[bytes, bytes]) -> None:
             os.unlink(fresh)
         raise
     _sync_folder(name.parent)
+
+
+def _keep_rights(name: Path, descriptor: int) -> None:
+    """Gives a new file the rights of the one that it replaces, and its group where the system allows it."""
+    if name.exists():
+        old = name.stat()
+        with contextlib.suppress(PermissionError):
+            os.fchown(descriptor, -1, old.st_gid)
+        os.fchmod(descriptor, old.st_mode & 0o777)
 
 
 def _sync_folder(folder: Path) -> None:

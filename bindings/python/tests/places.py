@@ -16,7 +16,7 @@ SECOND = ROOT / "second" / "target" / "release" / "second"
 
 def second(*arguments: str, given: bytes = b"") -> bytes:
     """What the second program prints on standard output, run in the repository's root."""
-    run = subprocess.run([str(SECOND), *arguments], input=given, stdout=subprocess.PIPE, stderr=subprocess.PIPE, cwd=ROOT)
+    run = subprocess.run([str(SECOND), *arguments], input=given, capture_output=True, cwd=ROOT)
     if run.returncode != 0:
         raise AssertionError(f"second {' '.join(arguments)} failed: {run.stderr.decode()}")
     return run.stdout

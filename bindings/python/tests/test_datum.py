@@ -4,6 +4,7 @@ from __future__ import annotations
 
 import unittest
 from fractions import Fraction
+from typing import List
 
 from tarnoklej import Geocentric, Message1021, Message1025, Refusal, datum_step, read_message
 
@@ -26,12 +27,12 @@ class Steps(unittest.TestCase):
                 compared += 1
         self.assertEqual(compared, 60 * 10 * 3)
 
-    def check_parameters(self, data: bytes, words: list) -> None:
+    def check_parameters(self, data: bytes, words: List[str]) -> None:
         """The seven parameters in metres, arc seconds and ppm."""
         message = read_message(data)
         names = ["translation_x", "translation_y", "translation_z", "rotation_x", "rotation_y", "rotation_z"]
         scaled = [message.scaled(name) for name in [*names, "scale_correction"]]
-        self.assertEqual([Fraction(value) for value in scaled], [Fraction(word) for word in words])  # type: ignore[arg-type]
+        self.assertEqual([Fraction(str(value)) for value in scaled], [Fraction(word) for word in words])
 
     def test_refusals(self) -> None:
         origin = Geocentric(0, 0, 0)

@@ -1,4 +1,4 @@
-"""The table of fields and the attributes of the messages are those of the second program, which has them from the papers."""
+"""The fields and the attributes of the messages are those of the second program, which has them from the papers."""
 
 from __future__ import annotations
 
@@ -19,7 +19,7 @@ def resolution(text: str) -> str:
 
 def printed_fields() -> Dict[int, List[str]]:
     """The cells of docs/FIELDS.md by DF number."""
-    rows = [line.strip("|").split("|") for line in second_lines("fields") if line.startswith("| DF") and "DF |" not in line]
+    rows = [line.strip("|").split("|") for line in second_lines("fields") if re.match(r"\| DF\d", line)]
     return {int(cells[0].strip()[2:]): [cell.strip() for cell in cells] for cells in rows}
 
 
@@ -51,7 +51,7 @@ class Fields(unittest.TestCase):
 
     def test_the_messages_of_each_field(self) -> None:
         for df, cells in printed_fields().items():
-            numbers = [1021, 1022, 1023, 1024, 1025, 1026, 1027] if cells[2] == "all" else list(map(int, cells[2].split(", ")))
+            numbers = list(MESSAGES) if cells[2] == "all" else [int(number) for number in cells[2].split(", ")]
             if df not in (2, 143, 145):
                 have = [number for number, kind in MESSAGES.items() if df in {f.df for f in kind.fields().values()}]
                 self.assertEqual(have, numbers, df)

@@ -131,11 +131,15 @@ class Wrong(unittest.TestCase):
     def test_text_files_and_files_that_do_not_wait(self) -> None:
         with self.assertRaisesRegex(TypeError, "open for text"):
             list(frames(io.StringIO("text")))
-        reading, writing = os.pipe()
-        os.set_blocking(reading, False)
-        with open(reading, "rb", buffering=0) as file, self.assertRaisesRegex(BlockingIOError, "FrameReader"):
-            list(frames(file))
-        os.close(writing)
+        for buffering in (0, -1):
+            reading, writing = os.pipe()
+            os.set_blocking(reading, False)
+            with open(reading, "rb", buffering) as file, self.assertRaisesRegex(BlockingIOError, "FrameReader"):
+                list(frames(file))
+            os.close(writing)
+        for name in ("recording.rtcm", RECORDING):
+            with self.assertRaisesRegex(TypeError, "open .*recording.rtcm' with mode 'rb'"):
+                list(frames(name))
 
     def test_places(self) -> None:
         with self.assertRaises(ValueError):

@@ -7,7 +7,7 @@ import subprocess
 import tempfile
 import unittest
 from pathlib import Path
-from typing import Any, List
+from typing import Any, Dict, List, Set
 
 from tarnoklej import Component, Group, Refusal, abi, sizes
 
@@ -15,7 +15,7 @@ from . import headers
 from .places import ROOT
 
 # The C type of each ctypes type, of bytes and numbers the types of what is read and of what is written.
-C_TYPES = {
+C_TYPES: Dict[Any, Set[str]] = {
     abi.U8: {"uint8_t"},
     abi.U16: {"uint16_t"},
     abi.U64: {"uint64_t"},
@@ -26,12 +26,24 @@ C_TYPES = {
     abi.BYTES: {"uint8_t *", "const uint8_t *"},
     abi.NUMBERS: {"int64_t *", "const int64_t *"},
 }
-# c_uint64 and c_size_t are one type on some machines.
-if abi.U64 is abi.SIZE:
+# Where c_uint64 and c_size_t are one type, it stands for both.
+if C_TYPES[abi.U64] == C_TYPES[abi.SIZE]:
     C_TYPES[abi.U64] = {"uint64_t", "size_t"}
 
 
-def c_types(kind: Any) -> set:
+PRINT_WORDS = """
+#include <stdio.h>
+#include "tarnoklej.h"
+int main(void)
+{
+    for (int number = 1; number < 256; number++)
+        printf("%s %s\\n", tarnoklej_refusal_name(number), tarnoklej_refusal_words(number));
+    return 0;
+}
+"""
+
+
+def c_types(kind: Any) -> Set[str]:
     """The C types that a ctypes type stands for."""
     if issubclass(kind, ctypes.Array):
         return {f"{plain}[{kind._length_}]" for plain in C_TYPES[kind._type_]}
@@ -105,9 +117,5 @@ class Calls(unittest.TestCase):
 
 class Words(unittest.TestCase):
     def test_names_and_words_by_a_c_compiler(self) -> None:
-        source = (
-            '#include <stdio.h>\n#include "tarnoklej.h"\nint main(void)\n{\n    for (int number = 1; number < 256; number++)\n'
-            '        printf("%s %s\\n", tarnoklej_refusal_name(number), tarnoklej_refusal_words(number));\n    return 0;\n}\n'
-        )
-        printed = [line for line in run_c(source) if not line.startswith("UNKNOWN ")]
+        printed = [line for line in run_c(PRINT_WORDS) if not line.startswith("UNKNOWN ")]
         self.assertEqual([f"{refusal.name} {refusal.words}" for refusal in Refusal], printed)

@@ -55,9 +55,16 @@ class Ends(unittest.TestCase):
                 write_heights(grid, wanted)
             self.assertEqual(raised.exception.name, name)
 
+    def test_places_and_spacings(self) -> None:
+        grid = height_grid(7, "17 45 00 S", "179.95E", 360, ["1"] * 16, spacing_east_west="600.5")
+        self.assertEqual((grid.origin_latitude, grid.origin_longitude), (-127_800, 1_295_640))
+        self.assertEqual((grid.spacing_north_south, grid.spacing_east_west), (720, 1_201))
+        with self.assertRaises(ValueError):
+            height_grid(7, "17 E", "1", 360, ["1"] * 16)
+
     def test_exact(self) -> None:
         self.assertEqual(asked(height_grid, 7, "49.00001", 11, 360, ["46.921"] * 16)[0], 0)
-        for arguments in (("49.00001", 11, 360, "46.921"), (49, 11, "360.1", "46.921"), (49, 11, 360, "46.9215")):
-            *place, height = arguments
+        between = [("49.00001", "360", "46.921"), ("49", "360.1", "46.921"), ("49", "360", "46.9215")]
+        for latitude, spacing, height in between:
             with self.assertRaises(ValueError):
-                height_grid(7, *place, [height] * 16, exact=True)
+                height_grid(7, latitude, 11, spacing, [height] * 16, exact=True)

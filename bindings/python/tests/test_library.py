@@ -18,7 +18,11 @@ from tarnoklej.library import MAJOR, load
 from .places import ROOT, header
 
 PACKAGE = ROOT / "bindings" / "python" / "tarnoklej"
-ASK = "import tarnoklej; print(tarnoklej.find_library()[1]); print(tarnoklej.read(bytes([0x40, 0x10, 0x50]) + bytes(22)).sin)"
+ASK = """
+import tarnoklej
+print(tarnoklej.find_library()[1])
+print(tarnoklej.read(bytes([0x40, 0x10, 0x50]) + bytes(22)).sin)
+"""
 
 
 def loaded_path() -> Path:
@@ -57,12 +61,14 @@ class Found(unittest.TestCase):
         searching = {"LD_LIBRARY_PATH": str(searched.parent)}
         self.assertEqual(self.ask(**searching).stdout, f"libtarnoklej.so.{MAJOR}, installed\n5\n")
         named = self.copy_to(self.root / "named", "any.so")
-        self.assertEqual(self.ask(TARNOKLEJ_LIBRARY=str(named), **searching).stdout, f"{named}, named by TARNOKLEJ_LIBRARY\n5\n")
+        run = self.ask(TARNOKLEJ_LIBRARY=str(named), **searching)
+        self.assertEqual(run.stdout, f"{named}, named by TARNOKLEJ_LIBRARY\n5\n")
 
     def test_no_library(self) -> None:
         run = self.ask()
         self.assertNotEqual(run.returncode, 0)
-        self.assertRegex(run.stderr.splitlines()[-1], "LibraryMissing: .*is not installed.* set TARNOKLEJ_LIBRARY to its path")
+        words = "LibraryMissing: .*is not installed.* set TARNOKLEJ_LIBRARY to its path"
+        self.assertRegex(run.stderr.splitlines()[-1], words)
 
     def test_a_wrong_name(self) -> None:
         run = self.ask(TARNOKLEJ_LIBRARY=str(self.root / "none.so"))

@@ -5,6 +5,7 @@ from __future__ import annotations
 import dataclasses
 import unittest
 from decimal import Decimal
+from typing import List, Optional
 
 from tarnoklej import MESSAGES, Message1021, Message1022, Message1023, Message1025, Refusal, read_fields, read_message
 from tarnoklej.examples import GRID_K
@@ -51,7 +52,9 @@ class Values(unittest.TestCase):
             for attribute, field in kind.fields().items():
                 if isinstance(getattr(kind(), attribute), str):
                     continue
-                for value, refusal in ((field.least, 0), (field.greatest, 0), (field.least - 1, 5), (field.greatest + 1, 5)):
+                inside, outside = (field.least, field.greatest), (field.least - 1, field.greatest + 1)
+                for value in (*inside, *outside):
+                    refusal = Refusal.RANGE if value in outside else 0
                     nodes = isinstance(getattr(kind(), attribute), tuple)
                     message = kind().replace(**{attribute: (value,) * 16 if nodes else value})
                     got, data = asked(message.to_bytes)
@@ -87,6 +90,15 @@ class Values(unittest.TestCase):
             GRID_K.scaled("easting")
 
     def test_rows_of_other_messages(self) -> None:
+        names = Message1021(source_name="ab").row()
+        bad: List[List[Optional[int]]] = [[], [1025], GRID_K.row()[:-1], [*GRID_K.row(), 0]]
+        bad += [Message1025().row()[:-1], [*Message1025().row(), 0]]
+        bad += [names[:-1], [1021, None, *names[2:]], [1021, 2, 97, None, *names[4:]], [1021, 2, 97, 256, *names[4:]]]
+        for row in bad:
+            for kind in MESSAGES.values():
+                with self.assertRaises(ValueError, msg=f"{kind.__name__} of {row}"):
+                    kind.from_row(row)
         with self.assertRaises(ValueError):
             Message1023.from_row(Message1025().row())
+        self.assertEqual(Message1021.from_row(names), Message1021(source_name="ab"))
         self.assertEqual(Message1025.from_row([1025, 5, 0, 0, 0, 0, 0, None]), Message1025(sin=5, false_northing=None))

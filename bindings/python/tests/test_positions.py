@@ -5,8 +5,9 @@ from __future__ import annotations
 import unittest
 from decimal import Decimal, localcontext
 from fractions import Fraction
+from typing import List
 
-from tarnoklej import Geocentric, Position, steps_from_degrees
+from tarnoklej import Geocentric, Number, Position, steps_from_degrees
 from tarnoklej.decimals import nearest, to_fraction
 
 
@@ -39,7 +40,8 @@ class Degrees(unittest.TestCase):
         self.assertEqual([nearest(Fraction(n, 2)) for n in (-3, -1, 0, 1, 3)], [-2, -1, 0, 1, 2])
 
     def test_minutes_and_seconds(self) -> None:
-        for text in ("17 45 00.5 S", "-17 45 0.5", "17:45:00.5S", "17°45'00.5\"S", "17d45m0.5s S", "17° 45′ 00.5″ S"):
+        texts = ["17 45 00.5 S", "-17 45 0.5", "17:45:00.5S", "17°45'00.5\"S", "17d45m0.5s S", "17° 45′ 00.5″ S"]
+        for text in texts:
             self.assertEqual(steps_from_degrees(text), -639_005_000, text)
         self.assertEqual(steps_from_degrees("-0 0 1"), -10_000)
         self.assertEqual(steps_from_degrees("179 59 59.9999"), 6_479_999_999)
@@ -68,11 +70,12 @@ class Degrees(unittest.TestCase):
             Position.from_metres("0.0001", 0, exact=True)
 
     def test_what_is_no_angle(self) -> None:
-        texts = ["", " ", "-", "N", "49,5", "1e3", "nan", "inf", "0x10", "49 60 0", "49 0 60", "49 0", "--1", "-49 N", "٤٩"]
-        for text in [*texts, "49 0 -1", "-17 45 0.5 S", "+49N", "1_000", "49.0.0", "49 °", "N49"]:
+        texts = ["", " ", "-", "N", "49,5", "1e3", "nan", "inf", "0x10", "49 60 0", "49 0 60", "49 0", "--1", "-49 N"]
+        for text in [*texts, "49 0 -1", "-17 45 0.5 S", "+49N", "1_000", "49.0.0", "49 °", "N49", "٤٩"]:
             with self.assertRaises(ValueError, msg=text):
                 steps_from_degrees(text)
-        for number in (float("nan"), float("inf"), Decimal("NaN"), Decimal("Infinity")):
+        numbers: List[Number] = [float("nan"), float("inf"), Decimal("NaN"), Decimal("Infinity")]
+        for number in numbers:
             with self.assertRaises(ValueError):
                 steps_from_degrees(number)
         for wrong in (None, b"49", 1j, [49]):

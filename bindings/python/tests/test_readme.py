@@ -32,7 +32,7 @@ class Readme(unittest.TestCase):
         self.assertEqual(len([line for line in block("python").splitlines() if line]), 10)
 
     def test_the_output_is_what_the_second_program_says(self) -> None:
-        """The place is that of the second call of examples/shift.calls, on the grid of system 11; others lie elsewhere."""
+        # The place is that of the second call of examples/shift.calls, on system 11's grid; other grids lie elsewhere.
         count, metres = second_lines("example", "examples/shift.calls")[5].split(" ")[1:3]
         self.assertEqual((count, metres), ("469440", "46.9440"))
         expected: List[str] = []

@@ -8,7 +8,7 @@ import unittest
 from pathlib import Path
 from typing import List, Optional, Tuple
 
-from tarnoklej import Refusal, Refused, Sample, check_samples, write_samples
+from tarnoklej import Claim, Refusal, Refused, Sample, check_samples, read_samples, write_samples
 from tarnoklej.examples import GRID_K
 
 from .asked import asked
@@ -50,7 +50,7 @@ class Trials(unittest.TestCase):
         written = refused = 0
         for path in [*sorted(Path(self.folder.name).glob("*.txt")), EXAMPLES / "samples.txt"]:
             text = path.read_bytes()
-            run = subprocess.run([str(SECOND), "write_samples"], input=text, stdout=subprocess.PIPE, stderr=subprocess.PIPE)
+            run = subprocess.run([str(SECOND), "write_samples"], input=text, capture_output=True)
             asked_for = parsed(text)
             if run.stderr.startswith(b"bad input") or asked_for is None:
                 continue
@@ -76,6 +76,16 @@ class Example(unittest.TestCase):
         message, samples = parsed((EXAMPLES / "samples.txt").read_bytes()) or (b"", [])
         self.assertEqual(write_samples(message, samples), (EXAMPLES / "samples.bin").read_bytes())
         self.assertEqual(write_samples(GRID_K, samples), (EXAMPLES / "samples.bin").read_bytes())
+
+    def test_the_points_are_read(self) -> None:
+        message, claims = read_samples((EXAMPLES / "samples-wrong.bin").read_bytes())
+        self.assertEqual(message, GRID_K.to_bytes())
+        self.assertEqual(claims[2], Claim(2, 1_758_600_000, 401_400_000, 469_359))
+        self.assertEqual([claim.count for claim in claims], [469_285, 469_210, 469_359, 469_261, 469_260])
+        self.assertEqual(read_samples(b"\1\0\0"), (b"", []))
+        self.assertEqual(asked(read_samples, b"\1\0\1")[0], Refusal.LAYOUT)
+        far = b"\1\0\0\2\0\x19\3" + (-1).to_bytes(8, "big", signed=True) + bytes(7) + b"\2" + bytes(7) + b"\7"
+        self.assertEqual(read_samples(far), (b"", [Claim(3, -1, 2, 7)]))
 
     def test_ends(self) -> None:
         middle = Sample(2, 1_764_000_000, 396_000_000)

@@ -5,6 +5,7 @@ from __future__ import annotations
 import mmap
 import threading
 import unittest
+from typing import Any, Callable, List, Tuple
 
 from tarnoklej import (
     Group,
@@ -75,7 +76,7 @@ class Refusals(unittest.TestCase):
         self.before = self.table.copy()
 
     def test_calls(self) -> None:
-        cases = [
+        cases: List[Tuple[Refusal, Callable[..., Any], Tuple[Any, ...]]] = [
             (Refusal.OWNER, self.table.store, (0, Message1025())),
             (Refusal.OWNER, self.table.store, (257, Message1025())),
             (Refusal.OWNER, self.table.find, (-1, 255, 2)),

@@ -31,7 +31,8 @@ class History:
         self.table, self.index = bytearray(), bytearray()
 
     def answer(self, case: vectors.Case) -> List[str]:
-        return getattr(self, f"do_{case.command}")(*case.arguments)
+        answer: List[str] = getattr(self, f"do_{case.command}")(*case.arguments)
+        return answer
 
     def do_table(self, size: str) -> List[str]:
         self.table = bytearray(int(size))
