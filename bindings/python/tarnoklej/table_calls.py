@@ -2,6 +2,7 @@
 
 from __future__ import annotations
 
+import ctypes
 import enum
 import operator
 from dataclasses import dataclass
@@ -79,8 +80,7 @@ def store(table: Any, index: Any, owner: int, message: AnyMessage) -> None:
     ('0219401050', '0205020000')
     """
     data = to_bytes(message)
-    held, beside = buffers.writable(table), buffers.writable(index)
-    check(library().tarnoklej_store(held, len(held), beside, len(beside), buffers.code(owner), data, len(data)))
+    check(library().tarnoklej_store(*_apart(table, index), buffers.code(owner), data, len(data)))
 
 
 def find(table: buffers.BytesLike, index: buffers.BytesLike, owner: int, sin: int, group: int) -> Found:
@@ -111,8 +111,16 @@ def remove(table: Any, index: Any, owner: int, sin: int, group: int) -> None:
     >>> any(table), any(index)
     (False, False)
     """
+    check(library().tarnoklej_remove(*_apart(table, index), buffers.code(owner), *_key(sin, group)))
+
+
+def _apart(table: Any, index: Any) -> Tuple[Any, int, Any, int]:
+    """Two buffers that a call may change, each with its size; ValueError where they share bytes."""
     held, beside = buffers.writable(table), buffers.writable(index)
-    check(library().tarnoklej_remove(held, len(held), beside, len(beside), buffers.code(owner), *_key(sin, group)))
+    first, then = sorted((held, beside), key=ctypes.addressof)
+    if len(beside) and ctypes.addressof(first) + len(first) > ctypes.addressof(then):
+        raise ValueError("table and index share bytes")
+    return held, len(held), beside, len(beside)
 
 
 def _key(sin: int, group: int) -> Tuple[int, int]:

@@ -126,6 +126,18 @@ class Memory(unittest.TestCase):
             remove(table, index, 2, 9, 2)
             self.assertEqual((table[:], index[:]), (bytes(TABLE_SIZE), bytes(INDEX_SIZE)))
 
+    def test_one_buffer_may_hold_both_where_they_are_apart(self) -> None:
+        both = bytearray(TABLE_SIZE + INDEX_SIZE)
+        whole = memoryview(both)
+        store(whole[:TABLE_SIZE], whole[TABLE_SIZE:], 1, Message1025(sin=5))
+        self.assertEqual((both[:2], both[TABLE_SIZE:][:4]), (b"\1\x19", b"\1\5\2\0"))
+        before = bytes(both)
+        for index in (whole[TABLE_SIZE - 1 : -1], whole[:INDEX_SIZE]):
+            for call, rest in ((store, (Message1025(sin=6),)), (remove, (5, 2))):
+                with self.assertRaisesRegex(ValueError, "share bytes"):
+                    call(whole[:TABLE_SIZE], index, 1, *rest)  # type: ignore[operator]
+        self.assertEqual(both, before)
+
     def test_threads_of_two_owners(self) -> None:
         table = Table()
 
