@@ -40,6 +40,12 @@ class Example(unittest.TestCase):
 
 
 class Ends(unittest.TestCase):
+    def test_millimetres(self) -> None:
+        cases = {"1.001": 1_001, "46.9215": 46_922, "-46.9215": -46_922, "46.92149": 46_921, "-0.0004": 0}
+        cases["9007199254740993.001"] = 9_007_199_254_740_993_001
+        for text, millimetre in cases.items():
+            self.assertEqual(millimetres(text), millimetre, text)
+
     def test_refusals(self) -> None:
         level = [46_920] * 16
         cases = {
