@@ -64,6 +64,17 @@ class Found(unittest.TestCase):
         run = self.ask(TARNOKLEJ_LIBRARY=str(named), **searching)
         self.assertEqual(run.stdout, f"{named}, named by TARNOKLEJ_LIBRARY\n5\n")
 
+    def test_another_version_is_not_taken(self) -> None:
+        built = self.copy_to(self.built)
+        searched = self.root / "searched"
+        searched.mkdir()
+        other = f"libtarnoklej.so.{MAJOR + 1}"
+        command = ["gcc", "-shared", f"-Wl,-soname,{other}", "-x", "c", os.devnull, "-o"]
+        subprocess.run([*command, str(searched / other)], check=True)
+        (searched / "libtarnoklej.so").symlink_to(other)
+        run = self.ask(LD_LIBRARY_PATH=str(searched))
+        self.assertEqual(run.stdout, f"{built.resolve()}, built in the repository\n5\n")
+
     def test_no_library(self) -> None:
         run = self.ask()
         self.assertNotEqual(run.returncode, 0)
