@@ -45,7 +45,7 @@ class Found(unittest.TestCase):
         environment: Dict[str, str] = {"PYTHONPATH": str(self.root / "bindings" / "python"), "HOME": str(self.root)}
         environment.update(PATH=os.environ["PATH"], **variables)
         return subprocess.run(
-            [sys.executable, "-c", ASK], env=environment, stdout=subprocess.PIPE, stderr=subprocess.PIPE, text=True
+            [sys.executable, "-c", ASK], cwd=self.root, env=environment, capture_output=True, text=True
         )
 
     def copy_to(self, folder: Path, name: Optional[str] = None) -> Path:
@@ -88,7 +88,7 @@ class Found(unittest.TestCase):
     def test_importing_needs_no_library(self) -> None:
         environment = {"PYTHONPATH": str(self.root / "bindings" / "python"), "HOME": str(self.root)}
         environment["TARNOKLEJ_LIBRARY"] = str(self.root / "none.so")
-        subprocess.run([sys.executable, "-c", "import tarnoklej"], env=environment, check=True)
+        subprocess.run([sys.executable, "-c", "import tarnoklej"], cwd=self.root, env=environment, check=True)
 
 
 class Wrong(unittest.TestCase):
