@@ -64,6 +64,27 @@ class Message:
             raise TypeError(f"{attribute} is a name")
         return tuple(map(field.scaled, value)) if isinstance(value, tuple) else field.scaled(value)
 
+    @classmethod
+    def from_scaled(cls: Type[_Message], exact: bool = True, **values: Any) -> _Message:
+        """The message of values in their fields' units: numbers or decimal texts, None, or sixteen of these for nodes.
+
+        A value between two steps of its field is a ValueError, or the nearest step where exact is False.
+
+        >>> from tarnoklej import Message1023
+        >>> Message1023.from_scaled(origin_latitude=49 * 3600, mean_height="46.92").mean_height
+        4692
+        """
+        fields = cls.fields()
+
+        def steps(attribute: str, value: Any) -> Any:
+            if fields[attribute].type == "char8":
+                return value
+            if isinstance(value, (tuple, list)):
+                return tuple(fields[attribute].steps(number, exact) for number in value)
+            return fields[attribute].steps(value, exact)
+
+        return cls(**{attribute: steps(attribute, value) for attribute, value in values.items()})
+
     def replace(self: _Message, **changes: Any) -> _Message:
         """The same message with other values of some attributes.
 

@@ -89,6 +89,27 @@ class Values(unittest.TestCase):
         with self.assertRaises(KeyError):
             GRID_K.scaled("easting")
 
+    def test_from_scaled(self) -> None:
+        grid = Message1023.from_scaled(
+            sin=7,
+            vertical_shift=1,
+            origin_latitude=49 * 3_600,
+            origin_longitude="39600",
+            spacing_north_south=360,
+            spacing_east_west=360.0,
+            mean_height="46.92",
+            height_residuals=[Decimal(node).scaleb(-3) for node in range(1, 17)],
+        )
+        self.assertEqual(grid, GRID_K)
+        # 12 degrees are 1,090,909,090.9 steps of 0.000000011 degree.
+        self.assertEqual(Message1025.from_scaled(exact=False, origin_longitude=12).origin_longitude, 1_090_909_091)
+        for attribute, value in (("origin_longitude", "12"), ("false_easting", "0.0005"), ("sin", "1.5")):
+            with self.assertRaises(ValueError):
+                Message1025.from_scaled(**{attribute: value})
+        with self.assertRaises(KeyError):
+            Message1025.from_scaled(height=1)
+        self.assertEqual(Message1021.from_scaled(source_name="4936", rotation_x=None).rotation_x, None)
+
     def test_rows_of_other_messages(self) -> None:
         names = Message1021(source_name="ab").row()
         bad: List[List[Optional[int]]] = [[], [1025], GRID_K.row()[:-1], [*GRID_K.row(), 0]]

@@ -84,8 +84,8 @@ class Example(unittest.TestCase):
         self.assertEqual([claim.count for claim in claims], [469_285, 469_210, 469_359, 469_261, 469_260])
         self.assertEqual(read_samples(b"\1\0\0"), (b"", []))
         self.assertEqual(asked(read_samples, b"\1\0\1")[0], Refusal.LAYOUT)
-        far = b"\1\0\0\2\0\x19\3" + (-1).to_bytes(8, "big", signed=True) + bytes(7) + b"\2" + bytes(7) + b"\7"
-        self.assertEqual(read_samples(far), (b"", [Claim(3, -1, 2, 7)]))
+        numbers = b"".join(number.to_bytes(8, "big", signed=True) for number in (-1, 2 - 2**63, -7))
+        self.assertEqual(read_samples(b"\1\0\0\2\0\x19\3" + numbers), (b"", [Claim(3, -1, 2 - 2**63, -7)]))
 
     def test_ends(self) -> None:
         middle = Sample(2, 1_764_000_000, 396_000_000)

@@ -155,6 +155,16 @@ class Sound(unittest.TestCase):
             self.assertEqual(read_message(data), expected, name)
             self.assertEqual(expected.to_bytes(), data, name)
 
+    def test_there_and_back_in_units(self) -> None:
+        for name in EXPECTED:
+            message = read_message((SERVICES / f"{name}.rtcm").read_bytes())
+            names = {attribute for attribute, field in message.fields().items() if field.type == "char8"}
+            values = {
+                attribute: getattr(message, attribute) if attribute in names else message.scaled(attribute)
+                for attribute in message.fields()
+            }
+            self.assertEqual(type(message).from_scaled(**values), message, name)
+
     def test_described(self) -> None:
         lines = read_message((SERVICES / HEIGHTS / "1023.rtcm").read_bytes()).describe().splitlines()
         self.assertEqual(lines[0], "DF002  Message Number: 1023")
