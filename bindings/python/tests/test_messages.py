@@ -5,7 +5,7 @@ from __future__ import annotations
 import dataclasses
 import unittest
 from decimal import Decimal
-from typing import List, Optional
+from typing import Any, Dict, List, Optional
 
 from tarnoklej import MESSAGES, Message1021, Message1022, Message1023, Message1025, Refusal, read_fields, read_message
 from tarnoklej.examples import GRID_K
@@ -103,9 +103,10 @@ class Values(unittest.TestCase):
         self.assertEqual(grid, GRID_K)
         # 12 degrees are 1,090,909,090.9 steps of 0.000000011 degree.
         self.assertEqual(Message1025.from_scaled(exact=False, origin_longitude=12).origin_longitude, 1_090_909_091)
-        for attribute, value in (("origin_longitude", "12"), ("false_easting", "0.0005"), ("sin", "1.5")):
+        between: List[Dict[str, Any]] = [{"origin_longitude": 12}, {"false_easting": "0.0005"}, {"sin": "1.5"}]
+        for values in between:
             with self.assertRaises(ValueError):
-                Message1025.from_scaled(**{attribute: value})
+                Message1025.from_scaled(**values)
         with self.assertRaises(KeyError):
             Message1025.from_scaled(height=1)
         self.assertEqual(Message1021.from_scaled(source_name="4936", rotation_x=None).rotation_x, None)
