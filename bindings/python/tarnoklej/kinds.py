@@ -41,6 +41,8 @@ class Message:
 
     #: The message number, DF002.
     number: ClassVar[int]
+    #: The system identification number, DF147.
+    sin: int
 
     @classmethod
     def fields(cls) -> Dict[str, Field]:
