@@ -2,5 +2,5 @@
 
 pub use tarnoklej::{
     datum_step, read, read_fields_into, shift_row, shifts_at, write_frame, write_heights, Component, FrameStream,
-    Geocentric, Position, Refusal, MOST_FIELDS, MOST_FRAMED, MOST_PLACES, NODES,
+    Geocentric, Header, Position, Refusal, MOST_FIELDS, MOST_FRAMED, NODES,
 };

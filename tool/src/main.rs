@@ -15,6 +15,12 @@ mod help;
 mod input;
 mod json;
 mod library;
+mod map;
+mod map_colours;
+mod map_counts;
+mod map_paths;
+mod map_plan;
+mod map_svg;
 mod number;
 mod programs;
 mod progress;
@@ -59,6 +65,7 @@ fn run_command(command: &'static str, words: Vec<String>) -> Result<(), Failure>
         "shift" => shift::run(arguments()),
         "datum" => datum::run(arguments()),
         "heights" => heights::run(arguments()),
+        "map" => map::run(arguments()),
         "bench" | "compare" => Err(wrong(format!("{command} runs in the repository alone: ./tarnoklej {command}"))),
         proved => match programs::run(proved, &words)? {},
     }
