@@ -16,6 +16,7 @@ pub mod decode_json;
 pub mod decode_text;
 pub mod decode_words;
 pub mod example;
+pub mod field_table;
 pub mod field_words;
 pub mod fields;
 mod figure_rows;
