@@ -1,16 +1,16 @@
 //! The command line of the second program.
 
 use second::{
-    answers_program, answers_table, answers_trials, datumsamples, decode_json, decode_text, example, field_table,
-    field_words, figures, frames, heights_example, page, papers, positions, report_program, reportsamples, selfcheck,
-    services, vectors,
+    answers_program, answers_table, answers_trials, datum_lines, datumsamples, decode_json, decode_text, decode_trials,
+    example, field_table, field_words, figures, frames, heights_example, map_check, page, papers, positions,
+    report_program, reportsamples, selfcheck, services, vectors,
 };
 use std::io::{Read, Write};
 use std::path::Path;
 use std::process::ExitCode;
 
 /// What the program can be asked for.
-const USAGE: &str = "second selfcheck | papers FILE | fields | positions | example LIST | vectors OUTDIR [--shift] [--table] [--frame] [--row] [--heights] | services DIR | figures DIR | identify | frames | datum SETS POSITIONS | heights LIST | report | reports DIR | samples | write_samples | samples_table | samples_trials DIR | decode FIELDS MESSAGES [--json] | field_table FIELDS MESSAGES FILE";
+const USAGE: &str = "second selfcheck | papers FILE | fields | positions | example LIST | vectors OUTDIR [--shift] [--table] [--frame] [--row] [--heights] | services DIR | figures DIR | identify | frames | datum SETS POSITIONS | heights LIST | report | reports DIR | samples | write_samples | samples_table | samples_trials DIR | decode FIELDS MESSAGES [--json] | field_table FIELDS MESSAGES FILE | decode_trials DIR | map FILE COMPONENT | datum_step FILE X Y Z";
 
 /// Success or failure from a truth value.
 fn exit(good: bool) -> ExitCode {
@@ -67,6 +67,14 @@ fn write_samples(text: &[u8]) -> std::io::Result<bool> {
     Ok(true)
 }
 
+/// Prints what is wrong, if anything is.
+fn verdict(checked: Result<(), String>) -> std::io::Result<bool> {
+    if let Err(words) = &checked {
+        println!("{words}");
+    }
+    Ok(checked.is_ok())
+}
+
 /// The whole standard input.
 fn standard_input() -> std::io::Result<Vec<u8>> {
     let mut input = Vec::new();
@@ -108,6 +116,15 @@ fn run(arguments: &[String]) -> std::io::Result<bool> {
         ["samples_table"] => print(&answers_table::table(&standard_input()?)?),
         ["samples_trials", dir] => answers_trials::write(Path::new(dir)).map(|()| true),
         ["field_table", fields, messages, file] => compare_tables(fields, messages, file),
+        ["decode_trials", dir] => decode_trials::write(Path::new(dir)).map(|()| true),
+        ["map", file, component] => {
+            let svg = String::from_utf8_lossy(&standard_input()?).into_owned();
+            verdict(map_check::check(&std::fs::read(file)?, count(component)?, &svg))
+        }
+        ["datum_step", file, x, y, z] => {
+            let printed = String::from_utf8_lossy(&standard_input()?).into_owned();
+            verdict(datum_lines::check(&std::fs::read(file)?, [x, y, z], &printed))
+        }
         ["decode", fields, messages] => print(&decode_text::text(&standard_input()?, &words_in(fields, messages)?)),
         ["decode", fields, messages, "--json"] => {
             print(&decode_json::json(&standard_input()?, &words_in(fields, messages)?))
