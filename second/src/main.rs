@@ -1,15 +1,16 @@
 //! The command line of the second program.
 
 use second::{
-    answers_program, answers_table, answers_trials, datumsamples, example, figures, frames, heights_example, page,
-    papers, positions, report_program, reportsamples, selfcheck, services, vectors,
+    answers_program, answers_table, answers_trials, datumsamples, decode_json, decode_text, example, field_words,
+    figures, frames, heights_example, page, papers, positions, report_program, reportsamples, selfcheck, services,
+    vectors,
 };
 use std::io::{Read, Write};
 use std::path::Path;
 use std::process::ExitCode;
 
 /// What the program can be asked for.
-const USAGE: &str = "second selfcheck | papers FILE | fields | positions | example LIST | vectors OUTDIR [--shift] [--table] [--frame] [--row] [--heights] | services DIR | figures DIR | identify | frames | datum SETS POSITIONS | heights LIST | report | reports DIR | samples | write_samples | samples_table | samples_trials DIR";
+const USAGE: &str = "second selfcheck | papers FILE | fields | positions | example LIST | vectors OUTDIR [--shift] [--table] [--frame] [--row] [--heights] | services DIR | figures DIR | identify | frames | datum SETS POSITIONS | heights LIST | report | reports DIR | samples | write_samples | samples_table | samples_trials DIR | decode FIELDS MESSAGES [--json]";
 
 /// Success or failure from a truth value.
 fn exit(good: bool) -> ExitCode {
@@ -64,6 +65,12 @@ fn standard_input() -> std::io::Result<Vec<u8>> {
     Ok(input)
 }
 
+/// The words in the two tables of the command.
+fn words_in(fields: &str, messages: &str) -> std::io::Result<field_words::Words> {
+    let (fields, messages) = (std::fs::read_to_string(fields)?, std::fs::read_to_string(messages)?);
+    field_words::Words::of(&fields, &messages).ok_or_else(|| std::io::Error::other("a table of another form"))
+}
+
 /// A count in an argument.
 fn count(word: &str) -> std::io::Result<usize> {
     word.parse().map_err(|_| std::io::Error::other(format!("not a count: {word}")))
@@ -91,6 +98,10 @@ fn run(arguments: &[String]) -> std::io::Result<bool> {
         ["write_samples"] => write_samples(&standard_input()?),
         ["samples_table"] => print(&answers_table::table(&standard_input()?)?),
         ["samples_trials", dir] => answers_trials::write(Path::new(dir)).map(|()| true),
+        ["decode", fields, messages] => print(&decode_text::text(&standard_input()?, &words_in(fields, messages)?)),
+        ["decode", fields, messages, "--json"] => {
+            print(&decode_json::json(&standard_input()?, &words_in(fields, messages)?))
+        }
         _ => {
             eprintln!("{USAGE}");
             Ok(false)
