@@ -1,6 +1,6 @@
 // The fields of a message: which bits they have, their raw values and their values with units.
 import { readFields } from "./library.js";
-import { grouped, hexadecimal, shortSexagesimal, times, unitSign, withDecimals } from "./text.js";
+import { grouped, hexadecimal, sexagesimal, times, unitSign, withDecimals } from "./text.js";
 
 // One item for each field in wire order, the characters of a name being one item; at is its place in the row.
 // counted(item) gives the value of a name's counter; a field given as last is the last one placed.
@@ -121,9 +121,10 @@ function baseNote(value, resolution, base, unit) {
   return `with ${grouped(base)}: ${grouped(withDecimals(units, decimals))}${unitSign(unit)}`;
 }
 
+// Degrees, minutes and seconds with the decimals of the resolution.
 function degreesNote(value, resolution) {
   const steps = Number(value) * Number(resolution) * 10000;
-  return (steps < 0 ? "\u2212" : "") + shortSexagesimal(Math.abs(steps), ["", ""]).trim();
+  return (steps < 0 ? "\u2212" : "") + sexagesimal(Math.abs(steps), ["", ""], (resolution.split(".")[1] ?? "").length).trim();
 }
 
 function dayNote(value) {
@@ -132,20 +133,24 @@ function dayNote(value) {
 
 // The bits of DF148: document 000 does not say which end Bit(1) is; here it is the first on the wire.
 function flagged(value, flags) {
-  const bits = flagBits(value, flags);
-  const set = Object.keys(flags).filter((place) => bits[place - 1] === "1").map((place) => flags[place]);
-  return { value: bits, note: `${set.join(", ") || "none"}, the first bit being Bit(1)` };
+  const set = setFlags(value, flags).map((place) => (flags[place] in TABLES.layouts ? flags[place] : `Bit(${place})`));
+  return { value: flagBits(value, flags), note: `${set.join(", ") || "none"}, the first bit being Bit(1)` };
 }
 
 function flagBits(value, flags) {
   return value.toString(2).padStart(Object.keys(flags).length, "0");
 }
 
+function setFlags(value, flags) {
+  const bits = flagBits(value, flags);
+  return Object.keys(flags).filter((place) => bits[place - 1] === "1");
+}
+
 // The message numbers that DF148 of a 1021 or 1022 says are utilized.
 export function utilizedNumbers(fields) {
   const { flags } = TABLES.fields.DF148;
-  const bits = flagBits(fieldOf(fields, "DF148").value, flags);
-  return Object.keys(flags).filter((place) => bits[place - 1] === "1").map((place) => Number(flags[place])).filter((number) => number in TABLES.layouts);
+  return setFlags(fieldOf(fields, "DF148").value, flags).map((place) => flags[place])
+    .filter((number) => number in TABLES.layouts).map(Number);
 }
 
 // The first item of a DF number.

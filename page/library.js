@@ -121,14 +121,15 @@ export function shiftsAt(message, north, east) {
   }));
 }
 
-// { refusal, counts }: one component at count places, each one step further east.
+// { refusal, counts }: one component at count places, each one step further east; counts are BigInt, and are there until
+// the next call.
 export function shiftRow(message, component, north, east, step, count) {
   const [row, input] = areas([8 * count, message]);
   const refusal = exported.tarnoklej_shift_row(
     BigInt(input), BigInt(message.length), component, BigInt(north), BigInt(east), BigInt(step), BigInt(count),
     BigInt(row), BigInt(count));
   if (refusal !== 0) return { refusal, counts: [] };
-  return { refusal, counts: Array.from(new BigInt64Array(exported.memory.buffer, row, count), Number) };
+  return { refusal, counts: new BigInt64Array(exported.memory.buffer, row, count) };
 }
 
 // { refusal, position }: three BigInt in units of 0.1 mm, from three of the same kind.

@@ -28,7 +28,7 @@ export function messageOf({ bytes }, { at, head, length }) {
 // before its message. kind is sound, refused or other, and outside frames crc, unfinished or noise.
 export function readRecording(bytes) {
   const found = readFrames(bytes, (first, second) => isOwnNumber(numberOf(first, second)));
-  if (found.length === 0 && isOwnNumber(messageNumber(bytes))) {
+  if (found.length === 0 && bytes.length <= TABLES.sizes.MOST_FRAMED && isOwnNumber(messageNumber(bytes))) {
     const entry = entryOf(bytes, { at: 0, length: bytes.length, ...readHeader(bytes) }, 0);
     return { bytes, bare: true, entries: [entry], frames: [entry], runs: 0, outsideBytes: 0 };
   }

@@ -18,7 +18,7 @@ export function startReport() {
 // Takes the grid message over whose points the report goes.
 export function setReportGrid(message, number, component, words) {
   report.grid = { message, plane: number === 1024, words };
-  byId("report-components").querySelectorAll("input").forEach((input) => { input.checked = Number(input.value) === component; });
+  checkComponent(component);
   byId("report-units").querySelector("[value=units]").textContent = number === 1024 ? "metres" : "degrees";
   byId("report-units").querySelector("[value=steps]").textContent = number === 1024 ? "steps of 1 mm" : "steps of 0.0001\u2033";
   makeReport();
@@ -35,6 +35,10 @@ function setText(text) {
   if (looksLikeReportText(text) && !looksLikeReportText(report.text)) byId("report-units").value = "report";
   report.text = text;
   makeReport();
+}
+
+function checkComponent(component) {
+  byId("report-components").querySelectorAll("input").forEach((input) => { input.checked = Number(input.value) === component; });
 }
 
 function chosenComponent() {
@@ -57,6 +61,7 @@ function makeReport() {
     : report.grid ? `Grid message: ${report.grid.words}.`
       : "No grid message is chosen yet: open a recording and choose a 1023 or 1024, or paste a text of the program report.";
   const given = form === "report" && report.text === "" ? null : input();
+  if (form === "report" && given?.component < 3) checkComponent(given.component);
   byId("report-error").textContent = given?.problem ? `Line ${grouped(given.problem.line)}: ${given.problem.words}.` : "";
   byId("report-body").hidden = given === null || given.problem !== undefined;
   byId("report-text").value = given === null ? "" : given.problem ? `bad input: line ${given.problem.line}\n` : "";

@@ -12,7 +12,7 @@ def comment_text(text):
 
 
 def block(header, title):
-    found = re.search(re.escape(f"/* {title} */") + r"\nenum \{(.*?)\n\};", header, re.S)
+    found = re.search(re.escape(f"/* {title}") + r"[^/]*\*/\nenum \{(.*?)\n\};", header, re.S)
     if not found:
         raise Disagreement(f"include/tarnoklej.h has no block {title!r}")
     return found[1]

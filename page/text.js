@@ -63,11 +63,11 @@ export function shortSexagesimal(steps, letters) {
 }
 
 // Steps of 0.0001 arc second as degrees, minutes and seconds.
-export function sexagesimal(steps, letters) {
+export function sexagesimal(steps, letters, decimals = 4) {
   const size = Math.abs(steps);
   const degrees = Math.floor(size / 36000000);
   const minutes = Math.floor((size % 36000000) / 600000);
-  const seconds = ((size % 600000) / 10000).toFixed(4).padStart(7, "0");
+  const seconds = ((size % 600000) / 10000).toFixed(decimals).padStart(decimals ? decimals + 3 : 2, "0");
   return `${degrees}\u00b0${String(minutes).padStart(2, "0")}\u2032${seconds}\u2033\u202f${letters[steps < 0 ? 1 : 0]}`;
 }
 
