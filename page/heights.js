@@ -1,9 +1,9 @@
 // A height grid: sixteen typed heights become a message 1023, which is saved as a frame.
 import { fieldOf, messageFields, rowOf } from "./fields.js";
 import { gridOf, shiftsOnGrid } from "./grid.js";
-import { refusalMeaning, refusalName, writeFrame, writeHeights } from "./library.js";
+import { refusalMeaning, refusalName, refusalNumber, writeFrame, writeHeights } from "./library.js";
 import { saveFile } from "./save.js";
-import { byId, element, grouped, hexadecimal, nearestStep, shortSexagesimal, wholeUnits, withDecimals } from "./text.js";
+import { byId, element, grouped, hexadecimal, nearestStep, several, shortSexagesimal, wholeUnits, withDecimals } from "./text.js";
 
 const NODES = 16;
 // The numbers beside the heights: the field, the decimals that may be typed, the steps in one, and what is wanted.
@@ -122,10 +122,9 @@ function refusalHint(refusal, wanted) {
 function factRows(message, wanted) {
   const fields = messageFields(message, 1023);
   const grid = gridOf(fields, 1023);
-  const right = grid.nodes.filter((node, index) => {
-    const part = shiftsOnGrid(message, grid, node)[2];
-    return part.refusal === 0 && BigInt(part.count) === 10n * wanted[index];
-  }).length;
+  const parts = grid.nodes.map((node) => shiftsOnGrid(message, grid, node)[2]);
+  const right = parts.filter(({ refusal, count }, index) => refusal === 0 && BigInt(count) === 10n * wanted[index]).length;
+  const beyond = parts.filter(({ refusal }) => refusal === refusalNumber("POSITION")).length;
   const place = [["DF192", "NS"], ["DF193", "EW"]].map(([field, letters]) =>
     shortSexagesimal(Number(fieldOf(fields, field).value) * 5000, letters)).join(", ");
   const spacing = ["DF194", "DF195"].map((field) => fieldOf(fields, field).shown.value).join(" by ");
@@ -134,7 +133,8 @@ function factRows(message, wanted) {
     ["spacing", spacing, "north-south by east-west"],
     ["mean (DF198)", fieldOf(fields, "DF198").shown.value, "the smallest that holds all sixteen"],
     ["day (DF051)", fieldOf(fields, "DF051").shown.value, fieldOf(fields, "DF051").shown.note || "not given"],
-    ["at the nodes", `${right} of 16`, "shifts of the message that are the wanted height exactly"],
+    ["at the nodes", `${right} of ${NODES - beyond}`, "shifts of the message that are the wanted height exactly"
+      + (beyond ? `; ${several(beyond, "node lies", "nodes lie")} beyond a pole, where no position is` : "")],
   ].map(([words, value, more]) => element("tr", {}, element("th", { scope: "row" }, words),
     element("td", {}, value), element("td", { class: "hint" }, more)));
 }

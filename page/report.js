@@ -28,6 +28,7 @@ export function setReportGrid(message, number, component, words) {
 export function openPoints(bytes) {
   const text = new TextDecoder("utf-8", { ignoreBOM: true }).decode(bytes);
   byId("report-points").value = text;
+  report.text = "";
   setText(text);
 }
 

@@ -9,13 +9,16 @@ from pathlib import Path
 sys.dont_write_bytecode = True
 
 import grids
+import heights
 import messages
 import outside
 import recording
+import report
+import samples
 import services
 from browser import Page
 
-PARTS = {part.__name__: part.check for part in (recording, services, messages, outside, grids)}
+PARTS = {part.__name__: part.check for part in (recording, services, messages, outside, grids, report, heights, samples)}
 
 
 def arguments(words):
