@@ -8,7 +8,7 @@ import { mapComponent, redrawMap, showMap, startMap } from "./map.js";
 import { moveField, showMessage } from "./message.js";
 import { showOverview } from "./overview.js";
 import { isOutside, isOwnNumber, messageOf, readRecording, recordingText } from "./recording.js";
-import { openPoints, setReportGrid, startReport } from "./report.js";
+import { expectPoints, openPoints, setReportGrid, startReport } from "./report.js";
 import { showSamples } from "./samples.js";
 import { saveFile } from "./save.js";
 import { markService, showServices, startServices } from "./services_table.js";
@@ -50,6 +50,7 @@ function startRecordingControls() {
   byId("text-save").addEventListener("click", () => saveFile(`${state.name}.txt`, recordingText(state.recording)));
   byId("report-open").addEventListener("click", () => {
     giveGrid();
+    expectPoints();
     showTab("report");
     byId("report-points").focus();
   });

@@ -24,6 +24,16 @@ export function setReportGrid(message, number, component, words) {
   makeReport();
 }
 
+// Makes ready for points over the grid that is chosen: a text with a message of its own gives way.
+export function expectPoints() {
+  if (byId("report-units").value === "report") byId("report-units").value = "units";
+  if (looksLikeReportText(report.text)) {
+    report.text = "";
+    byId("report-points").value = "";
+  }
+  makeReport();
+}
+
 // A file of points. The text is kept as it is, since a text area changes the ends of lines.
 export function openPoints(bytes) {
   const text = new TextDecoder("utf-8", { ignoreBOM: true }).decode(bytes);
