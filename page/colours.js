@@ -3,7 +3,7 @@
 
 // For each kind of entry its colour, or the name of the colour of its hatching and true.
 export const KIND_COLOURS = {
-  sound: ["#2b78b8", false], refused: ["#d4570a", false], other: ["#98a1ab", false],
+  sound: ["#2b78b8", false], refused: ["#d4570a", false], other: ["#818b95", false],
   crc: ["--hatch-crc", true], unfinished: ["--hatch-unfinished", true], noise: ["--hatch", true],
 };
 

@@ -42,23 +42,26 @@ function rowsInSight() {
   return Math.floor(byId("frames").clientHeight / ROW_HEIGHT) - 1;
 }
 
-// Rows that one row's height of scrolling stands for.
-function rowsPerStep() {
-  return Math.max(1, (table.entries.length * ROW_HEIGHT) / MOST_HEIGHT);
+function isLong() {
+  return table.entries.length * ROW_HEIGHT > MOST_HEIGHT;
+}
+
+// Pixels of scrolling for each row that can be the first in sight.
+function pixelsPerRow() {
+  if (!isLong()) return ROW_HEIGHT;
+  return (MOST_HEIGHT + ROW_HEIGHT - byId("frames").clientHeight) / (table.entries.length - rowsInSight());
 }
 
 function firstInSight() {
-  return Math.floor((byId("frames").scrollTop / ROW_HEIGHT) * rowsPerStep());
+  return Math.floor(byId("frames").scrollTop / pixelsPerRow());
 }
 
 function bringToSight() {
   if (table.selected < 0) return;
-  const area = byId("frames");
   const first = firstInSight();
-  const last = first + rowsInSight() - 1;
-  const scrollTo = (row) => { area.scrollTop = Math.ceil((Math.max(0, row) * ROW_HEIGHT) / rowsPerStep()); };
+  const scrollTo = (row) => { byId("frames").scrollTop = Math.ceil(Math.max(0, row) * pixelsPerRow()); };
   if (table.selected < first) scrollTo(table.selected);
-  else if (table.selected > last) scrollTo(table.selected - rowsInSight() + 1);
+  else if (table.selected >= first + rowsInSight()) scrollTo(table.selected - rowsInSight() + 1);
 }
 
 function drawRows() {
@@ -67,8 +70,7 @@ function drawRows() {
   const first = Math.max(0, Math.min(count, firstInSight() - AROUND));
   const last = Math.min(count, first + rowsInSight() + 2 * AROUND);
   const rows = table.entries.slice(first, last).map((entry, index) => frameRow(entry, first + index));
-  const above = rowsPerStep() === 1 ? first * ROW_HEIGHT
-    : Math.max(0, byId("frames").scrollTop - (firstInSight() - first) * ROW_HEIGHT);
+  const above = isLong() ? Math.max(0, byId("frames").scrollTop - (firstInSight() - first) * ROW_HEIGHT) : first * ROW_HEIGHT;
   byId("frame-rows").replaceChildren(spacer(above), ...rows, spacer(height - above - rows.length * ROW_HEIGHT));
 }
 

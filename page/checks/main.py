@@ -8,17 +8,22 @@ from pathlib import Path
 
 sys.dont_write_bytecode = True
 
+import contrast
 import grids
 import heights
+import keyboard
 import messages
+import odd_files
 import outside
 import recording
 import report
+import rules
 import samples
 import services
 from browser import Page
 
-PARTS = {part.__name__: part.check for part in (recording, services, messages, outside, grids, report, heights, samples)}
+PARTS = {part.__name__: part.check for part in (
+    recording, services, messages, outside, grids, report, heights, samples, odd_files, keyboard, contrast, rules)}
 
 
 def arguments(words):
