@@ -1,5 +1,6 @@
 """The map of a grid: shifts at typed places against examples/shift.expected, colours, pointer and pin."""
 from browser import REPOSITORY, plain
+from expected import decoded
 from selenium.webdriver.common.keys import Keys
 
 PLACES = [(0.37, 0.73), (0.55, 0.35), (0.60, 0.62), (0.72, 0.24), (0.78, 0.70), (0.86, 0.46)]
@@ -11,6 +12,7 @@ def check(page):
     check_colours(page)
     check_pointer(page)
     check_nodes(page)
+    check_labels(page)
 
 
 def pin(page, north, east):
@@ -130,3 +132,31 @@ def check_nodes(page):
         pin(page, f"{place[0]:.9f}", f"{place[1]:.9f}")
         counts = [means[part] + signed(120 + 27 * (node - 1) + 9 * part, 9) * (3, 3, 10)[part] for part in range(3)]
         page.equal(f"the counts at node {node}", [int(plain(cells[1])) for cells in page.cells("#pinned-answer tbody tr")], counts)
+
+
+def check_labels(page):
+    """What is written at the nodes of each component, by the second program's fields of the message."""
+    for path in ("services/d-oblique-mercator/1024.rtcm", "examples/1023.rtcm"):
+        page.load(REPOSITORY / path)
+        fields = decoded((REPOSITORY / path).read_bytes())[0]["fields"]
+        plane = path.endswith("1024.rtcm")
+        for component in range(3):
+            page.run("""window.drawnTexts = [];
+                const own = CanvasRenderingContext2D.prototype.fillText;
+                CanvasRenderingContext2D.prototype.fillText = function (text, ...place) { window.drawnTexts.push(text); own.call(this, text, ...place); };
+                document.querySelectorAll("#components input").forEach((input) => { input.checked = false; });
+                document.querySelectorAll("#components input")[arguments[0]].click();
+                CanvasRenderingContext2D.prototype.fillText = own;""", component)
+            shown = [plain(text) for text in page.run("return window.drawnTexts")]
+            wanted = [text for node in range(1, 17) for text in label(fields, node, component, plane)]
+            page.equal(f"{path}: texts at the nodes, component {component}", shown[:len(wanted)], wanted)
+
+
+def label(fields, node, component, plane):
+    """The texts at a node: its number and the shift there, or that there is none."""
+    first = 206 if plane else 196
+    mean = next(field["value"] for field in fields if field["df"] == f"DF{first + component}")
+    residual = next(field["value"] for field in fields if field["df"] == f"DF{first + 3 + component}" and field["node"] == node)
+    if residual is None:
+        return [f"{node} none"]
+    return [str(node), f"{mean + residual:.{4 if plane or component == 2 else 5}f}"]

@@ -19,10 +19,17 @@ FOCUSED = """
     return [one.dataset.control ?? null, marked(around), one.id || one.tagName + " " + one.textContent.slice(0, 30)];"""
 
 
+ALL = "all of a box"
+
+
 def press(page, *keys):
+    """Presses keys one after the other; ALL is Control and A."""
     actions = ActionChains(page.driver, duration=0)
     for key in keys:
-        actions.send_keys(key)
+        if key == ALL:
+            actions.key_down(Keys.CONTROL).send_keys("a").key_up(Keys.CONTROL)
+        else:
+            actions.send_keys(key)
     actions.perform()
 
 
@@ -98,7 +105,7 @@ def check_work(page):
     press(page, Keys.ARROW_RIGHT)
     page.holds("the pin by keys", float(page.value("#east-input")) > float(before))
     tab_to(page, "#north-input")
-    press(page, Keys.CONTROL + "a" + Keys.NULL, "197500", Keys.TAB, Keys.CONTROL + "a" + Keys.NULL, "592500", Keys.ENTER)
+    press(page, ALL, "197500", Keys.TAB, ALL, "592500", Keys.ENTER)
     page.equal("a typed place by keys", page.cells("#pinned-answer tbody tr")[0][:2], ["north-south", "3070"])
 
 
@@ -120,7 +127,7 @@ def check_heights(page):
     press(page, Keys.ARROW_RIGHT)
     page.holds("a tab by keys", page.seen("#heights-panel"))
     tab_to(page, "#heights-sin")
-    press(page, Keys.CONTROL + "a" + Keys.NULL, "7")
+    press(page, ALL, "7")
     tab_to(page, "#height-1")
     for height in (REPOSITORY / "examples/heights.csv").read_text().replace("\n", ",").rstrip(",").split(","):
         press(page, height, Keys.TAB)

@@ -157,5 +157,9 @@ def datum_step_is_near(page):
     rx, ry, rz = (turn * raw for raw in (10100, 2250, -122750))
     m = 1 - 6.7e-6
     wanted = [m * (x + rz * y - ry * z) - 598.1, m * (-rz * x + y + rx * z) - 73.7, m * (ry * x - rx * y + z) - 418.2]
-    shown = [int(row[2]) / 10000 for row in page.cells("#datum-answer tr")]
-    return all(abs(one - other) <= 0.0001001 for one, other in zip(shown, wanted)) and len(shown) == 3
+    rows = page.cells("#datum-answer tr")
+    shown = [int(row[2]) / 10000 for row in rows]
+    moved = [Decimal(row[2]) / 10000 - Decimal(str(old)) for row, old in zip(rows, (x, y, z))]
+    same = [Decimal(row[1].removesuffix(" m")) == Decimal(row[2]) / 10000 for row in rows]
+    return (all(abs(one - other) <= 0.0001001 for one, other in zip(shown, wanted)) and all(same) and len(shown) == 3
+            and [Decimal(row[3].removesuffix(" m")) for row in rows] == moved)

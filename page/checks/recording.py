@@ -15,6 +15,10 @@ def check(page):
     page.load(REPOSITORY / "services/recording.rtcm")
     page.equal("frames", page.text("#frame-count"), frames)
     page.equal("bytes outside", page.text("#outside-count"), outside)
+    kinds = [line[3] if line[3:] else "other" for line in lines]
+    page.equal("bytes", page.text("#byte-count"), str((REPOSITORY / "services/recording.rtcm").stat().st_size))
+    page.equal("accepted and refused", [page.text("#sound-count"), page.text("#refused-count")], [str(kinds.count("sin")), str(kinds.count("refused"))])
+    check_strip(page, lines, kinds)
     page.equal("rows of the table", page.attributes("#frame-table", "aria-rowcount"), [frames])
     page.click("#text-area summary")
     page.wait_for("return document.getElementById('as-text').value !== ''")
@@ -24,6 +28,21 @@ def check(page):
     check_rows(page, lines)
     check_counts(page, lines)
     check_filter_and_keys(page, lines)
+
+
+def check_strip(page, lines, kinds):
+    """The colour of the strip in the middle of every frame that is at least three pixels wide, but for the one that is marked."""
+    width, colours = page.run("""
+        const canvas = document.getElementById("strip");
+        const line = canvas.getContext("2d").getImageData(0, 20, canvas.width, 1).data;
+        return [canvas.width, Array.from({ length: canvas.width }, (_, x) => [...line.slice(4 * x, 4 * x + 3)].join())];""")
+    scale = width / (REPOSITORY / "services/recording.rtcm").stat().st_size
+    wanted = {"sin": "43,120,184", "refused": "212,87,10", "other": "129,139,149"}
+    marked = current(page)[0]
+    wide = [(line, kind) for line, kind in zip(lines, kinds) if (int(line[1]) + 6) * scale >= 3 and line[0] != marked]
+    wrong = [line for line, kind in wide if colours[int((int(line[0]) + (int(line[1]) + 6) / 2) * scale)] != wanted[kind]]
+    page.equal("frames of another colour in the strip", wrong, [])
+    page.holds("frames looked at in the strip", len(wide) > 90)
 
 
 def check_rows(page, lines):
