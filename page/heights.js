@@ -116,7 +116,7 @@ function refusalHint(refusal, wanted) {
   if (refusalName(refusal) !== "NOMEAN") return "";
   const sorted = [...wanted].sort((one, other) => (one < other ? -1 : one > other ? 1 : 0));
   const [smallest, greatest] = [sorted[0], sorted.at(-1)].map((height) => `${grouped(withDecimals(height, 3))} m`);
-  return `. The heights go from ${smallest} to ${greatest}; they may lie 0.510 m apart, and within \u00b1164.085 m.`;
+  return `. The heights go from ${smallest} to ${greatest}; they may lie at most 0.510 m apart, about a mean of whole centimetres, and within \u00b1164.085 m.`;
 }
 
 function factRows(message, wanted) {

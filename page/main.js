@@ -137,6 +137,7 @@ function select(entry) {
   const datum = fields !== null && entry.number === 1021;
   byId("map-panel").hidden = !grid;
   byId("datum-panel").hidden = !datum;
+  byId("work").classList.toggle("explained", grid || datum);
   if (grid) showMap(messageOf(recording, entry), fields, entry.number);
   if (grid) giveGrid();
   if (datum) showDatum(messageOf(recording, entry), fields);

@@ -25,6 +25,7 @@ export function showMessage(recording, entry) {
   byId("message-refusal").hidden = entry.kind !== "refused";
   if (entry.kind === "refused") byId("message-refusal").replaceChildren(...refusalWords(entry, shown.fields));
   byId("outside-why").hidden = !outside;
+  byId("outside-why").classList.toggle("noise", entry.kind === "noise");
   byId("outside-why").textContent = outside ? outsideWords(recording, entry, shown.fields !== null) : "";
   byId("field-area").hidden = shown.fields === null;
   byId("field-table").classList.toggle("unchecked", !accepted);

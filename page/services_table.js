@@ -37,7 +37,8 @@ function serviceRow(service) {
   const utilized = utilizedOf(service);
   return element("tr", { "data-sin": service.sin ?? "none" },
     element("th", { scope: "row" }, service.sin === null ? "others" : String(service.sin)),
-    ...service.groups.map((group, index) => groupCell(group, index, utilized)),
+    ...(service.sin === null ? [element("td", { colspan: GROUPS.length, class: "none" }, "refused messages of no system above")]
+      : service.groups.map((group, index) => groupCell(group, index, utilized))),
     refusedCell(service));
 }
 
@@ -106,7 +107,7 @@ function gridPlace(fields, number) {
   const plane = number === 1024;
   const [north, east, northSpacing, eastSpacing] = [0, 1, 2, 3].map((place) => fieldOf(fields, `DF${(plane ? 202 : 192) + place}`));
   if (!north.present || !east.present) return "origin not available";
-  if (plane) return `N ${north.shown.value}, E ${east.shown.value}, nodes ${northSpacing.shown.value} by ${eastSpacing.shown.value} apart`;
+  if (plane) return `N ${north.shown.value}, E ${east.shown.value}, nodes ${northSpacing.shown.value} by ${eastSpacing.shown.value}`;
   const degrees = ({ value }, letters) => shortSexagesimal(Number(value) * 5000, letters);
-  return `${degrees(north, "NS")} ${degrees(east, "EW")}, nodes ${northSpacing.shown.value} by ${eastSpacing.shown.value} apart`;
+  return `${degrees(north, "NS")} ${degrees(east, "EW")}, nodes ${northSpacing.shown.value} by ${eastSpacing.shown.value}`;
 }

@@ -20,10 +20,11 @@ import report
 import rules
 import samples
 import services
+import widths
 from browser import Page
 
 PARTS = {part.__name__: part.check for part in (
-    recording, services, messages, outside, grids, report, heights, samples, odd_files, keyboard, contrast, rules)}
+    recording, services, messages, outside, grids, report, heights, samples, odd_files, keyboard, widths, contrast, rules)}
 
 
 def arguments(words):

@@ -13,7 +13,7 @@ ROWS = """return [...document.querySelectorAll("#service-rows tr")].map((row) =>
 def check(page):
     page.load(REPOSITORY / "services/recording.rtcm")
     rows = page.run(ROWS)
-    shown = {row["sin"]: [cell_facts(cell) for cell in row["cells"]] for row in rows}
+    shown = {row["sin"]: [cell_facts(cell) for cell in row["cells"] if "group" in cell] for row in rows}
     page.equal("services", shown, wanted_services(recording()))
     page.holds("how many services", page.text("#services-count").startswith("5 system identification numbers"))
     check_words(page, rows)
@@ -44,7 +44,7 @@ def wanted_services(content):
     result = {sin: row + [[len(refused.get(sin, [])), refused[sin][-1] if sin in refused else None]] for sin, row in wanted.items()}
     others = sorted((int(at) for sin, places in refused.items() if sin not in wanted for at in places))
     if others:
-        result["none"] = [[0, 0, None, None] for _ in GROUPS] + [[len(others), str(others[-1])]]
+        result["none"] = [[len(others), str(others[-1])]]
     return result
 
 
@@ -53,12 +53,12 @@ def check_words(page, rows):
     objects = {str(found["at"]): found for found in decoded(recording()) if found["kind"] == "message"}
     for row in rows:
         for cell in row["cells"]:
-            if cell["group"] == "Refused" or not cell.get("at"):
+            if cell.get("group", "Refused") == "Refused" or not cell.get("at"):
                 continue
             fields = {field["df"]: field for field in objects[cell["at"]]["fields"]}
             for word in wanted_words(int(cell["number"]), fields):
                 page.holds(f"SIN {row['sin']} {cell['group']}: {word!r} in {cell['words']!r}", word in cell["words"])
-        refused = next(cell for cell in row["cells"] if cell["group"] == "Refused")
+        refused = row["cells"][-1]
         names = Counter(found["refusal_name"] for found in decoded(recording()) if found["kind"] == "refused"
                         and found["number"] and in_row(found, row["sin"], rows))
         for name, count in names.items():
@@ -107,5 +107,5 @@ def check_others(page):
     other[1:3] = bytes([other[1] & 0xF0, 7 << 4])
     page.load_bytes(b"".join(framed(message) for message in (transformation.read_bytes(), cut, short, bytes(other))))
     rows = page.run(ROWS)
-    page.equal("refused messages of a service and of none", {row["sin"]: cell_facts(row["cells"][3])[0] for row in rows}, {"11": 1, "none": 2})
-    page.holds("SINs by bits", "by their bits: SIN 7 × 1, not readable × 1" in rows[1]["cells"][3]["words"])
+    page.equal("refused messages of a service and of none", {row["sin"]: cell_facts(row["cells"][-1])[0] for row in rows}, {"11": 1, "none": 2})
+    page.holds("SINs by bits", "by their bits: SIN 7 × 1, not readable × 1" in rows[1]["cells"][-1]["words"])
