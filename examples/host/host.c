@@ -48,7 +48,7 @@ static int exit_status(call_answer answer)
         return EXIT_FAILED;
     if (answer.refusal == TARNOKLEJ_DONE)
         return EXIT_DONE;
-    say("refused %d", answer.refusal);
+    say("refused %d %s: %s", answer.refusal, tarnoklej_refusal_name(answer.refusal), tarnoklej_refusal_words(answer.refusal));
     return EXIT_REFUSED;
 }
 

@@ -32,7 +32,8 @@ def kill_often(owner, kills, failures):
 
 def run(host, path, kills, seed):
     """Both owners at work at once, until each was killed half of the times; prints what was counted."""
-    subprocess.run([host, "new", path], check=True)
+    with open(path, "wb") as file:
+        file.write(table_file.make({}))
     owners = [Owner(number, host, path, seed) for number in (1, 2)]
     failures = []
     threads = [threading.Thread(target=kill_often, args=(owner, (kills + 1) // 2, failures)) for owner in owners]
@@ -48,5 +49,6 @@ def run(host, path, kills, seed):
     total = lambda name: sum(getattr(owner, name) for owner in owners)
     print(
         f"host: {total('kills')} kills at work ({total('unused_kills')} more of idle processes), {total('acknowledged')} calls acknowledged,"
-        f" {total('failed')} failed on a full disk, {total('lost')} lost, 0 tables refused"
+        f" {total('failed')} failed on a full disk, {total('lost')} lost, 0 tables refused;"
+        f" {total('committed')} kills came between commit and answer"
     )

@@ -21,7 +21,7 @@ class Owner:
         self.keys = [(sin, group) for sin in range(4 if number == 1 else 8) for group in range(3)]
         self.held = {}
         self.serial = 0
-        self.kills = self.acknowledged = self.failed = self.lost = self.unused_kills = 0
+        self.kills = self.acknowledged = self.failed = self.lost = self.unused_kills = self.committed = 0
 
     def next_call(self):
         """A call as (word, key, message)."""
@@ -69,8 +69,9 @@ class Owner:
     def compare(self, held, at_work):
         """Compares what the file holds with the calls acknowledged, and with the one at work, which may be in it or not."""
         mine = {key[1:]: message for key, message in held.items() if key[0] == self.number}
-        if at_work and mine == self.after(at_work):
+        if at_work and mine != self.held and mine == self.after(at_work):
             self.held = mine
+            self.committed += 1
         if mine != self.held:
             self.lost += sum(mine.get(key) != self.held.get(key) for key in set(mine) | set(self.held))
             raise Failure(f"owner {self.number}: {self.lost} acknowledged calls are lost")

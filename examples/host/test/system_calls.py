@@ -15,6 +15,7 @@ NEW, REPLACING = messages.make(7, 0, 4), messages.make(5, 2, 5)
 TRIALS = (
     (f"store {NEW.hex()}\n", HELD | {(1, 7, 0): NEW}),
     (f"store {REPLACING.hex()}\n", HELD | {(1, 5, 2): REPLACING}),
+    (f"store {HELD[1, 5, 2].hex()}\n", HELD),
     ("remove 6 1\n", {key: message for key, message in HELD.items() if key != (1, 6, 1)}),
 )
 # Calls of the system without which there must be no answer of 0, and the errors that they are made to give.
