@@ -41,7 +41,8 @@ function write_shim(name, type,    raw) {
         print "uint32_t " raw "(" parameters[name] ") __attribute__((visibility(\"hidden\")));"
         print type " " name "(" parameters[name] ")\n{\n    return (uint8_t)" raw "(" arguments[name] ");\n}"
     } else {
-        print "void " raw "(" type " *answer, " parameters[name] ") __attribute__((visibility(\"hidden\")));"
+        # A large answer's pointer also comes back.
+        print (bits[type] > 128 ? "void *" : "void ") raw "(" type " *answer, " parameters[name] ") __attribute__((visibility(\"hidden\")));"
         print type " " name "(" parameters[name] ")\n{"
         print "    " type " answer;\n    " raw "(&answer, " arguments[name] ");\n    return answer;\n}"
     }
@@ -76,8 +77,10 @@ file == 3 && $1 == "function" {
 
 file == 3 && $1 == "parameter" {
     wanted[$2] = wanted[$2] (wanted[$2] ~ /\($/ ? "" : ", ") lowered($3, $4)
-    parameters[$2] = parameters[$2] ($2 in parameters ? ", " : "") ($3 == "input" ? "const " : "") $4 ($3 == "value" ? " " : " *") $5
-    arguments[$2] = arguments[$2] ($2 in arguments ? ", " : "") $5
+    comma = $2 == last ? ", " : ""
+    parameters[$2] = parameters[$2] comma ($3 == "input" ? "const " : "") $4 ($3 == "value" ? " " : " *") $5
+    arguments[$2] = arguments[$2] comma $5
+    last = $2
 }
 
 END {

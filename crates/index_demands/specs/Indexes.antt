@@ -1,23 +1,23 @@
 -- Request A9, "Finding quickly", as statements: a history is any list of store, find and remove calls by owner 1, owner 2 and owners that are none, each naming a SIN that is a byte.
 -- What a call answers, shows and leaves is `agreesRefusal`, `writeIndex`, `storeNumber`, `storedTable`, `storedIndex`, `foundBy` and the like, with which the promises of indexed_table's functions are equations.
 -- Assumes nothing.
-use Prim.Native.Nat.{ℕ, _≤_, _<_}
+use Prim.Native.Nat.{ℕ, _+_, _*_, _≤_, _<_}
 use mathlib.Core.Path.{_≡_}
 use mathlib.Core.Bool.{true, cond}
 use mathlib.Core.List.{List, []}
 use lib.Dec.{eqb}
 use lib.ListN.{length}
-use Rattle.slots.specs.Slots.{slots, isOwner, key, slot}
+use Rattle.slots.specs.Slots.{slots, messageSize, slotSize, isOwner, key, slot, ownerAt}
 use Rattle.table.specs.Table.{holding, usedSlots, wellFormed, foundOf}
 use Rattle.history.specs.History.{fresh, Ask, Call, callsOf, lastOf}
 use Rattle.history.specs.Dict.{entries, total, dictReplies}
-use Rattle.neighbour.specs.Neighbour.{ofOwner, atMost, keptAfter, none}
+use Rattle.neighbour.specs.Neighbour.{ofOwner, atMost, keptAfter, none, noKeyTwice}
 use Rattle.index_search.specs.Index.{keyAt, slotAt}
 use Rattle.index_search.specs.Index as index
 use Rattle.index_search.specs.Search.{searched}
 use Rattle.index_search.specs.Means.{markIn, Agrees}
 use Rattle.indexed_table.specs.Indexed.{entryKey, slotKey, slotKeys, agreesRefusal, writeRefusal, writeIndex}
-use Rattle.indexed_table.specs.Find.{findNumber, foundBy, part}
+use Rattle.indexed_table.specs.Find.{findNumber, foundBy, part, partAt, partLength}
 use Rattle.index_history.specs.Named.{named, entriesAt}
 use Rattle.index_history.specs.Calls.{freshIndex, Both, number, after, afterAll, replies, logOf, byteCalls}
 
@@ -92,6 +92,7 @@ NeighbourUnseen =
 pub record SlotsCounted (cs : List Call) : Type 0 where
   pub all : usedSlots (afterAll freshBoth cs .table) ≡ total (keptAfter none (logOf freshBoth cs))
   pub each : (owner : ℕ) → isOwner owner ≡ true → holding (afterAll freshBoth cs .table) owner ≡ length (keptAfter none (logOf freshBoth cs) owner)
+  pub once : (owner : ℕ) → isOwner owner ≡ true → noKeyTwice (keptAfter none (logOf freshBoth cs) owner) ≡ true
 
 -- ---- what find reads, on any bytes
 
@@ -105,5 +106,23 @@ abbrev pub FindReads : Type 0
 FindReads =
     (t t′ x x′ : List ℕ) (owner sin group : ℕ) → length t ≡ length t′ → length x ≡ length x′
     → entriesAt x (named x (entryKey owner sin group)) ≡ entriesAt x′ (named x (entryKey owner sin group))
-    → slot t (searched x (entryKey owner sin group) .slot) ≡ slot t′ (searched x (entryKey owner sin group) .slot)
+    → (searched x (entryKey owner sin group) .found ≡ true → slot t (searched x (entryKey owner sin group) .slot) ≡ slot t′ (searched x (entryKey owner sin group) .slot))
     → foundBy t x owner sin group ≡ foundBy t′ x′ owner sin group
+
+-- ---- request A7, on any bytes
+
+-- "No call by one owner .. replaces or removes a slot of the other"
+abbrev pub OthersKept : Type 0
+OthersKept =
+    (b : Both) (owner : ℕ) (a : Ask) (i : ℕ) → i < slots → (ownerAt (b .table) i ≡ 0 → ⊥) → (ownerAt (b .table) i ≡ owner → ⊥)
+    → slot (after b owner a .table) i ≡ slot (b .table) i
+
+pub record OwnPart (t x : List ℕ) (owner sin group : ℕ) : Type 0 where
+  pub at : ℕ
+  pub low : at < slots
+  pub owned : ownerAt t at ≡ owner
+  pub start : partAt t x owner sin group ≡ at * slotSize + 2
+  pub size : partLength t x owner sin group ≤ messageSize
+
+abbrev pub ShownOwn : Type 0
+ShownOwn = (t x : List ℕ) (owner sin group : ℕ) → findNumber t x owner sin group ≡ 0 → OwnPart t x owner sin group

@@ -5,7 +5,7 @@ ghost use mathlib.Core.Bool.{true};
 ghost use mathlib.Core.List.{List};
 ghost use Rattle.history.specs.History.{Call};
 ghost use Rattle.index_history.specs.Calls.{byteCalls};
-ghost use Rattle.index_demands.specs.Indexes.{AgreementIs, OneEntry, AgreementKept, WrittenAgrees, FreshAgree, BothKept, FindsLikeTheWalk, DictionaryKept, LastStored, NeighbourUnseen, SlotsCounted, ProbesCounted, FindReads};
+ghost use Rattle.index_demands.specs.Indexes.{AgreementIs, OneEntry, AgreementKept, WrittenAgrees, FreshAgree, BothKept, FindsLikeTheWalk, DictionaryKept, LastStored, NeighbourUnseen, SlotsCounted, ProbesCounted, FindReads, OthersKept, ShownOwn};
 
 // When table and index agree, and that they stay so.
 pub fn agreement()
@@ -30,4 +30,10 @@ pub fn histories()
 pub fn reading()
     ensures probes { λ r. ⌜ ((t x : List ℕ) (owner sin group : ℕ) → ProbesCounted t x owner sin group) ⌝ }
     ensures reads { λ r. ⌜ FindReads ⌝ }
+{}
+
+// Request A7 of the calls with the index, on any bytes.
+pub fn owners()
+    ensures kept { λ r. ⌜ OthersKept ⌝ }
+    ensures shown { λ r. ⌜ ShownOwn ⌝ }
 {}

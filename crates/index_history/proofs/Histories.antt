@@ -4,7 +4,7 @@ use Prim.Native.Nat.{ℕ, _+_, _*_, _≤_}
 use native.Mathlib.Omega.{arith}
 use native.Mathlib.Decide.{ℕ-discrete}
 use mathlib.Core.Path.{_≡_, refl, sym, ap, _∙_}
-use mathlib.Core.Bool.{Bool, true, not, cond}
+use mathlib.Core.Bool.{Bool, true, false, not, cond}
 use mathlib.Core.List.{List, [], _∷_}
 use lib.Dec.{ltb, eqb}
 use lib.ListN.{length, getD}
@@ -134,10 +134,31 @@ answerFrom o s g size sized p l =
 
 pub find-local : (t t′ x x′ : List ℕ) (o s g : ℕ) → length t ≡ length t′ → length x ≡ length x′
     → entriesAt x (named x (entryKey o s g)) ≡ entriesAt x′ (named x (entryKey o s g))
-    → slot t (searched x (entryKey o s g) .slot) ≡ slot t′ (searched x (entryKey o s g) .slot)
+    → (searched x (entryKey o s g) .found ≡ true → slot t (searched x (entryKey o s g) .slot) ≡ slot t′ (searched x (entryKey o s g) .slot))
     → foundBy t x o s g ≡ foundBy t′ x′ o s g
 unfolding foundBy findNumber given partAt partLength probed
-find-local t t′ x x′ o s g p q r u =
-    let e : searched x (entryKey o s g) ≡ searched x′ (entryKey o s g) = searched-local x x′ (entryKey o s g) q r in
-    let v : slot t (searched x (entryKey o s g) .slot) ≡ slot t′ (searched x′ (entryKey o s g) .slot) = u ∙ ap (λ (y : Probe). slot t′ (y .slot)) e in
-    λ i. answerFrom o s g (p i) (q i) (e i) (v i)
+find-local t t′ x x′ o s g p q r u = by (searched x (entryKey o s g) .found) refl
+  where
+    e : searched x (entryKey o s g) ≡ searched x′ (entryKey o s g)
+    e = searched-local x x′ (entryKey o s g) q r
+
+    -- without an entry no slot counts
+    none : (size sized : ℕ) (y : Probe) (l l′ : List ℕ) → y .found ≡ false → answerFrom o s g size sized y l ≡ answerFrom o s g size sized y l′
+    none size sized y l l′ z = rw z (early (not (eqb size tableSize)) (not (eqb sized indexSize)) (not (isOwner o)) (not (ltb g 3)))
+      where
+        early : (a b c d : Bool) → _≡_ {A = Found}
+            (record { refusal = cond a 18 (cond b 22 (cond c 21 (cond d 17 17))); at = cond (eqb (cond a 18 (cond b 22 (cond c 21 (cond d 17 17)))) 0) (y .slot * slotSize + 2) 0; length = cond (eqb (cond a 18 (cond b 22 (cond c 21 (cond d 17 17)))) 0) (getD l 1 0) 0; probes = cond (eqb (cond a 18 (cond b 22 (cond c 21 (cond d 17 17)))) 0) (y .probes) 0 })
+            (record { refusal = cond a 18 (cond b 22 (cond c 21 (cond d 17 17))); at = cond (eqb (cond a 18 (cond b 22 (cond c 21 (cond d 17 17)))) 0) (y .slot * slotSize + 2) 0; length = cond (eqb (cond a 18 (cond b 22 (cond c 21 (cond d 17 17)))) 0) (getD l′ 1 0) 0; probes = cond (eqb (cond a 18 (cond b 22 (cond c 21 (cond d 17 17)))) 0) (y .probes) 0 })
+        early true b c d = refl
+        early false true c d = refl
+        early false false true d = refl
+        early false false false true = refl
+        early false false false false = refl
+
+    by : (b : Bool) → searched x (entryKey o s g) .found ≡ b → answerFrom o s g (length t) (length x) (searched x (entryKey o s g)) (slot t (searched x (entryKey o s g) .slot)) ≡ answerFrom o s g (length t′) (length x′) (searched x′ (entryKey o s g)) (slot t′ (searched x′ (entryKey o s g) .slot))
+    by true h =
+        let v : slot t (searched x (entryKey o s g) .slot) ≡ slot t′ (searched x′ (entryKey o s g) .slot) = u h ∙ ap (λ (y : Probe). slot t′ (y .slot)) e in
+        λ i. answerFrom o s g (p i) (q i) (e i) (v i)
+    by false h =
+        none (length t) (length x) (searched x (entryKey o s g)) (slot t (searched x (entryKey o s g) .slot)) (slot t′ (searched x′ (entryKey o s g) .slot)) h
+        ∙ (λ i. answerFrom o s g (p i) (q i) (e i) (slot t′ (searched x′ (entryKey o s g) .slot)))

@@ -13,8 +13,8 @@ use Rattle.history.specs.History as plain
 use Rattle.history.specs.Dict.{Reply, total}
 use Rattle.history.proofs.Replies.{replies-same}
 use Rattle.history.proofs.Answers.{find-last}
-use Rattle.neighbour.specs.Neighbour.{ofOwner, repliesTo, keptAfter, none}
-use Rattle.neighbour.proofs.Neighbour.{neighbour-unseen, used-are-kept, held-are-kept}
+use Rattle.neighbour.specs.Neighbour.{ofOwner, repliesTo, keptAfter, none, noKeyTwice}
+use Rattle.neighbour.proofs.Neighbour.{neighbour-unseen, used-are-kept, held-are-kept, kept-once}
 use Rattle.indexed_table.specs.Indexed.{agreesRefusal}
 use Rattle.indexed_table.specs.Find.{partAt, partLength, part, foundBy}
 use Rattle.indexed_table.proofs.Calls.{agrees-passed}
@@ -75,6 +75,7 @@ counted cs h =
     record {
       all = ap usedSlots (r .table) ∙ used-are-kept cs ∙ sym (ap (λ (l : List Entry). total (keptAfter none l)) (r .log));
       each = λ o v. ap (λ (t : List ℕ). holding t o) (r .table) ∙ held-are-kept cs o v ∙ sym (ap (λ (l : List Entry). length (keptAfter none l o)) (r .log));
+      once = λ o v. ap (λ (l : List Entry). noKeyTwice (keptAfter none l o)) (r .log) ∙ kept-once cs o v;
     }
 
 returns : tie.Need-returns
