@@ -7,7 +7,7 @@ commands_for() { # NAME
     aarch64-linux-gnu) echo aarch64-linux-gnu-gcc aarch64-linux-gnu-objdump qemu-aarch64 ;;
     riscv64-linux-gnu) echo riscv64-linux-gnu-gcc qemu-riscv64 ;;
     wasm64) echo node ;;
-    x86_64-windows-gnu) echo x86_64-w64-mingw32-gcc x86_64-w64-mingw32-objdump wine ;;
+    x86_64-windows-gnu) echo x86_64-w64-mingw32-gcc x86_64-w64-mingw32-objdump wine wineserver ;;
     esac
 }
 packages_for() { # NAME

@@ -41,7 +41,11 @@ $1 == "parameter" {
             fail(name " has the pointer " pointer " without a length behind it")
         pointer = $5
         before = before "    buffer " $5 " = empty >> " buffers " & 1 ? empty_at(place) : buffer_of(\"" $5 "\", sizeof(" $4 "));\n"
-        after = after "    add_buffer(" $5 ");\n"
+        # Of a struct the members are added, since what stands between them is nobody's.
+        if ($4 ~ /^tarnoklej_/)
+            after = after "    for (size_t i = 0; i < " $5 ".count; i++)\n        add_part_" short($4) "(((" $4 " *)" $5 ".at)[i]);\n"
+        else
+            after = after "    add_buffer(" $5 ");\n"
         arguments = arguments $5 ".at"
         buffers++
     } else if (pointer != "") {

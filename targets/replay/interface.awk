@@ -1,6 +1,7 @@
 # Writes interface.h for the replay from what header.awk prints:
 #   CALLS(CALL)        CALL(name, refusals) for each function, the refusals as bits
-#   add_STRUCT         adds every member of a struct to the sum
+#   add_STRUCT         adds every member of a struct to the sum, and counts its refusals as the call's
+#   add_part_STRUCT    the same without counting, for a struct that is one of many
 # tarnoklej_ is left out of the names.
 
 function short(name) { return substr(name, length("tarnoklej_") + 1) }
@@ -16,13 +17,10 @@ $1 == "struct" { structs[++struct_count] = $2 }
 
 $1 == "member" {
     one = $5 > 1 ? "a." $4 "[i]" : "a." $4
-    if ($4 ~ /(^|_)refusal$/)
-        line = "add_refusal(" one ");"
-    else if ($3 == "double")
-        line = "add_double(" one ");"
-    else
-        line = "add((uint64_t)" one ");"
-    members[$2] = members[$2] "    " ($5 > 1 ? "for (int i = 0; i < " $5 "; i++)\n        " : "") line "\n"
+    loop = "    " ($5 > 1 ? "for (int i = 0; i < " $5 "; i++)\n        " : "")
+    line = loop ($3 == "double" ? "add_double(" one ");\n" : "add((uint64_t)" one ");\n")
+    parts[$2] = parts[$2] line
+    members[$2] = members[$2] ($4 ~ /(^|_)refusal$/ ? loop "add_refusal(" one ");\n" : line)
 }
 
 $1 == "refusals" {
@@ -40,7 +38,9 @@ END {
     print "\nenum { MOST_REFUSAL = " greatest " };"
     print "\n#define R(name) (UINT32_C(1) << TARNOKLEJ_##name)"
     print "\n#define CALLS(CALL)" calls
-    for (i = 1; i <= struct_count; i++)
+    for (i = 1; i <= struct_count; i++) {
         print "\nstatic inline void add_" short(structs[i]) "(" structs[i] " a)\n{\n" members[structs[i]] "}"
+        print "\nstatic inline void add_part_" short(structs[i]) "(" structs[i] " a)\n{\n" parts[structs[i]] "}"
+    }
     print "#endif"
 }
