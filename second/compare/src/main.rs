@@ -1,6 +1,7 @@
 //! Compares the second program with the proved static library, call by call, on many inputs.
 
 mod datum;
+mod designed;
 mod framing;
 mod heights;
 mod messages;
@@ -19,7 +20,7 @@ use std::process::ExitCode;
 use tally::{Progress, Tally};
 
 /// How the program is called.
-const USAGE: &str = "compare [SEED [COUNT]]: COUNT inputs for each kind of call (default: seed 1, 15,000 inputs)";
+const USAGE: &str = "compare [SEED [COUNT]]: COUNT inputs for each kind of call (default: seed 1, 15,000 inputs)\ncompare designed: the designed vectors";
 /// The inputs for each kind of call where no count is given.
 const DEFAULT_COUNT: u64 = 15_000;
 
@@ -173,7 +174,24 @@ fn arguments() -> Option<(u64, u64)> {
     Some((number(0, 1)?, number(1, DEFAULT_COUNT)?))
 }
 
+/// Runs the designed vectors.
+fn run_designed() -> ExitCode {
+    match designed::run() {
+        Ok(all_met) => {
+            println!("no mismatch");
+            ExitCode::from(u8::from(!all_met))
+        }
+        Err(difference) => {
+            println!("mismatch in {difference}");
+            ExitCode::FAILURE
+        }
+    }
+}
+
 fn main() -> ExitCode {
+    if std::env::args().skip(1).eq(["designed"]) {
+        return run_designed();
+    }
     let Some((seed, count)) = arguments() else {
         eprintln!("{USAGE}");
         return ExitCode::from(2);
