@@ -34,14 +34,6 @@ stepBy f n ended =
 unfoldable pub stepOf : List ℕ → ℕ → Bool → Step
 stepOf s from ended = stepBy (findFrame s from) (length s) ended
 
--- ---- the bytes that stay in a window
-
-unfoldable pub kept : ℕ → ℕ → ℕ → ℕ
-kept n from end = cond (ltb n end) 0 (end - from)
-
-unfoldable pub slid : List ℕ → ℕ → ℕ → List ℕ
-slid w from end = take (kept (length w) from end) (drop from w) ++ drop (kept (length w) from end) w
-
 -- ---- the frames of a whole stream, each from the last one's end; an unfinished candidate is none, and the search goes on one byte behind it
 
 unfoldable pub framesWithin : ℕ → List ℕ → ℕ → List Frame

@@ -3,8 +3,12 @@
 // refusal number. The last line says how many frames there were, and how many bytes outside them. Places and counts are modulo 2^64.
 use frame_search::Step;
 use libc::STDIN_FILENO;
-use text_lines::output;
-use text_lines::output::Out;
+use libc::STDOUT_FILENO;
+
+type Out = [u8; 16384];
+
+// The place in the output up to which there is room for a line, of which none has 128 bytes.
+const LAST: usize = 16256;
 
 // More turns than any recording asks for: each finds a frame, passes a byte or reads on.
 const TURNS: usize = 1099511627776;
@@ -111,7 +115,7 @@ fn go_on(window: &mut [u8], state: State, next: usize) -> State {
     if state.ended {
         return stop(state);
     }
-    let held = frame_search::slide(window, next, state.held);
+    let held = text_lines::slide(window, next, state.held);
     let got = read_more(window, held);
     State {
         base: later(state.base, next),
@@ -152,10 +156,31 @@ fn later(place: u64, by: usize) -> u64 {
 }
 
 fn put_frame(out: &mut Out, at: usize, place: u64, message: &[u8]) -> usize {
-    let a = output::put_field(out, at, place);
-    let b = output::put_field(out, a, message.len() as u64);
-    let c = put_number(out, b, message);
-    output::put(out, c, b'\n')
+    let a = room(out, at);
+    let b = put_field(out, a, place);
+    let c = put_field(out, b, message.len() as u64);
+    let d = put_number(out, c, message);
+    text_words::put(out, d, b"\n")
+}
+
+// A place with room for a line: where there is none, the output is written and begins anew.
+fn room(out: &Out, at: usize) -> usize {
+    if at <= LAST {
+        return at;
+    }
+    print(out, at);
+    0
+}
+
+// Writes the first bytes of the output.
+fn print(out: &Out, length: usize) {
+    io::write_all(STDOUT_FILENO, text_words::before(out, length));
+}
+
+// A number and a space.
+fn put_field(out: &mut Out, at: usize, n: u64) -> usize {
+    let to = text_numerals::put_natural(out, at, n);
+    text_words::put(out, to, b" ")
 }
 
 // The first 12 of 16 bits.
@@ -166,10 +191,10 @@ fn number(high: u8, low: u8) -> u64 {
 // The message's number, and what belongs behind it.
 fn put_number(out: &mut Out, at: usize, message: &[u8]) -> usize {
     if message.len() < 2 {
-        return output::put(out, at, b'-');
+        return text_words::put(out, at, b"-");
     }
     let n = number(message[0], message[1]);
-    let to = output::put_natural(out, at, n);
+    let to = text_numerals::put_natural(out, at, n);
     if n < 1021 {
         return to;
     }
@@ -183,19 +208,20 @@ fn put_number(out: &mut Out, at: usize, message: &[u8]) -> usize {
 fn put_header(out: &mut Out, at: usize, message: &[u8]) -> usize {
     let h = message_rows::read_header(message);
     if h.refusal != 0 {
-        let to = output::put_all(out, at, b" refused ");
-        return output::put_small(out, to, h.refusal);
+        let to = text_words::put(out, at, b" refused ");
+        return text_numerals::put_natural(out, to, h.refusal as u64);
     }
-    let to = output::put_all(out, at, b" sin ");
-    output::put_small(out, to, h.sin)
+    let to = text_words::put(out, at, b" sin ");
+    text_numerals::put_natural(out, to, h.sin as u64)
 }
 
 // The last line, and what is left of the output.
 fn put_end(out: &mut Out, state: State) {
     let all = later(state.base, state.held);
-    let a = output::put_natural(out, state.out, state.frames);
-    let b = output::put_all(out, a, b" frames, ");
-    let c = output::put_natural(out, b, std::num::wrapping_sub_u64(all, state.inside));
-    let d = output::put_all(out, c, b" bytes outside frames\n");
-    output::flush(out, d);
+    let a = room(out, state.out);
+    let b = text_numerals::put_natural(out, a, state.frames);
+    let c = text_words::put(out, b, b" frames, ");
+    let d = text_numerals::put_natural(out, c, std::num::wrapping_sub_u64(all, state.inside));
+    let e = text_words::put(out, d, b" bytes outside frames\n");
+    print(out, e);
 }

@@ -1,6 +1,16 @@
-// The bytes and numbers that words spell.
+// Numbers in decimal digits and bytes in hexadecimal ones, read from a text and put into one.
+ghost use Prim.Native.Nat.{_+_, _*_, _/_, _≤_, _<_};
+ghost use mathlib.Core.Bool.{true};
+ghost use mathlib.Core.List.{_∷_, _++_};
+ghost use mathlib.Core.Path.{_≡_};
+ghost use lib.IntN.{natAbs};
+ghost use lib.ListN.{length, take, drop};
+ghost use lib.Seq.{paste};
+ghost use Rattle.text_words.specs.Words.{put, placeBehind};
+ghost use Rattle.text_numerals.specs.Decimal.{natural, byteOf, positive, negative, whole, decimal, wholeDecimal};
+ghost use Rattle.text_numerals.specs.Hexadecimal.{digit, glyph, pairs, bytesOf, hexCount, hexFilled, pairsOf, hexadecimal};
 
-// How many were read, or a natural number.
+// A natural number, or how many were read.
 pub enum Count {
     Is(usize),
     Bad,
@@ -16,120 +26,55 @@ pub enum Byte {
     Bad,
 }
 
-pub type Bytes = [u8; 400];
-
-pub type Numbers = [i64; 100];
-
-// The two buffers of a row that a record is made from.
-pub type Values = [i64; 96];
-
-pub type Present = [u8; 96];
-
 // The value of a lower case hexadecimal digit, 16 for another byte.
-fn digit(b: u8) -> u8 {
+fn digit(b: u8) -> usize
+    ensures { λ r. ⌜ r ≡ digit b ⌝ }
+{
     if b < b'0' {
         return 16;
     }
     if b <= b'9' {
-        return b - b'0';
+        return (b - b'0') as usize;
     }
     if b < b'a' {
         return 16;
     }
     if b <= b'f' {
-        return b - 87;
+        return (b - 87) as usize;
     }
     16
 }
 
-// The byte that two digits spell, 256 for none.
-fn byte_of(high: u8, low: u8) -> u16 {
-    if 16 <= high {
-        return 256;
-    }
-    if 16 <= low {
-        return 256;
-    }
-    (high as u16) * 16 + (low as u16)
-}
-
-// Byte k of what a word spells, 256 for none.
-fn byte_at(s: &[u8], k: usize) -> u16 {
-    if s.len() / 2 <= k {
-        return 256;
-    }
-    byte_of(digit(s[2 * k]), digit(s[2 * k + 1]))
-}
-
-// The bytes that a word spells, at most 400; `-` spells none.
-pub fn hex(s: &[u8], bytes: &mut Bytes) -> Count {
-    if s.len() == 0 {
-        return Count::Bad;
-    }
-    if text_words::same(s, b"-") {
-        return Count::Is(0);
-    }
-    if s.len() % 2 != 0 {
-        return Count::Bad;
-    }
-    if 800 < s.len() {
-        return Count::Bad;
-    }
-    hex_pairs(s, s.len() / 2, bytes)
-}
-
-fn hex_pairs(s: &[u8], n: usize, bytes: &mut Bytes) -> Count {
-    let mut k: usize = 0;
-    while k < n {
-        let b = byte_at(s, k);
-        if 255 < b {
-            return Count::Bad;
-        }
-        keep(bytes, k, b);
-        k += 1;
-    }
-    Count::Is(n)
-}
-
-fn keep(bytes: &mut Bytes, k: usize, b: u16) {
-    if k < 400 {
-        if b < 256 {
-            bytes[k] = b as u8;
-        }
-    }
-}
-
-// A natural number below 2^63 + 2 in decimal digits.
-pub fn natural(s: &[u8]) -> Count {
+// A natural number below 2^64 in decimal digits.
+pub fn natural(s: &[u8]) -> Count
+    ensures { λ r. ⌜ r ≡ natural (now (s .entry)) ⌝ }
+{
     if s.len() == 0 {
         return Count::Bad;
     }
     let mut n: usize = 0;
     let mut k: usize = 0;
     while k < s.len() {
-        let Count::Is(more) = longer(n, s[k]) else {
+        let d = digit(s[k]);
+        if 9 < d {
             return Count::Bad;
-        };
-        n = more;
+        }
+        if 1844674407370955161 < n {
+            return Count::Bad;
+        }
+        if 18446744073709551615 - n * 10 < d {
+            return Count::Bad;
+        }
+        n = n * 10 + d;
         k += 1;
     }
     Count::Is(n)
 }
 
-// A number with one digit more.
-fn longer(n: usize, b: u8) -> Count {
-    let d = digit(b);
-    if 9 < d {
-        return Count::Bad;
-    }
-    if 922337203685477580 < n {
-        return Count::Bad;
-    }
-    Count::Is(n * 10 + (d as usize))
-}
-
 // A natural number below 256 in decimal digits.
-pub fn small(s: &[u8]) -> Byte {
+pub fn small(s: &[u8]) -> Byte
+    ensures { λ r. ⌜ r ≡ byteOf (natural (now (s .entry))) ⌝ }
+{
     let Count::Is(n) = natural(s) else {
         return Byte::Bad;
     };
@@ -139,31 +84,37 @@ pub fn small(s: &[u8]) -> Byte {
     Byte::Bad
 }
 
-// A whole number in decimal digits, with `-` before a negative one.
-pub fn whole(s: &[u8]) -> Integer {
+// A whole number of 64 bits in decimal digits, with `-` before a negative one.
+pub fn whole(s: &[u8]) -> Integer
+    ensures { λ r. ⌜ r ≡ whole (now (s .entry)) ⌝ }
+{
     if s.len() == 0 {
         return Integer::Bad;
     }
-    if s[0] != b'-' {
-        let Count::Is(n) = natural(s) else {
-            return Integer::Bad;
-        };
-        return positive(n);
+    if s[0] == b'-' {
+        return negative(natural(text_words::behind(s, 1)));
     }
-    let Count::Is(n) = natural(text_words::behind(s, 1)) else {
-        return Integer::Bad;
-    };
-    negative(n)
+    positive(natural(s))
 }
 
-fn positive(n: usize) -> Integer {
+fn positive(count: Count) -> Integer
+    ensures { λ r. ⌜ r ≡ positive count ⌝ }
+{
+    let Count::Is(n) = count else {
+        return Integer::Bad;
+    };
     if n < 9223372036854775808 {
         return Integer::Is(n as i64);
     }
     Integer::Bad
 }
 
-fn negative(n: usize) -> Integer {
+fn negative(count: Count) -> Integer
+    ensures { λ r. ⌜ r ≡ negative count ⌝ }
+{
+    let Count::Is(n) = count else {
+        return Integer::Bad;
+    };
     if n == 0 {
         return Integer::Is(0);
     }
@@ -173,66 +124,175 @@ fn negative(n: usize) -> Integer {
     Integer::Bad
 }
 
-// The whole numbers that a line's words spell, at most 100.
-pub fn row(s: &[u8], numbers: &mut Numbers) -> Count {
-    let mut from: usize = 0;
-    let mut n: usize = 0;
-    while n < 100 {
-        if s.len() <= from {
-            return Count::Is(n);
+// The bytes that pairs of digits spell, at the front of a buffer, and their number; `-` spells none. Where there is no room for all, nothing is stored.
+pub fn hex(s: &[u8], bytes: &mut [u8]) -> Count
+    ensures answer { λ r. ⌜ r ≡ hexCount (now (s .entry)) (now (bytes .entry)) ⌝ }
+    ensures output { λ r. ⌜ now (bytes .exit) ≡ hexFilled (now (s .entry)) (now (bytes .entry)) ⌝ }
+{
+    if text_words::same(s, b"-") {
+        return Count::Is(0);
+    }
+    if s.len() == 0 {
+        return Count::Bad;
+    }
+    if bytes.len() < s.len() / 2 {
+        return Count::Bad;
+    }
+    if !pairs(s) {
+        return Count::Bad;
+    }
+    fill(s, bytes);
+    Count::Is(s.len() / 2)
+}
+
+// Whether a text is pairs of hexadecimal digits.
+fn pairs(s: &[u8]) -> bool
+    ensures { λ r. ⌜ r ≡ pairs (now (s .entry)) ⌝ }
+{
+    let mut k: usize = 0;
+    while k < s.len() {
+        if s.len() - k == 1 {
+            return false;
         }
-        let Integer::Is(v) = whole(text_words::word(text_words::behind(s, from))) else {
-            return Count::Bad;
-        };
-        numbers[n] = v;
-        from = text_words::next(s, from);
-        n += 1;
+        if 16 <= digit(s[k]) {
+            return false;
+        }
+        if 16 <= digit(s[k + 1]) {
+            return false;
+        }
+        k += 2;
     }
-    if s.len() <= from {
-        return Count::Is(n);
+    true
+}
+
+fn fill(s: &[u8], bytes: &mut [u8])
+    requires { ⌜ pairs (now s) ≡ true ⌝ }
+    requires { ⌜ length (now s) / 2 ≤ length (now bytes) ⌝ }
+    ensures { λ _. ⌜ now (bytes .exit) ≡ bytesOf (now (s .entry)) ++ drop (length (now (s .entry)) / 2) (now (bytes .entry)) ⌝ }
+{
+    let n = s.len() / 2;
+    let mut k: usize = 0;
+    while k < n {
+        bytes[k] = byte_of(digit(s[2 * k]), digit(s[2 * k + 1]));
+        k += 1;
     }
-    Count::Bad
+}
+
+fn byte_of(high: usize, low: usize) -> u8
+    requires { ⌜ high < 16 ⌝ }
+    requires { ⌜ low < 16 ⌝ }
+    ensures { λ r. ⌜ r ≡ high * 16 + low ⌝ }
+{
+    (high * 16 + low) as u8
 }
 
 // The first `n` numbers, all where there are fewer.
-pub fn first(row: &[i64], n: usize) -> &[i64] {
+pub fn first(row: &[i64], n: usize) -> &[i64]
+    ensures { λ r. ⌜ now r ≡ take n (now (row .entry)) ⌝ }
+{
     if n <= row.len() {
         return &row[0..n];
     }
     row
 }
 
-// A row that a line's words spell, its presence bytes and then its values, into the first places of both buffers: how many, of which the first 96 are stored.
-pub fn places(s: &[u8], values: &mut Values, present: &mut Present) -> Count {
-    let mut bytes = [0u8; 400];
-    let Count::Is(n) = hex(text_words::word(s), &mut bytes) else {
-        return Count::Bad;
-    };
-    let mut numbers = [0i64; 100];
-    let Count::Is(m) = row(text_words::rest(s), &mut numbers) else {
-        return Count::Bad;
-    };
-    if n != m {
-        return Count::Bad;
+// A number's decimal digits at the end of `text`, behind the place that is the answer.
+fn digits(n: u64, text: &mut [u8]) -> usize
+    requires { ⌜ length (now text) ≡ 21 ⌝ }
+    ensures before { λ r. ⌜ r < 21 ⌝ }
+    ensures output { λ r. ⌜ drop (r + 1) (now (text .exit)) ≡ decimal n ⌝ }
+{
+    let mut rest = n;
+    let mut k: usize = 20;
+    while k > 0 {
+        text[k] = 48 + (rest % 10) as u8;
+        k -= 1;
+        if rest < 10 {
+            return k;
+        }
+        rest = rest / 10;
     }
-    keep_places(&numbers, &bytes, n, values, present);
-    Count::Is(n)
+    k
 }
 
-// The first `n` places, at most 96.
-fn keep_places(
-    numbers: &Numbers,
-    bytes: &Bytes,
-    n: usize,
-    values: &mut Values,
-    present: &mut Present,
-) {
+// Puts a natural number's digits at a place, and answers the place behind them (`text_words::put`).
+pub fn put_natural(out: &mut [u8], at: usize, n: u64) -> usize
+    ensures output { λ r. ⌜ now (out .exit) ≡ put (now (out .entry)) at (decimal n) ⌝ }
+    ensures answer { λ r. ⌜ r ≡ placeBehind (now (out .entry)) at (decimal n) ⌝ }
+{
+    let mut text = [0u8; 21];
+    let from = digits(n, &mut text) + 1;
+    text_words::put(out, at, &text[from..])
+}
+
+// The same of a whole number, with `-` before a negative one.
+pub fn put_whole(out: &mut [u8], at: usize, n: i64) -> usize
+    ensures output { λ r. ⌜ now (out .exit) ≡ put (now (out .entry)) at (wholeDecimal n) ⌝ }
+    ensures answer { λ r. ⌜ r ≡ placeBehind (now (out .entry)) at (wholeDecimal n) ⌝ }
+{
+    if n < 0 {
+        return put_negative(out, at, magnitude(n));
+    }
+    put_natural(out, at, magnitude(n))
+}
+
+// `-` and a number's digits.
+fn put_negative(out: &mut [u8], at: usize, n: u64) -> usize
+    ensures output { λ r. ⌜ now (out .exit) ≡ put (now (out .entry)) at (45 ∷ decimal n) ⌝ }
+    ensures answer { λ r. ⌜ r ≡ placeBehind (now (out .entry)) at (45 ∷ decimal n) ⌝ }
+{
+    let mut text = [0u8; 21];
+    let k = digits(n, &mut text);
+    text[k] = b'-';
+    text_words::put(out, at, &text[k..])
+}
+
+fn magnitude(n: i64) -> u64
+    ensures { λ r. ⌜ r ≡ natAbs n ⌝ }
+{
+    if n < 0 {
+        return ((-1 - n) as u64) + 1;
+    }
+    n as u64
+}
+
+// Puts two hexadecimal digits a byte at a place, `-` for no bytes, and answers the place behind them (`text_words::put`).
+pub fn put_hex(out: &mut [u8], at: usize, s: &[u8]) -> usize
+    ensures output { λ r. ⌜ now (out .exit) ≡ put (now (out .entry)) at (hexadecimal (now (s .entry))) ⌝ }
+    ensures answer { λ r. ⌜ r ≡ placeBehind (now (out .entry)) at (hexadecimal (now (s .entry))) ⌝ }
+{
+    if s.len() == 0 {
+        return text_words::put(out, at, b"-");
+    }
+    if out.len() < at {
+        return at;
+    }
+    if (out.len() - at) / 2 < s.len() {
+        return at;
+    }
+    spell(out, at, s);
+    at + 2 * s.len()
+}
+
+fn spell(out: &mut [u8], at: usize, s: &[u8])
+    requires { ⌜ at + 2 * length (now s) ≤ length (now out) ⌝ }
+    ensures { λ _. ⌜ now (out .exit) ≡ paste (now (out .entry)) at (pairsOf (now (s .entry))) (2 * length (now (s .entry))) ⌝ }
+{
     let mut k: usize = 0;
-    while k < 96 {
-        if k < n {
-            values[k] = numbers[k];
-            present[k] = bytes[k];
-        }
+    while k < s.len() {
+        out[at + 2 * k] = glyph(s[k] / 16);
+        out[at + 2 * k + 1] = glyph(s[k] % 16);
         k += 1;
     }
+}
+
+// The digit of a number below 16.
+fn glyph(n: u8) -> u8
+    requires { ⌜ n < 16 ⌝ }
+    ensures { λ r. ⌜ r ≡ glyph n ⌝ }
+{
+    if n < 10 {
+        return 48 + n;
+    }
+    87 + n
 }

@@ -9,7 +9,7 @@ use Rattle.text_words.proofs.word.Tie as tie
 
 returns : tie.Need-returns
 unfolding word
-returns c = c .before2 .ensures ∙ ap (λ n. take n (c .before .before .before .args .s .now)) (c .before .space .ensures)
+returns c = c .before2 .ensures ∙ ap (λ n. take n (c .before .before .before .args .s .now)) (c .before .find .ensures)
 
 pub word-spec : {M : Type 1} → statement M
 word-spec = tie.close (tie.spec (λ c κs. search needs) (λ c κs. search needs) returns)
