@@ -53,9 +53,8 @@ pub fn kinds_case(name: &str, bytes: &[u8]) -> Case {
 /// The refusals of the record readers of the six kinds, and the bytes written from the record.
 fn answer(bytes: &[u8]) -> String {
     let kinds: Vec<String> = (0..KINDS.len()).map(|kind| number_of(&read_kind(bytes, kind)).to_string()).collect();
-    let written = read(bytes).map_or(Vec::new(), |message| {
-        write_record(&record_of(&message), ROOM).expect("an accepted record is written")
-    });
+    let written = read(bytes)
+        .map_or(Vec::new(), |message| write_record(&record_of(&message), ROOM).expect("an accepted record is written"));
     format!("{} : {}", kinds.join(" "), hex(&written))
 }
 

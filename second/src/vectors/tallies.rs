@@ -40,7 +40,15 @@ fn at_the_middle(name: &str, tally: &Report) -> Case {
 /// A tally of some points answered with one count over and over.
 fn of_points(answered: u64, count: i64) -> Report {
     let sum = count * answered as i64;
-    Report { answered, smallest: count, greatest: count, smallest_place: 1, greatest_place: 1, sum, ..Report::default() }
+    Report {
+        answered,
+        smallest: count,
+        greatest: count,
+        smallest_place: 1,
+        greatest_place: 1,
+        sum,
+        ..Report::default()
+    }
 }
 
 /// A tally from all zeros through grid K's worked points, and through them backwards.
