@@ -188,7 +188,7 @@ fn parts_of(at: ffi::Shifts) -> [Part; COMPONENTS] {
 }
 
 /// Compares the shifts of one message at one position.
-fn compare_at(bytes: Vec<u8>, [north, east]: [i64; 2]) -> Compared {
+pub fn compare_at(bytes: Vec<u8>, [north, east]: [i64; 2]) -> Compared {
     let bytes = bytes.into_boxed_slice();
     let second = shifts(&bytes, north, east).map(|part| Part {
         refusal: number_of(&part.count),
