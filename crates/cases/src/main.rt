@@ -31,8 +31,8 @@ fn main() {
 fn answer_all(window: &mut [u8; 4096], out: &mut Out) {
     let mut held = Held { from: 0, end: 0 };
     let mut at: usize = 0;
-    let mut turns: usize = LINES;
-    while turns > 0 {
+    let mut rounds: usize = LINES;
+    while rounds > 0 {
         let got = input::next(window, held);
         if got.ended {
             output::write(out, at);
@@ -40,7 +40,7 @@ fn answer_all(window: &mut [u8; 4096], out: &mut Out) {
         }
         held = got.held;
         at = answer(window, got.from, got.length, out, at);
-        turns -= 1;
+        rounds -= 1;
     }
     output::write(out, at);
 }

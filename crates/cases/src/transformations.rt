@@ -6,7 +6,7 @@ use record_transformations::Helmert;
 use record_transformations::MolodenskiBadekas;
 use record_transformations::Name;
 use record_transformations::Parameters;
-use record_transformations::Point;
+use record_transformations::RotationPoint;
 use record_transformations::System;
 
 // A name: its length and its characters in use.
@@ -53,7 +53,7 @@ fn put_parameters(r: Parameters, out: &mut Out, at: usize) -> usize {
     super::fields::put_reading(b" 162=", ds, out, to)
 }
 
-fn put_point(r: Point, out: &mut Out, at: usize) -> usize {
+fn put_point(r: RotationPoint, out: &mut Out, at: usize) -> usize {
     let x = r.x;
     let y = r.y;
     let z = r.z;

@@ -5,10 +5,10 @@ use Rattle.cases.proofs.answer_all.Statement.{statement}
 use Rattle.cases.proofs.answer_all.Tie as tie
 
 abbrev Inv-loop : tie.InvT-loop
-Inv-loop window₀ out₀ held₀ at₀ turns₀ window out held at turns = Unit {0}
+Inv-loop window₀ out₀ held₀ at₀ rounds₀ window out held at rounds = Unit {0}
 
 abbrev μ-loop : tie.MeasureT-loop
-μ-loop window₀ out₀ held₀ at₀ turns₀ window out held at turns = turns
+μ-loop window₀ out₀ held₀ at₀ rounds₀ window out held at rounds = rounds
 
 pub answer-all-spec : {M : Type 1} → statement M
 answer-all-spec =
