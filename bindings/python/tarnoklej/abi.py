@@ -46,6 +46,9 @@ STRUCTS: Dict[str, Tuple[Tuple[str, Any], ...]] = {
         ("north_refusal", U8),
         ("east_refusal", U8),
         ("height_refusal", U8),
+        ("north_unit", U8),
+        ("east_unit", U8),
+        ("height_unit", U8),
     ),
 }
 

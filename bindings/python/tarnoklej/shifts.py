@@ -28,6 +28,8 @@ class Component(enum.IntEnum):
 
 ARC_SECONDS = "arc seconds"
 METRES = "m"
+# The units by their numbers in an answer, where 0 is that of a refused part.
+_UNITS = {1: ARC_SECONDS, 2: METRES}
 # The decimal places of a count in each unit.
 _PLACES = {ARC_SECONDS: 5, METRES: 4}
 
@@ -130,18 +132,17 @@ def shifts_at(message: AnyMessage, position: AnyPosition) -> Shifts:
     """
     data = to_bytes(message)
     at = library().tarnoklej_shifts_at(data, len(data), *position_numbers(position))
-    horizontal = ARC_SECONDS if library().tarnoklej_read(data, len(data)).number == 1023 else METRES
     parts = (
-        _part(at.north_refusal, at.north_count, at.north, horizontal),
-        _part(at.east_refusal, at.east_count, at.east, horizontal),
-        _part(at.height_refusal, at.height_count, at.height, METRES),
+        _part(at.north_refusal, at.north_count, at.north, at.north_unit),
+        _part(at.east_refusal, at.east_count, at.east, at.east_unit),
+        _part(at.height_refusal, at.height_count, at.height, at.height_unit),
     )
     refusals = (at.north_refusal, at.east_refusal, at.height_refusal)
     return Shifts(parts, tuple(Refusal(number) if number else None for number in refusals))
 
 
-def _part(refusal: int, count: int, value: float, unit: str) -> Optional[Shift]:
-    return None if refusal else Shift(count, value, unit)
+def _part(refusal: int, count: int, value: float, unit: int) -> Optional[Shift]:
+    return None if refusal else Shift(count, value, _UNITS[unit])
 
 
 def shift_row(message: AnyMessage, component: int, start: AnyPosition, step: int, count: int) -> List[int]:

@@ -48,6 +48,12 @@ pub struct Shifts {
     pub east_refusal: u8,
     /// The refusal number of the shift of the height, 0 where it is answered.
     pub height_refusal: u8,
+    /// The unit of the shift north-south: 0 refused, 1 arc seconds, 2 metres.
+    pub north_unit: u8,
+    /// The unit of the shift east-west: 0 refused, 1 arc seconds, 2 metres.
+    pub east_unit: u8,
+    /// The unit of the shift of the height: 0 refused, 1 arc seconds, 2 metres.
+    pub height_unit: u8,
 }
 
 /// The answer of `tarnoklej_find`.

@@ -1,7 +1,7 @@
 //! Shifts of a grid message at positions.
 
 use crate::units::{Quantity, Resolution, Unit};
-use crate::{ffi, message_number, Component, Position, Refusal};
+use crate::{ffi, Component, Position, Refusal};
 use std::fmt;
 
 /// The places of the longest row of shifts.
@@ -65,14 +65,6 @@ impl Shifts {
     }
 }
 
-/// The unit of a component's shifts from a message, or metres where the message gives none.
-fn unit_of(message: &[u8], component: Component) -> Unit {
-    match (message_number(message), component) {
-        (Some(1023), Component::NorthSouth | Component::EastWest) => Unit::ArcSecond,
-        _ => Unit::Metre,
-    }
-}
-
 /// Gives the shifts north-south, east-west and of the height at a position from a message 1023 or 1024.
 ///
 /// Each part is answered or refused for itself. Interpolation is bilinear: a count is the mean and the whole number nearest to
@@ -99,14 +91,15 @@ fn unit_of(message: &[u8], component: Component) -> Unit {
 /// ```
 pub fn shifts_at(message: &[u8], position: Position) -> Shifts {
     let at = ffi::shifts_at(message, position.north, position.east);
-    let part = |refusal: u8, count: i64, value: f64, component: Component| {
+    let part = |refusal: u8, count: i64, value: f64, unit: u8| {
         Refusal::unless_done(refusal)?;
-        Ok(Shift { value, unit: unit_of(message, component), count })
+        let unit = Unit::of_shift(unit).expect("an answered part has a unit");
+        Ok(Shift { value, unit, count })
     };
     Shifts {
-        north: part(at.north_refusal, at.north_count, at.north, Component::NorthSouth),
-        east: part(at.east_refusal, at.east_count, at.east, Component::EastWest),
-        height: part(at.height_refusal, at.height_count, at.height, Component::Height),
+        north: part(at.north_refusal, at.north_count, at.north, at.north_unit),
+        east: part(at.east_refusal, at.east_count, at.east, at.east_unit),
+        height: part(at.height_refusal, at.height_count, at.height, at.height_unit),
     }
 }
 

@@ -120,6 +120,7 @@ fn a_refused_part_reads_zero() {
     assert_eq!([at.north, at.east, at.height].map(f64::to_bits), [0, 0, 46.9285f64.to_bits()]);
     assert_eq!([at.north_count, at.east_count, at.height_count], [0, 0, 469_285]);
     assert_eq!([at.north_refusal, at.east_refusal, at.height_refusal], [11, 11, 0]);
+    assert_eq!([at.north_unit, at.east_unit, at.height_unit], [0, 0, 2]);
 }
 
 #[test]

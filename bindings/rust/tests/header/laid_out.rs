@@ -48,7 +48,10 @@ pub fn layouts() -> Vec<Layout<'static>> {
             height_count,
             north_refusal,
             east_refusal,
-            height_refusal
+            height_refusal,
+            north_unit,
+            east_unit,
+            height_unit
         }),
         layout!(Written { refusal, length }),
     ]
