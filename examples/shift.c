@@ -34,11 +34,11 @@ static int parse_steps(const char *text, double steps_in_one, int64_t *steps)
 }
 
 /* Prints the line of one part. */
-static void print_part(const char *name, uint8_t refusal, int64_t count, double shift, int in_seconds)
+static void print_part(const char *name, uint8_t refusal, int64_t count, double shift, uint8_t unit)
 {
     if (refusal != TARNOKLEJ_DONE)
         printf("%s refused %s\n", name, tarnoklej_refusal_name(refusal));
-    else if (in_seconds)
+    else if (unit == TARNOKLEJ_ARC_SECONDS)
         printf("%s %lld %.5f arc seconds\n", name, (long long)count, shift);
     else
         printf("%s %lld %.4f m\n", name, (long long)count, shift);
@@ -64,8 +64,8 @@ int main(int argc, char **argv)
         return 2;
     }
     tarnoklej_shifts at = tarnoklej_shifts_at(message, (size_t)length, north, east);
-    print_part("north-south", at.north_refusal, at.north_count, at.north, degrees);
-    print_part("east-west", at.east_refusal, at.east_count, at.east, degrees);
-    print_part("height", at.height_refusal, at.height_count, at.height, 0);
+    print_part("north-south", at.north_refusal, at.north_count, at.north, at.north_unit);
+    print_part("east-west", at.east_refusal, at.east_count, at.east, at.east_unit);
+    print_part("height", at.height_refusal, at.height_count, at.height, at.height_unit);
     return 0;
 }

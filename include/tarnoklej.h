@@ -115,13 +115,21 @@ typedef struct {
 } tarnoklej_report;
 typedef struct { uint8_t refusal; size_t place; } tarnoklej_checked; /* place: of the first bad point, with CLAIM */
 
-/* The shifts at a position: three parts, each a shift in arc seconds or metres, its count and its refusal number.
- * A refused part reads 0.0 and count 0.
+/* The unit of a shift. */
+enum {
+    TARNOKLEJ_NO_UNIT = 0,     /* a refused part */
+    TARNOKLEJ_ARC_SECONDS = 1, /* components 0 and 1 of a 1023 */
+    TARNOKLEJ_METRES = 2       /* component 2, and all three of a 1024 */
+};
+
+/* The shifts at a position: three parts, each a shift in arc seconds or metres, its count, its refusal number and its unit.
+ * A refused part reads 0.0, count 0 and unit 0.
  */
 typedef struct {
     double north, east, height;
     int64_t north_count, east_count, height_count;
     uint8_t north_refusal, east_refusal, height_refusal;
+    uint8_t north_unit, east_unit, height_unit;
 } tarnoklej_shifts;
 
 /* Gives the number (DF002), the length in bytes and the system identification number (DF147) of a message
@@ -156,7 +164,7 @@ tarnoklej_written tarnoklej_write_fields(const int64_t *values, size_t values_co
  * interpolation: a count is the mean and the whole number nearest to the exact weighted mean of the cell's nodes, halves
  * away from zero. The shift is that count divided once, by 100,000 for arc seconds or by 10,000 for metres: north and
  * east are arc seconds of a 1023 and metres of a 1024, height is metres (see the components above).
- * Each part has its own refusal number, and a refused part reads 0.0 and count 0.
+ * Each part has its own refusal number, and a refused part reads 0.0, count 0 and unit 0.
  * A position is in steps of 0.0001 arc second (1023) or 1 mm (1024), north and east positive. It is given in the system
  * of the grid: for a 1023 after the transformation of 1021 or 1022, for a 1024 after the projection (D13 of
  * docs/DECISIONS.md). The call can't tell in which system a position was given.

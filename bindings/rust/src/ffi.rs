@@ -1,4 +1,6 @@
-//! The declarations of include/tarnoklej.h as they stand there.
+//! The declarations of include/tarnoklej.h as they stand there, and the same calls over slices.
+//!
+//! Here alone stands unsafe code. The tests hold every struct and every function to the header.
 
 /// The answer of `tarnoklej_read`.
 #[repr(C)]
@@ -46,6 +48,12 @@ pub struct Shifts {
     pub east_refusal: u8,
     /// The refusal number of the shift of the height, 0 where it is answered.
     pub height_refusal: u8,
+    /// The unit of the shift north-south: 0 refused, 1 arc seconds, 2 metres.
+    pub north_unit: u8,
+    /// The unit of the shift east-west: 0 refused, 1 arc seconds, 2 metres.
+    pub east_unit: u8,
+    /// The unit of the shift of the height: 0 refused, 1 arc seconds, 2 metres.
+    pub height_unit: u8,
 }
 
 /// The answer of `tarnoklej_find`.
@@ -231,4 +239,133 @@ extern "C" {
     ) -> Written;
     /// Checks a file of sample answers.
     pub fn tarnoklej_check_samples(file: *const u8, size: usize) -> Checked;
+}
+
+// The calls over slices. A slice's pointer is never null and its length is its memory's, and a slice lent for writing
+// overlaps no other: that is all that the header asks of a caller, so each call below is sound.
+
+/// See [`tarnoklej_read`].
+pub(crate) fn read(message: &[u8]) -> Header {
+    // SAFETY: see above.
+    unsafe { tarnoklej_read(message.as_ptr(), message.len()) }
+}
+
+/// See [`tarnoklej_read_fields`].
+pub(crate) fn read_fields(message: &[u8], values: &mut [i64], present: &mut [u8]) -> u8 {
+    let (values_room, present_room) = (values.len(), present.len());
+    let (values, present) = (values.as_mut_ptr(), present.as_mut_ptr());
+    // SAFETY: see above.
+    unsafe { tarnoklej_read_fields(message.as_ptr(), message.len(), values, values_room, present, present_room) }
+}
+
+/// See [`tarnoklej_write_fields`].
+pub(crate) fn write_fields(values: &[i64], present: &[u8], out: &mut [u8]) -> Written {
+    let (out, room) = (out.as_mut_ptr(), out.len());
+    // SAFETY: see above.
+    unsafe { tarnoklej_write_fields(values.as_ptr(), values.len(), present.as_ptr(), present.len(), out, room) }
+}
+
+/// See [`tarnoklej_shifts_at`].
+pub(crate) fn shifts_at(message: &[u8], north: i64, east: i64) -> Shifts {
+    // SAFETY: see above.
+    unsafe { tarnoklej_shifts_at(message.as_ptr(), message.len(), north, east) }
+}
+
+/// See [`tarnoklej_shift_row`]; every place of the row is asked for.
+pub(crate) fn shift_row(message: &[u8], component: u8, north: i64, east: i64, step: i64, row: &mut [i64]) -> u8 {
+    let (row, count) = (row.as_mut_ptr(), row.len());
+    // SAFETY: see above.
+    unsafe { tarnoklej_shift_row(message.as_ptr(), message.len(), component, north, east, step, count, row, count) }
+}
+
+/// See [`tarnoklej_find_frame`].
+pub(crate) fn find_frame(bytes: &[u8], from: usize) -> Frame {
+    // SAFETY: see above.
+    unsafe { tarnoklej_find_frame(bytes.as_ptr(), bytes.len(), from) }
+}
+
+/// See [`tarnoklej_write_frame`].
+pub(crate) fn write_frame(message: &[u8], out: &mut [u8]) -> Written {
+    // SAFETY: see above.
+    unsafe { tarnoklej_write_frame(message.as_ptr(), message.len(), out.as_mut_ptr(), out.len()) }
+}
+
+/// See [`tarnoklej_index_agrees`].
+pub(crate) fn index_agrees(table: &[u8], index: &[u8]) -> u8 {
+    // SAFETY: see above.
+    unsafe { tarnoklej_index_agrees(table.as_ptr(), table.len(), index.as_ptr(), index.len()) }
+}
+
+/// See [`tarnoklej_index_write`].
+pub(crate) fn index_write(table: &[u8], index: &mut [u8]) -> u8 {
+    // SAFETY: see above.
+    unsafe { tarnoklej_index_write(table.as_ptr(), table.len(), index.as_mut_ptr(), index.len()) }
+}
+
+/// See [`tarnoklej_store`].
+pub(crate) fn store(table: &mut [u8], index: &mut [u8], owner: u8, message: &[u8]) -> u8 {
+    let (size, index_size) = (table.len(), index.len());
+    let (table, index) = (table.as_mut_ptr(), index.as_mut_ptr());
+    // SAFETY: see above.
+    unsafe { tarnoklej_store(table, size, index, index_size, owner, message.as_ptr(), message.len()) }
+}
+
+/// See [`tarnoklej_find`].
+pub(crate) fn find(table: &[u8], index: &[u8], owner: u8, sin: u8, group: u8) -> Found {
+    // SAFETY: see above.
+    unsafe { tarnoklej_find(table.as_ptr(), table.len(), index.as_ptr(), index.len(), owner, sin, group) }
+}
+
+/// See [`tarnoklej_remove`].
+pub(crate) fn remove(table: &mut [u8], index: &mut [u8], owner: u8, sin: u8, group: u8) -> u8 {
+    // SAFETY: see above.
+    unsafe { tarnoklej_remove(table.as_mut_ptr(), table.len(), index.as_mut_ptr(), index.len(), owner, sin, group) }
+}
+
+/// See [`tarnoklej_datum_step`].
+pub(crate) fn datum_step(message: &[u8], x: i64, y: i64, z: i64) -> Position {
+    // SAFETY: see above.
+    unsafe { tarnoklej_datum_step(message.as_ptr(), message.len(), x, y, z) }
+}
+
+/// See [`tarnoklej_write_heights`].
+pub(crate) fn write_heights(values: &[i64], present: &[u8], wanted: &[i64], out: &mut [u8]) -> Written {
+    let (values_count, present_count, wanted_count) = (values.len(), present.len(), wanted.len());
+    let (values, present, wanted) = (values.as_ptr(), present.as_ptr(), wanted.as_ptr());
+    let (out, room) = (out.as_mut_ptr(), out.len());
+    // SAFETY: see above.
+    unsafe { tarnoklej_write_heights(values, values_count, present, present_count, wanted, wanted_count, out, room) }
+}
+
+/// See [`tarnoklej_report_points`].
+pub(crate) fn report_points(message: &[u8], component: u8, north: &[i64], east: &[i64]) -> Report {
+    let (north_count, east_count) = (north.len(), east.len());
+    let (north, east) = (north.as_ptr(), east.as_ptr());
+    // SAFETY: see above.
+    unsafe { tarnoklej_report_points(message.as_ptr(), message.len(), component, north, north_count, east, east_count) }
+}
+
+/// See [`tarnoklej_write_samples`].
+pub(crate) fn write_samples(message: &[u8], components: &[u8], north: &[i64], east: &[i64], out: &mut [u8]) -> Written {
+    // SAFETY: see above.
+    unsafe {
+        tarnoklej_write_samples(
+            message.as_ptr(),
+            message.len(),
+            components.as_ptr(),
+            components.len(),
+            north.as_ptr(),
+            north.len(),
+            east.as_ptr(),
+            east.len(),
+            out.as_mut_ptr(),
+            out.len(),
+        )
+    }
+}
+
+/// See [`tarnoklej_check_samples`].
+pub(crate) fn check_samples(file: &[u8]) -> Checked {
+    // SAFETY: see above.
+    unsafe { tarnoklej_check_samples(file.as_ptr(), file.len()) }
 }

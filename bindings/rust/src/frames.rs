@@ -1,6 +1,8 @@
 //! Transport frames: byte D3, six zero bits, a ten-bit length, the message, and the CRC-24Q of all these.
 
-use crate::{done, ffi, Refusal};
+use crate::rows::{length_of, written};
+use crate::{ffi, Refusal};
+use std::fmt;
 use std::iter::FusedIterator;
 
 /// The bytes of a frame before its message: D3, six zero bits and the length.
@@ -45,6 +47,18 @@ impl Missing {
     }
 }
 
+impl fmt::Display for Missing {
+    /// The refusal, with the place of an unfinished frame.
+    fn fmt(&self, f: &mut fmt::Formatter) -> fmt::Result {
+        match self {
+            Missing::Need(at) => write!(f, "{}, at byte {at}", Refusal::Need),
+            Missing::NoFrame => Refusal::NoFrame.fmt(f),
+        }
+    }
+}
+
+impl std::error::Error for Missing {}
+
 /// Gives the first frame at or after a place.
 ///
 /// An unfinished frame that comes before it, or where there is none, is given as [`Missing::Need`]: a D3 that is the last
@@ -52,10 +66,10 @@ impl Missing {
 /// [`Missing::NoFrame`].
 ///
 /// ```
-/// use tarnoklej::{find_frame, write_frame, Frame, Missing};
+/// use tarnoklej::{find_frame, write_frame_into, Frame, Missing};
 ///
 /// let mut bytes = [0; 12];
-/// write_frame(&[0x3e, 0xd0], &mut bytes[2..10])?;
+/// write_frame_into(&[0x3e, 0xd0], &mut bytes[2..10])?;
 /// assert_eq!(find_frame(&bytes, 0), Ok(Frame { at: 2, message: &[0x3e, 0xd0] }));
 /// assert_eq!(find_frame(&bytes[..9], 0), Err(Missing::Need(2)));
 /// assert_eq!(find_frame(&bytes, 3), Err(Missing::NoFrame));
@@ -63,9 +77,8 @@ impl Missing {
 /// # Ok::<(), tarnoklej::Refusal>(())
 /// ```
 pub fn find_frame(bytes: &[u8], from: usize) -> Result<Frame<'_>, Missing> {
-    // SAFETY: the pointer and the length are those of a slice, which the call only reads.
-    let found = unsafe { ffi::tarnoklej_find_frame(bytes.as_ptr(), bytes.len(), from) };
-    match done(found.refusal) {
+    let found = ffi::find_frame(bytes, from);
+    match Refusal::unless_done(found.refusal) {
         Ok(()) => {
             let first = found.at + FRAME_HEAD;
             Ok(Frame { at: found.at, message: &bytes[first..first + found.length] })
@@ -75,24 +88,36 @@ pub fn find_frame(bytes: &[u8], from: usize) -> Result<Frame<'_>, Missing> {
     }
 }
 
-/// Writes the frame of a message of any number into the first bytes of a buffer, keeps the rest, and gives its length.
+/// Gives the frame of a message of any number, which is not looked at.
 ///
-/// Refusals: LENGTH above 1,023 bytes, ROOM; with a refusal the buffer stays as it was.
+/// Refusals: LENGTH above [`MOST_FRAMED`] bytes.
 ///
 /// ```
 /// use tarnoklej::{write_frame, Refusal};
 ///
-/// let mut out = [0xff; 7];
-/// assert_eq!(write_frame(&[], &mut out), Ok(6));
-/// assert_eq!(out, [0xd3, 0, 0, 0x47, 0xea, 0x4b, 0xff]);
-/// assert_eq!(write_frame(&[0x3e, 0xd0], &mut out), Err(Refusal::Room));
-/// assert_eq!(write_frame(&[0; 1_024], &mut out), Err(Refusal::Length));
+/// assert_eq!(write_frame(&[]), Ok(vec![0xd3, 0, 0, 0x47, 0xea, 0x4b]));
+/// assert_eq!(write_frame(&[0; 1_024]), Err(Refusal::Length));
 /// ```
-pub fn write_frame(message: &[u8], out: &mut [u8]) -> Result<usize, Refusal> {
-    // SAFETY: both pointers and lengths are those of slices, and a slice lent for writing overlaps no other.
-    let written = unsafe { ffi::tarnoklej_write_frame(message.as_ptr(), message.len(), out.as_mut_ptr(), out.len()) };
-    done(written.refusal)?;
-    Ok(written.length)
+pub fn write_frame(message: &[u8]) -> Result<Vec<u8>, Refusal> {
+    let mut out = vec![0; FRAME_HEAD + message.len().min(MOST_FRAMED) + FRAME_TAIL];
+    let length = write_frame_into(message, &mut out);
+    written(out, length)
+}
+
+/// Writes the frame of a message of any number into the first bytes of a buffer, keeps the rest, and gives its length.
+///
+/// Refusals: LENGTH above [`MOST_FRAMED`] bytes, ROOM; with a refusal the buffer stays as it was.
+///
+/// ```
+/// use tarnoklej::{write_frame_into, Refusal};
+///
+/// let mut out = [0xff; 7];
+/// assert_eq!(write_frame_into(&[], &mut out), Ok(6));
+/// assert_eq!(out, [0xd3, 0, 0, 0x47, 0xea, 0x4b, 0xff]);
+/// assert_eq!(write_frame_into(&[0x3e, 0xd0], &mut out), Err(Refusal::Room));
+/// ```
+pub fn write_frame_into(message: &[u8], out: &mut [u8]) -> Result<usize, Refusal> {
+    length_of(ffi::write_frame(message, out))
 }
 
 /// The frames of a buffer in order, each searched for from the last one's end.
@@ -105,17 +130,15 @@ pub struct Frames<'buffer> {
 
 /// Gives the frames of a buffer from a place on; at its end the iterator says in [`Frames::need`] what is needed.
 ///
+/// For bytes that arrive one after another there is [`FrameStream`](crate::FrameStream).
+///
 /// ```
-/// use tarnoklej::{frames, write_frame};
+/// use tarnoklej::{frames, message_number, write_frame};
 ///
-/// let mut bytes = [0; 20];
-/// write_frame(&[0x3e, 0xd0], &mut bytes)?;
-/// write_frame(&[0x3f, 0xf0, 0x10], &mut bytes[8..])?;
-/// bytes[17] = 0xd3;
-///
+/// let bytes = [write_frame(&[0x3e, 0xd0])?, write_frame(&[0x3f, 0xf0, 0x10])?, vec![0xd3, 0, 0]].concat();
 /// let mut found = frames(&bytes, 0);
-/// let numbers: Vec<u16> = found.by_ref().map(|f| u16::from(f.message[0]) << 4 | u16::from(f.message[1]) >> 4).collect();
-/// assert_eq!(numbers, [1005, 1023]);
+/// let numbers: Vec<Option<u16>> = found.by_ref().map(|frame| message_number(frame.message)).collect();
+/// assert_eq!(numbers, [Some(1005), Some(1023)]);
 /// // The bytes from place 17 on are kept until more have arrived.
 /// assert_eq!(found.need(), Some(17));
 /// // Where the stream has ended, the search goes on one byte behind.

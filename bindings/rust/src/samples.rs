@@ -1,6 +1,8 @@
 //! A vendor's sample answers: writing a file of them, and checking one.
 
-use crate::{done, ffi, Refusal};
+use crate::rows::{length_of, written};
+use crate::{ffi, Component, Position, Refusal};
+use std::fmt;
 
 /// The bytes of a file of sample answers before its message.
 pub const SAMPLES_HEAD: usize = 3;
@@ -9,19 +11,17 @@ pub const SAMPLE_SIZE: usize = 28;
 /// The points of a file of sample answers at most.
 pub const MOST_SAMPLES: usize = 1_000;
 
-/// A component asked for at a position, as [`crate::shifts_at`] takes it.
-#[derive(Clone, Copy, PartialEq, Eq, Debug)]
+/// A component asked for at a position.
+#[derive(Clone, Copy, PartialEq, Eq, Hash, Debug)]
 pub struct Sample {
-    /// The component: [`crate::NORTH_SOUTH`], [`crate::EAST_WEST`] or [`crate::HEIGHT`].
-    pub component: u8,
-    /// The position north, in steps.
-    pub north: i64,
-    /// The position east, in steps.
-    pub east: i64,
+    /// The component.
+    pub component: Component,
+    /// The position.
+    pub position: Position,
 }
 
 /// Why a file of sample answers is not accepted.
-#[derive(Clone, Copy, PartialEq, Eq, Debug)]
+#[derive(Clone, Copy, PartialEq, Eq, Hash, Debug)]
 pub enum NotAccepted {
     /// The file is of another shape (LAYOUT), or its message is refused.
     Refused(Refusal),
@@ -39,59 +39,59 @@ impl NotAccepted {
     }
 }
 
-/// Writes a file of sample answers into the first bytes of a buffer, keeps the rest, and gives its length.
+impl fmt::Display for NotAccepted {
+    /// The refusal, with the place of a bad point.
+    fn fmt(&self, f: &mut fmt::Formatter) -> fmt::Result {
+        match self {
+            NotAccepted::Refused(refusal) => refusal.fmt(f),
+            NotAccepted::Claim(place) => write!(f, "{}, point {place}", Refusal::Claim),
+        }
+    }
+}
+
+impl std::error::Error for NotAccepted {}
+
+/// Gives a file of sample answers.
 ///
-/// The file holds the grid message, and each point with that component's count of [`crate::shifts_at`]; docs/SAMPLES.md has
-/// its form. It has [`SAMPLES_HEAD`] bytes, those of the message, and [`SAMPLE_SIZE`] for each point, and
-/// [`check_samples`] accepts it.
+/// The file holds the grid message, and each point with that component's count of [`shifts_at`](crate::shifts_at);
+/// docs/SAMPLES.md has its form. [`check_samples`] accepts it.
 ///
-/// Refusals: SHORT, NUMBER, LENGTH, FILL, RANGE, KIND of the message; of the first refused point COMPONENT, POSITION, OFF,
-/// METHOD, ORIGIN, SPACING, OUTSIDE, ABSENT; LENGTH above [`MOST_SAMPLES`] points; ROOM. With a refusal the buffer stays as
-/// it was.
+/// Refusals: SHORT, NUMBER, LENGTH, FILL, RANGE, KIND of the message; of the first refused point POSITION, OFF, METHOD,
+/// ORIGIN, SPACING, OUTSIDE, ABSENT; LENGTH above [`MOST_SAMPLES`] points.
 ///
 /// ```
-/// use tarnoklej::*;
+/// use tarnoklej::{check_samples, example, write_samples, Component, NotAccepted, Refusal, Sample};
 ///
-/// // A grid around 49 degrees north and 11 degrees east, heights only, all of 46.92 m.
-/// let mut row = [Some(0); 64];
-/// row[..8].copy_from_slice(&[1023, 7, 0, 1, 352_800, 79_200, 720, 720].map(Some));
-/// row[10] = Some(4_692);
-/// let mut message = [0; 73];
-/// write_fields(&row, &mut message)?;
-///
-/// let middle = Sample { component: HEIGHT, north: 49 * 36_000_000, east: 11 * 36_000_000 };
-/// let mut file = [0; SAMPLES_HEAD + 73 + SAMPLE_SIZE];
-/// assert_eq!(write_samples(&message, &[middle], &mut file), Ok(104));
-/// assert_eq!(file[76..80], [2, 0, 25, HEIGHT]);
-/// assert_eq!(file[96..], 469_200i64.to_be_bytes());
+/// let middle = Sample { component: Component::Height, position: example::MIDDLE };
+/// let mut file = write_samples(&example::grid_k(), &[middle])?;
+/// assert_eq!(file.len(), 104);
+/// assert_eq!(file[76..80], [2, 0, 25, 2]);
+/// assert_eq!(file[96..], 469_285i64.to_be_bytes());
 /// assert_eq!(check_samples(&file), Ok(()));
+/// file[103] += 1;
+/// assert_eq!(check_samples(&file), Err(NotAccepted::Claim(1)));
 ///
-/// let horizontal = Sample { component: NORTH_SOUTH, ..middle };
-/// assert_eq!(write_samples(&message, &[horizontal], &mut file), Err(Refusal::Off));
-/// assert_eq!(write_samples(&message, &[middle; 2], &mut file), Err(Refusal::Room));
+/// let horizontal = Sample { component: Component::NorthSouth, ..middle };
+/// assert_eq!(write_samples(&example::grid_k(), &[horizontal]), Err(Refusal::Off));
 /// # Ok::<(), Refusal>(())
 /// ```
-pub fn write_samples(message: &[u8], points: &[Sample], out: &mut [u8]) -> Result<usize, Refusal> {
-    let components: Vec<u8> = points.iter().map(|point| point.component).collect();
-    let north: Vec<i64> = points.iter().map(|point| point.north).collect();
-    let east: Vec<i64> = points.iter().map(|point| point.east).collect();
-    // SAFETY: the pointers and lengths are those of slices, and a slice lent for writing overlaps no other.
-    let written = unsafe {
-        ffi::tarnoklej_write_samples(
-            message.as_ptr(),
-            message.len(),
-            components.as_ptr(),
-            components.len(),
-            north.as_ptr(),
-            north.len(),
-            east.as_ptr(),
-            east.len(),
-            out.as_mut_ptr(),
-            out.len(),
-        )
-    };
-    done(written.refusal)?;
-    Ok(written.length)
+pub fn write_samples(message: &[u8], points: &[Sample]) -> Result<Vec<u8>, Refusal> {
+    let counted = points.len().min(MOST_SAMPLES);
+    let mut out = vec![0; SAMPLES_HEAD + message.len() + SAMPLE_SIZE * counted];
+    let length = write_samples_into(message, points, &mut out);
+    written(out, length)
+}
+
+/// Writes a file of sample answers into the first bytes of a buffer, keeps the rest, and gives its length.
+///
+/// The file has [`SAMPLES_HEAD`] bytes, those of the message, and [`SAMPLE_SIZE`] for each point.
+///
+/// Refusals: those of [`write_samples`] in their order, then ROOM; with a refusal the buffer stays as it was.
+pub fn write_samples_into(message: &[u8], points: &[Sample], out: &mut [u8]) -> Result<usize, Refusal> {
+    let components: Vec<u8> = points.iter().map(|point| point.component.number()).collect();
+    let north: Vec<i64> = points.iter().map(|point| point.position.north).collect();
+    let east: Vec<i64> = points.iter().map(|point| point.position.east).collect();
+    length_of(ffi::write_samples(message, &components, &north, &east, out))
 }
 
 /// Checks a file of sample answers: nothing where its shape and its message are right and every point is answered with the
@@ -108,9 +108,8 @@ pub fn write_samples(message: &[u8], points: &[Sample], out: &mut [u8]) -> Resul
 /// assert_eq!(check_samples(&[1, 0, 0]), Err(NotAccepted::Refused(Refusal::Short)));
 /// ```
 pub fn check_samples(file: &[u8]) -> Result<(), NotAccepted> {
-    // SAFETY: the pointer and the length are those of a slice, which the call only reads.
-    let checked = unsafe { ffi::tarnoklej_check_samples(file.as_ptr(), file.len()) };
-    done(checked.refusal).map_err(|refusal| match refusal {
+    let checked = ffi::check_samples(file);
+    Refusal::unless_done(checked.refusal).map_err(|refusal| match refusal {
         Refusal::Claim => NotAccepted::Claim(checked.place),
         other => NotAccepted::Refused(other),
     })

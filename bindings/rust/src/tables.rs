@@ -1,14 +1,35 @@
 //! Tables with their index: storing, finding and removing messages of two owners.
 
-use crate::{done, ffi, Refusal, TABLE_SIZE};
+use crate::{ffi, Group, Owner, Refusal};
 
+/// The bytes of a table; 4,224 zeros are an empty table.
+pub const TABLE_SIZE: usize = 4_224;
+/// The messages that a table holds.
+pub const SLOTS: usize = 32;
+/// The slots that an owner holds at most, so that 12 are always there for the other.
+pub const OWNER_SLOTS: usize = 20;
+/// The bytes of a slot: owner, length, 127 message bytes, three zeros.
+pub const SLOT_SIZE: usize = 132;
 /// The bytes of an index; 128 zeros are the index of an empty table.
 pub const INDEX_SIZE: usize = 128;
 /// The entries of an index that a find looks at, at most.
 pub const MOST_PROBES: u8 = 6;
+/// The bytes of an entry of an index: owner, system identification number, group, slot.
+const ENTRY_SIZE: usize = INDEX_SIZE / SLOTS;
+
+/// Under what a table keeps a message.
+#[derive(Clone, Copy, PartialEq, Eq, PartialOrd, Ord, Hash, Debug)]
+pub struct Key {
+    /// Whose message it is.
+    pub owner: Owner,
+    /// The system identification number, DF147.
+    pub sin: u8,
+    /// The group of the message.
+    pub group: Group,
+}
 
 /// A message found in a table.
-#[derive(Clone, Copy, PartialEq, Eq, Debug)]
+#[derive(Clone, Copy, PartialEq, Eq, Hash, Debug)]
 pub struct Found<'table> {
     /// The place of the message's first byte in the table.
     pub at: usize,
@@ -20,21 +41,25 @@ pub struct Found<'table> {
 
 /// A table and its index, which agree.
 ///
-/// ```
-/// use tarnoklej::{Refusal, Table, PROJECTION, TRANSFORMATION};
+/// Two owners share it, and the same system identification number and group may stand once for each. No call by one owner
+/// shows, replaces or removes a message of the other.
 ///
-/// let mut message = vec![0x40, 0x10, 0x50];
-/// message.resize(25, 0);
+/// ```
+/// use tarnoklej::{example, Group, Key, Owner, Refusal, Table};
+///
+/// let message = example::grid_k();
+/// let key = Key { owner: Owner::One, sin: 7, group: Group::Grid };
 /// let mut table = Table::new();
-/// table.store(1, &message)?;
-/// assert_eq!(table.find(1, 5, PROJECTION)?.message, message);
-/// assert_eq!(table.find(1, 5, TRANSFORMATION), Err(Refusal::None));
-/// assert_eq!(table.find(2, 5, PROJECTION), Err(Refusal::None));
+/// assert_eq!(table.store(Owner::One, &message), Ok(()));
+/// assert_eq!(table.find(key)?.message, message);
+/// assert_eq!(table.find(Key { group: Group::Projection, ..key }), Err(Refusal::None));
+/// assert_eq!(table.find(Key { owner: Owner::Two, ..key }), Err(Refusal::None));
+/// assert_eq!(table.messages().collect::<Vec<_>>(), [(key, &message[..])]);
 ///
 /// let kept = *table.bytes();
 /// let mut again = Table::from_bytes(&kept)?;
 /// assert_eq!(again, table);
-/// again.remove(1, 5, PROJECTION)?;
+/// again.remove(key)?;
 /// assert_eq!(again, Table::new());
 /// # Ok::<(), Refusal>(())
 /// ```
@@ -77,25 +102,35 @@ impl Table {
         &self.index
     }
 
-    /// Stores an owner's message, see [`store`].
+    /// Stores an owner's message under its key, see [`store`].
     ///
-    /// Refusals: OWNER, SHORT, NUMBER, LENGTH, FILL, RANGE, FULL; with a refusal the table stays as it was.
-    pub fn store(&mut self, owner: u8, message: &[u8]) -> Result<(), Refusal> {
+    /// Refusals: SHORT, NUMBER, LENGTH, FILL, RANGE, FULL; with a refusal the table stays as it was.
+    pub fn store(&mut self, owner: Owner, message: &[u8]) -> Result<(), Refusal> {
         store(&mut self.bytes, &mut self.index, owner, message)
     }
 
-    /// Gives the message of an owner's key as the part of the table where it stands.
+    /// Gives the message of a key as the part of the table where it stands.
     ///
-    /// Refusals: OWNER, NONE.
-    pub fn find(&self, owner: u8, sin: u8, group: u8) -> Result<Found<'_>, Refusal> {
-        find(&self.bytes, &self.index, owner, sin, group)
+    /// Refusals: NONE.
+    pub fn find(&self, key: Key) -> Result<Found<'_>, Refusal> {
+        find(&self.bytes, &self.index, key)
     }
 
-    /// Removes the message of an owner's key.
+    /// Removes the message of a key.
     ///
-    /// Refusals: OWNER, NONE; with a refusal the table stays as it was.
-    pub fn remove(&mut self, owner: u8, sin: u8, group: u8) -> Result<(), Refusal> {
-        remove(&mut self.bytes, &mut self.index, owner, sin, group)
+    /// Refusals: NONE; with a refusal the table stays as it was.
+    pub fn remove(&mut self, key: Key) -> Result<(), Refusal> {
+        remove(&mut self.bytes, &mut self.index, key)
+    }
+
+    /// The messages of both owners with their keys, in the order of the keys.
+    pub fn messages(&self) -> impl Iterator<Item = (Key, &[u8])> {
+        self.index.chunks_exact(ENTRY_SIZE).map_while(|entry| {
+            let key =
+                Key { owner: Owner::try_from(entry[0]).ok()?, sin: entry[1], group: Group::try_from(entry[2]).ok()? };
+            let slot = self.bytes.chunks_exact(SLOT_SIZE).nth(usize::from(entry[3]))?;
+            Some((key, slot.get(2..2 + usize::from(slot[1]))?))
+        })
     }
 }
 
@@ -114,8 +149,7 @@ impl Table {
 /// assert_eq!(index_agrees(&table[1..], &index), Err(Refusal::Table));
 /// ```
 pub fn index_agrees(table: &[u8], index: &[u8]) -> Result<(), Refusal> {
-    // SAFETY: the pointers and lengths are those of slices, which the call only reads.
-    done(unsafe { ffi::tarnoklej_index_agrees(table.as_ptr(), table.len(), index.as_ptr(), index.len()) })
+    Refusal::unless_done(ffi::index_agrees(table, index))
 }
 
 /// Writes the index of a table anew, whatever it held.
@@ -123,12 +157,10 @@ pub fn index_agrees(table: &[u8], index: &[u8]) -> Result<(), Refusal> {
 /// Refusals: TABLE, INDEX for a wrong size; with a refusal the index stays as it was.
 ///
 /// ```
-/// use tarnoklej::{store, write_index, Refusal, INDEX_SIZE, TABLE_SIZE};
+/// use tarnoklej::{example, store, write_index, Owner, Refusal, INDEX_SIZE, TABLE_SIZE};
 ///
-/// let mut message = vec![0x40, 0x10, 0x50];
-/// message.resize(25, 0);
 /// let (mut table, mut index) = ([0; TABLE_SIZE], [0; INDEX_SIZE]);
-/// store(&mut table, &mut index, 1, &message)?;
+/// store(&mut table, &mut index, Owner::One, &example::grid_k())?;
 /// let mut other = [7; INDEX_SIZE];
 /// write_index(&table, &mut other)?;
 /// assert_eq!(other, index);
@@ -136,8 +168,7 @@ pub fn index_agrees(table: &[u8], index: &[u8]) -> Result<(), Refusal> {
 /// # Ok::<(), Refusal>(())
 /// ```
 pub fn write_index(table: &[u8], index: &mut [u8]) -> Result<(), Refusal> {
-    // SAFETY: both pointers and lengths are those of slices, and a slice lent for writing overlaps no other.
-    done(unsafe { ffi::tarnoklej_index_write(table.as_ptr(), table.len(), index.as_mut_ptr(), index.len()) })
+    Refusal::unless_done(ffi::index_write(table, index))
 }
 
 /// Stores an owner's message under its key, that is owner, system identification number and group, in a table whose
@@ -146,35 +177,21 @@ pub fn write_index(table: &[u8], index: &mut [u8]) -> Result<(), Refusal> {
 /// FULL is given exactly where the key is new to the owner and the owner holds [`OWNER_SLOTS`](crate::OWNER_SLOTS) or no
 /// slot is free. While an owner holds fewer than 12 keys it never gets it, whatever the other owner does.
 ///
-/// Refusals: TABLE, INDEX, OWNER, SHORT, NUMBER, LENGTH, FILL, RANGE, FULL; with a refusal both buffers stay as they
-/// were.
+/// Refusals: TABLE, INDEX, SHORT, NUMBER, LENGTH, FILL, RANGE, FULL; with a refusal both buffers stay as they were.
 ///
 /// ```
-/// use tarnoklej::{store, Refusal, INDEX_SIZE, TABLE_SIZE};
+/// use tarnoklej::{example, store, Owner, Refusal, INDEX_SIZE, TABLE_SIZE};
 ///
-/// let mut message = vec![0x40, 0x10, 0x50];
-/// message.resize(25, 0);
+/// let message = example::grid_k();
 /// let (mut table, mut index) = ([0; TABLE_SIZE], [0; INDEX_SIZE]);
-/// assert_eq!(store(&mut table, &mut index, 2, &message), Ok(()));
-/// assert_eq!(table[..5], [2, 25, 0x40, 0x10, 0x50]);
-/// assert_eq!(index[..5], [2, 5, 2, 0, 0]);
-/// assert_eq!(store(&mut table, &mut index, 3, &message), Err(Refusal::Owner));
-/// assert_eq!(store(&mut table, &mut index[1..], 3, &message), Err(Refusal::Index));
-/// assert_eq!(store(&mut table[1..], &mut index[1..], 3, &message), Err(Refusal::Table));
+/// assert_eq!(store(&mut table, &mut index, Owner::Two, &message), Ok(()));
+/// assert_eq!(table[..4], [2, 73, message[0], message[1]]);
+/// assert_eq!(index[..5], [2, 7, 1, 0, 0]);
+/// assert_eq!(store(&mut table, &mut index[1..], Owner::Two, &message), Err(Refusal::Index));
+/// assert_eq!(store(&mut table[1..], &mut index[1..], Owner::Two, &message), Err(Refusal::Table));
 /// ```
-pub fn store(table: &mut [u8], index: &mut [u8], owner: u8, message: &[u8]) -> Result<(), Refusal> {
-    // SAFETY: the pointers and lengths are those of slices, and a slice lent for writing overlaps no other.
-    done(unsafe {
-        ffi::tarnoklej_store(
-            table.as_mut_ptr(),
-            table.len(),
-            index.as_mut_ptr(),
-            index.len(),
-            owner,
-            message.as_ptr(),
-            message.len(),
-        )
-    })
+pub fn store(table: &mut [u8], index: &mut [u8], owner: Owner, message: &[u8]) -> Result<(), Refusal> {
+    Refusal::unless_done(ffi::store(table, index, owner.number(), message))
 }
 
 /// Gives the message of an owner's key as the part of the table where it stands.
@@ -182,56 +199,43 @@ pub fn store(table: &mut [u8], index: &mut [u8], owner: u8, message: &[u8]) -> R
 /// Of the index only the entries that a binary search names are read, and of the table one slot. Whether the two agree
 /// is not asked; where they do, the message of the key is found if there is one.
 ///
-/// Refusals: TABLE for a wrong size, INDEX for a wrong size, OWNER, NONE, INDEX where the entry's slot is above 31 or is
-/// no used slot of the key.
+/// Refusals: TABLE for a wrong size, INDEX for a wrong size, NONE, INDEX where the entry's slot is above 31 or is no used slot
+/// of the key.
 ///
 /// ```
-/// use tarnoklej::{find, store, Refusal, INDEX_SIZE, PROJECTION, TABLE_SIZE};
+/// use tarnoklej::{example, find, store, Group, Key, Owner, Refusal, INDEX_SIZE, TABLE_SIZE};
 ///
-/// let mut message = vec![0x40, 0x10, 0x50];
-/// message.resize(25, 0);
 /// let (mut table, mut index) = ([0; TABLE_SIZE], [0; INDEX_SIZE]);
-/// store(&mut table, &mut index, 1, &message)?;
-/// let found = find(&table, &index, 1, 5, PROJECTION)?;
+/// store(&mut table, &mut index, Owner::One, &example::grid_k())?;
+/// let key = Key { owner: Owner::One, sin: 7, group: Group::Grid };
+/// let found = find(&table, &index, key)?;
 /// assert_eq!((found.at, found.probes), (2, 5));
-/// assert_eq!(found.message, message);
+/// assert_eq!(found.message, example::grid_k());
 /// index[3] = 1;
-/// assert_eq!(find(&table, &index, 1, 5, PROJECTION), Err(Refusal::Index));
+/// assert_eq!(find(&table, &index, key), Err(Refusal::Index));
 /// # Ok::<(), Refusal>(())
 /// ```
-pub fn find<'table>(
-    table: &'table [u8],
-    index: &[u8],
-    owner: u8,
-    sin: u8,
-    group: u8,
-) -> Result<Found<'table>, Refusal> {
-    // SAFETY: the pointers and lengths are those of slices, which the call only reads.
-    let found =
-        unsafe { ffi::tarnoklej_find(table.as_ptr(), table.len(), index.as_ptr(), index.len(), owner, sin, group) };
-    done(found.refusal)?;
+pub fn find<'table>(table: &'table [u8], index: &[u8], key: Key) -> Result<Found<'table>, Refusal> {
+    let found = ffi::find(table, index, key.owner.number(), key.sin, key.group.number());
+    Refusal::unless_done(found.refusal)?;
     Ok(Found { at: found.at, message: &table[found.at..found.at + found.length], probes: found.probes })
 }
 
 /// Removes the message of an owner's key from a table whose index agrees with it, and leaves the two in agreement.
 ///
-/// Refusals: TABLE, INDEX, OWNER, NONE; with a refusal both buffers stay as they were.
+/// Refusals: TABLE, INDEX, NONE; with a refusal both buffers stay as they were.
 ///
 /// ```
-/// use tarnoklej::{remove, store, Refusal, INDEX_SIZE, PROJECTION, TABLE_SIZE};
+/// use tarnoklej::{example, remove, store, Group, Key, Owner, Refusal, INDEX_SIZE, TABLE_SIZE};
 ///
-/// let mut message = vec![0x40, 0x10, 0x50];
-/// message.resize(25, 0);
 /// let (mut table, mut index) = ([0; TABLE_SIZE], [0; INDEX_SIZE]);
-/// store(&mut table, &mut index, 1, &message)?;
-/// assert_eq!(remove(&mut table, &mut index, 2, 5, PROJECTION), Err(Refusal::None));
-/// assert_eq!(remove(&mut table, &mut index, 1, 5, PROJECTION), Ok(()));
+/// store(&mut table, &mut index, Owner::One, &example::grid_k())?;
+/// let key = Key { owner: Owner::One, sin: 7, group: Group::Grid };
+/// assert_eq!(remove(&mut table, &mut index, Key { owner: Owner::Two, ..key }), Err(Refusal::None));
+/// assert_eq!(remove(&mut table, &mut index, key), Ok(()));
 /// assert_eq!((table, index), ([0; TABLE_SIZE], [0; INDEX_SIZE]));
 /// # Ok::<(), Refusal>(())
 /// ```
-pub fn remove(table: &mut [u8], index: &mut [u8], owner: u8, sin: u8, group: u8) -> Result<(), Refusal> {
-    // SAFETY: the pointers and lengths are those of slices lent for writing, which do not overlap.
-    done(unsafe {
-        ffi::tarnoklej_remove(table.as_mut_ptr(), table.len(), index.as_mut_ptr(), index.len(), owner, sin, group)
-    })
+pub fn remove(table: &mut [u8], index: &mut [u8], key: Key) -> Result<(), Refusal> {
+    Refusal::unless_done(ffi::remove(table, index, key.owner.number(), key.sin, key.group.number()))
 }

@@ -133,7 +133,7 @@ a ⊟ b = a ⊞ minus b
 abbrev pub _⊠_ : Ex → Ex → Ex
 a ⊠ b = record { val = a .val *ℤ b .val; p = a .p * b .p + a .n * b .n; n = a .p * b .n + a .n * b .p; ok = product-ok a b }
 
--- ---- what turns a statement of two expressions into one of naturals, and back
+-- ---- what rounds a statement of two expressions into one of naturals, and back
 pub ring : (a b : Ex) → a .p + b .n ≡ b .p + a .n → a .val ≡ b .val
 ring a b h = eq-by (a .val) (b .val) (omega (arith, a .ok, b .ok, h))
 

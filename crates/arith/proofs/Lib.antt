@@ -1,4 +1,4 @@
-pub mod Rows
+pub mod Lists
 pub mod Store
 pub mod Back
 pub mod Whole

@@ -1,4 +1,4 @@
--- The laws that turn what a branch knows into the tests of a definition: for `search tests`.
+-- The laws that round what a branch knows into the tests of a definition: for `search tests`.
 -- Assumes nothing.
 use mathlib.Core.Path.{_≡_, refl, sym, _∙_}
 use Prim.Native.Nat.{ℕ, _<_}

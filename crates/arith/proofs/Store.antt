@@ -1,4 +1,4 @@
--- A row stored into another from a place on: one store a turn, and one row behind another.
+-- A row stored into another from a place on: one store a round, and one row behind another.
 -- Assumes nothing.
 use mathlib.Core.Path.{_≡_, sym, ap, _∙_}
 use mathlib.Core.List.{List, [], _++_, append-assoc}
@@ -8,11 +8,11 @@ use native.Mathlib.Omega.{arith}
 use lib.IntN.{ℤ, pos}
 use lib.ListN.{length, take, drop, getD, set, replicate, length-append}
 use lib.Seq.{paste, paste-suc, take-paste, drop-paste, take-length, drop-drop}
-use Rattle.arith.specs.Row.{padded}
-use Rattle.arith.proofs.Rows.{drop-replicate}
+use Rattle.arith.specs.Inner.{padded}
+use Rattle.arith.proofs.Lists.{drop-replicate}
 
 module _ {A : Type 0} (d : List A) (at : ℕ) (s : List A) where
-  -- the loop's turn: the row so far is t, and x is stored
+  -- the loop's round: the row so far is t, and x is stored
   pub paste-more : (t : List A) (k : ℕ) (x z : A) → t ≡ paste d at s k → x ≡ getD s k z → at + k < length d → k < length s → set t (at + k) x ≡ paste d at s (k + 1)
   paste-more t k x z e f h l = rw (e, f, add-one k) (paste-suc d at s k z h l)
 

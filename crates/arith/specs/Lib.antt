@@ -1,4 +1,5 @@
-pub mod Row
+pub mod Lists
 pub mod Whole
 pub mod First
 pub mod Places
+pub mod Inner

@@ -1,28 +1,28 @@
 // The exported interface: include/tarnoklej.h.
+use grid_shifts::Answer;
 ghost use mathlib.Core.Path.{_≡_};
 ghost use lib.ListN.{length};
-ghost use Rattle.wire.specs.Message.{header, rowRefusal, valuesRead, presentRead, writeRow};
-ghost use Rattle.capi.specs.Exported.{exportedShifts};
-ghost use Rattle.shift_row_refusals.specs.Row.{shiftRowRefusal, shiftRowFilled};
+ghost use Rattle.message_rows.specs.Message.{header, rowRefusal, valuesRead, presentRead, writeRow};
+ghost use Rattle.capi.specs.Exported.{unitOf, exportedShifts};
+ghost use Rattle.grid_row_refusals.specs.ShiftRow.{shiftRowRefusal, shiftRowFilled};
 ghost use Rattle.layout.specs.Layout.{answered, stored};
 ghost use Rattle.frame.specs.Frames.{frame, findFrame};
 ghost use Rattle.frame_writer.specs.Refusals.{frameRefusal};
-ghost use Rattle.indexed_table.specs.Indexed.{agreesRefusal, writeRefusal, writeIndex, storeNumber, storedTable, storedIndex, removeNumber, removedTable, removedIndex};
-ghost use Rattle.indexed_table.specs.Find.{foundBy};
+ghost use Rattle.table_indexed.specs.Indexed.{agreesRefusal, writeRefusal, writeIndex, storeNumber, storedTable, storedIndex, removeNumber, removedTable, removedIndex};
+ghost use Rattle.table_indexed.specs.Find.{foundBy};
 ghost use Rattle.datum.specs.Step.{Stepped};
 ghost use Rattle.heights.specs.Heights.{writeHeights};
-ghost use Rattle.reports.specs.Reports.{listsReport};
-ghost use Rattle.flat_reports.specs.Flat.{flat};
+ghost use Rattle.report_points.specs.Reports.{listsReport};
 ghost use Rattle.sample_checks.specs.Check.{checked};
-ghost use Rattle.sample_refusals.specs.Refusals.{askedOf};
+ghost use Rattle.sample_writer.specs.Refusals.{askedOf};
 ghost use Rattle.sample_writer.specs.Write as samples;
 
 // The number, the length and the system identification number of a message.
 #[no_mangle]
-pub extern "C" fn tarnoklej_read(s: &[u8]) -> wire::Header
+pub extern "C" fn tarnoklej_read(s: &[u8]) -> message_rows::Header
     ensures { λ r. ⌜ r ≡ header (now (s .entry)) ⌝ }
 {
-    wire::read_header(s)
+    message_rows::read_header(s)
 }
 
 // What the fields of a message say, in wire order, into the first places of both buffers: the values, and a presence byte for each.
@@ -32,7 +32,7 @@ pub extern "C" fn tarnoklej_read_fields(s: &[u8], values: &mut [i64], present: &
     ensures values { λ r. ⌜ now (values .exit) ≡ valuesRead (rowRefusal (now (s .entry)) (length (now (values .entry))) (length (now (present .entry)))) (now (s .entry)) (now (values .entry)) ⌝ }
     ensures present { λ r. ⌜ now (present .exit) ≡ presentRead (rowRefusal (now (s .entry)) (length (now (values .entry))) (length (now (present .entry)))) (now (s .entry)) (now (present .entry)) ⌝ }
 {
-    wire::read_row(s, values, present)
+    message_rows::read_row(s, values, present)
 }
 
 // The message of a row, values and presence bytes, in the first bytes of out.
@@ -45,10 +45,10 @@ pub extern "C" fn tarnoklej_write_fields(
     ensures answer { λ r. ⌜ r ≡ writeRow (now (values .entry)) (now (present .entry)) (now (out .entry)) .answer ⌝ }
     ensures output { λ r. ⌜ now (out .exit) ≡ writeRow (now (values .entry)) (now (present .entry)) (now (out .entry)) .output ⌝ }
 {
-    wire_writer::write_row(values, present, out)
+    message_rows::write_row(values, present, out)
 }
 
-// The three shifts in arc seconds or metres, with their counts and refusal numbers.
+// The three shifts in arc seconds or metres, with their counts, refusal numbers and units.
 #[repr(C)]
 pub struct Shifts {
     pub north: f64,
@@ -60,6 +60,20 @@ pub struct Shifts {
     pub north_refusal: u8,
     pub east_refusal: u8,
     pub height_refusal: u8,
+    pub north_unit: u8,
+    pub east_unit: u8,
+    pub height_unit: u8,
+}
+
+// The unit of a second answer: 0 refused, 1 arc seconds, 2 metres.
+fn unit_of(a: Answer) -> u8
+    ensures { λ r. ⌜ r ≡ unitOf a ⌝ }
+{
+    match a {
+        Answer::Seconds(_) => 1,
+        Answer::Metres(_) => 2,
+        Answer::Refused(_) => 0,
+    }
 }
 
 // The three shifts at a position.
@@ -67,11 +81,14 @@ pub struct Shifts {
 pub extern "C" fn tarnoklej_shifts_at(s: &[u8], north: i64, east: i64) -> Shifts
     ensures { λ r. ⌜ r ≡ exportedShifts (now (s .entry)) north east ⌝ }
 {
-    let r = grid::shifts_at(s, north, east);
+    let r = grid_shifts::shifts_at(s, north, east);
     let p = r.parts;
     let n = p.north;
     let e = p.east;
     let h = p.height;
+    let a = n.answer;
+    let b = e.answer;
+    let c = h.answer;
     Shifts {
         north: r.north,
         east: r.east,
@@ -82,6 +99,9 @@ pub extern "C" fn tarnoklej_shifts_at(s: &[u8], north: i64, east: i64) -> Shifts
         north_refusal: n.refusal,
         east_refusal: e.refusal,
         height_refusal: h.refusal,
+        north_unit: unit_of(a),
+        east_unit: unit_of(b),
+        height_unit: unit_of(c),
     }
 }
 
@@ -99,7 +119,7 @@ pub extern "C" fn tarnoklej_shift_row(
     ensures answer { λ r. ⌜ r ≡ shiftRowRefusal (now (s .entry)) component north east step count (length (now (row .entry))) ⌝ }
     ensures output { λ r. ⌜ now (row .exit) ≡ shiftRowFilled (now (s .entry)) component north east step count (now (row .entry)) ⌝ }
 {
-    rows::shift_row(s, component, north, east, step, count, row)
+    grid_rows::shift_row(s, component, north, east, step, count, row)
 }
 
 // Whether table and index agree: 0, TABLE or INDEX.
@@ -107,7 +127,7 @@ pub extern "C" fn tarnoklej_shift_row(
 pub extern "C" fn tarnoklej_index_agrees(t: &[u8], x: &[u8]) -> u8
     ensures { λ r. ⌜ r ≡ agreesRefusal (now (t .entry)) (now (x .entry)) ⌝ }
 {
-    indexed_table::agrees(t, x)
+    table_indexed::agrees(t, x)
 }
 
 // Writes the index anew.
@@ -116,7 +136,7 @@ pub extern "C" fn tarnoklej_index_write(t: &[u8], x: &mut [u8]) -> u8
     ensures answer { λ r. ⌜ r ≡ writeRefusal (now (t .entry)) (now (x .entry)) ⌝ }
     ensures output { λ r. ⌜ now (x .exit) ≡ writeIndex (now (t .entry)) (now (x .entry)) ⌝ }
 {
-    indexed_table::write_index(t, x)
+    table_indexed::write_index(t, x)
 }
 
 // Stores a message under its key for an owner.
@@ -126,7 +146,7 @@ pub extern "C" fn tarnoklej_store(t: &mut [u8], x: &mut [u8], owner: u8, s: &[u8
     ensures table { λ r. ⌜ now (t .exit) ≡ storedTable (now (t .entry)) (now (x .entry)) owner (now (s .entry)) ⌝ }
     ensures index { λ r. ⌜ now (x .exit) ≡ storedIndex (now (t .entry)) (now (x .entry)) owner (now (s .entry)) ⌝ }
 {
-    indexed_table::store(t, x, owner, s)
+    table_indexed::store(t, x, owner, s)
 }
 
 // Where the message of an owner's key stands in the table.
@@ -137,10 +157,10 @@ pub extern "C" fn tarnoklej_find(
     owner: u8,
     sin: u8,
     group: u8,
-) -> indexed_table::Found
+) -> table_indexed::Found
     ensures { λ r. ⌜ r ≡ foundBy (now (t .entry)) (now (x .entry)) owner sin group ⌝ }
 {
-    indexed_table::find(t, x, owner, sin, group)
+    table_indexed::find(t, x, owner, sin, group)
 }
 
 // Removes the message of an owner's key.
@@ -150,7 +170,7 @@ pub extern "C" fn tarnoklej_remove(t: &mut [u8], x: &mut [u8], owner: u8, sin: u
     ensures table { λ r. ⌜ now (t .exit) ≡ removedTable (now (t .entry)) (now (x .entry)) owner sin group ⌝ }
     ensures index { λ r. ⌜ now (x .exit) ≡ removedIndex (now (t .entry)) (now (x .entry)) owner sin group ⌝ }
 {
-    indexed_table::remove(t, x, owner, sin, group)
+    table_indexed::remove(t, x, owner, sin, group)
 }
 
 // The first frame at or after a place.
@@ -177,7 +197,7 @@ pub extern "C" fn tarnoklej_datum_step(
     x: i64,
     y: i64,
     z: i64,
-) -> seven_parameters::Position
+) -> datum_formula::Position
     ensures { λ r. ⌜ Stepped (now (message .entry)) x y z r ⌝ }
 {
     datum::datum_step(message, x, y, z)
@@ -204,10 +224,10 @@ pub extern "C" fn tarnoklej_report_points(
     component: u8,
     north: &[i64],
     east: &[i64],
-) -> flat_reports::FlatReport
-    ensures { λ r. ⌜ r ≡ flat (listsReport (now (s .entry)) component (now (north .entry)) (now (east .entry))) ⌝ }
+) -> report_update::Report
+    ensures { λ r. ⌜ r ≡ listsReport (now (s .entry)) component (now (north .entry)) (now (east .entry)) ⌝ }
 {
-    flat_reports::report_lists(s, component, north, east)
+    report_points::report_lists(s, component, north, east)
 }
 
 // The file of a message and the points of three slices of equal count, each with the message's answer as its claim, in the first bytes of out.

@@ -14,16 +14,16 @@ use Rattle.arith.specs.Whole.{natural}
 use Rattle.field.specs.declared.Reading.{Reading}
 use Rattle.layout.specs.Layout.{allTake, takes, valueIn}
 use Rattle.layout.proofs.Taken.{Upto, bounded, takes-at}
-use Rattle.row.specs.Numbers.{says, numberAt, counterAt}
-use Rattle.layouts.specs.Layouts.{names, layoutOf, layout1021, tail1021}
-use Rattle.transformation_records.specs.Transformations.{behindNames, helmertOf, parametersAt}
-use Rattle.wire.specs.Message.{row, rowLayout}
-use Rattle.wire.proofs.OneKind.{kind-of, kind-read}
-use Rattle.wire.proofs.Trips.{row-taken, row-layout-of, row-number}
-use Rattle.message.specs.Kinds.{readHelmert}
-use Rattle.seven_parameters.specs.declared.Values.{Values}
-use Rattle.seven_parameters.specs.Formula.{beyondAny, formulaTests}
-use Rattle.seven_parameters.proofs.Refusals.{all-within}
+use Rattle.record_rows.specs.Numbers.{says, numberAt, counterAt}
+use Rattle.layout_tables.specs.Layouts.{names, layoutOf, layout1021, tail1021}
+use Rattle.record_transformations.specs.Transformations.{behindNames, helmertOf, parametersAt}
+use Rattle.message_rows.specs.Message.{row, rowLayout}
+use Rattle.message_rows.proofs.OneKind.{kind-of, kind-read}
+use Rattle.message_rows.proofs.Trips.{row-taken, row-layout-of, row-number}
+use Rattle.message_records.specs.Kinds.{readHelmert}
+use Rattle.datum_formula.specs.declared.Values.{Values}
+use Rattle.datum_formula.specs.Formula.{beyondAny, formulaTests}
+use Rattle.datum_formula.proofs.Refusals.{all-within}
 use Rattle.datum.specs.Step.{valuesIn}
 
 -- ---- values within the widths of their fields

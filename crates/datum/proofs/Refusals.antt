@@ -8,10 +8,10 @@ use lib.IntN.{ℤ, pos}
 use Rattle.arith.specs.First.{Test, first}
 use Rattle.arith.specs.Whole.{sameZ}
 use Rattle.arith.proofs.First.{stops, goes-on}
-use Rattle.transformation_records.specs.declared.Parameters.{Parameters}
-use Rattle.wire.specs.Message.{kindTests, kindRefusal}
-use Rattle.message.specs.Kinds.{readHelmert}
-use Rattle.seven_parameters.specs.Formula.{beyondAny, formulaTests}
+use Rattle.record_transformations.specs.declared.Parameters.{Parameters}
+use Rattle.message_rows.specs.Message.{kindTests, kindRefusal}
+use Rattle.message_records.specs.Kinds.{readHelmert}
+use Rattle.datum_formula.specs.Formula.{beyondAny, formulaTests}
 use Rattle.datum.specs.Step.{absent, valuesIn, stepTests, stepRefusal}
 use Rattle.datum.specs.Private.{stepBy}
 use Rattle.datum.proofs.Accepted.{Within, none-refused, message-within}

@@ -5,8 +5,8 @@ use mathlib.Core.Bool.{not, cond}
 use lib.IntN.{ℤ, pos}
 use Rattle.arith.specs.First.{first}
 use Rattle.arith.specs.Whole.{sameZ}
-use Rattle.transformation_records.specs.declared.Parameters.{Parameters}
-use Rattle.seven_parameters.specs.Formula.{beyondAny, formulaTests}
+use Rattle.record_transformations.specs.declared.Parameters.{Parameters}
+use Rattle.datum_formula.specs.Formula.{beyondAny, formulaTests}
 use Rattle.datum.specs.Step.{absent, valuesIn}
 
 -- the tests of a step, and behind them those of the formula

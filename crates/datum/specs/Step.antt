@@ -1,31 +1,25 @@
 -- The datum step of message 1021: request A12 over formula 3.5-1.
 -- Assumes nothing.
 use Prim.Native.Nat.{ℕ, _^_}
-use mathlib.Core.Bool.{Bool, true, false, not, _||_}
+use mathlib.Core.Bool.{Bool, not, _||_}
 use mathlib.Core.List.{List, [], _∷_, _++_}
 use lib.IntN.{ℤ, pos}
 use Rattle.arith.specs.First.{Test, first}
 use Rattle.arith.specs.Whole.{sameZ}
-use Rattle.field.specs.declared.Reading.{Reading}
-use Rattle.field.specs.declared.Reading.the-variants.{Value, Absent}
-use Rattle.layout.specs.Layout.{valueIn}
-use Rattle.transformation_records.specs.declared.Parameters.{Parameters}
-use Rattle.wire.specs.Message.{kindTests}
-use Rattle.message.specs.Kinds.{readHelmert}
-use Rattle.seven_parameters.specs.declared.Values.{Values}
-use Rattle.seven_parameters.specs.declared.Position.{Position}
-use Rattle.seven_parameters.specs.Formula.{beyondAny, Answered}
+use Rattle.layout.specs.Layout.{valueIn, isAbsent}
+use Rattle.record_transformations.specs.declared.Parameters.{Parameters}
+use Rattle.message_rows.specs.Message.{kindTests}
+use Rattle.message_records.specs.Kinds.{readHelmert}
+use Rattle.datum_formula.specs.declared.Values.{Values}
+use Rattle.datum_formula.specs.declared.Position.{Position}
+use Rattle.datum_formula.specs.Formula.{beyondAny, Answered}
 
 -- ---- the seven parameters, DF156 to DF162
-
-abbrev pub lacks : Reading → Bool
-lacks (Value z) = false
-lacks Absent = true
 
 -- "one of the seven parameters has no value"
 abbrev pub absent : Parameters → Bool
 absent p =
-    lacks (p .dx) || lacks (p .dy) || lacks (p .dz) || lacks (p .rx) || lacks (p .ry) || lacks (p .rz) || lacks (p .ds)
+    isAbsent (p .dx) || isAbsent (p .dy) || isAbsent (p .dz) || isAbsent (p .rx) || isAbsent (p .ry) || isAbsent (p .rz) || isAbsent (p .ds)
 
 abbrev pub valuesIn : Parameters → Values
 valuesIn p =

@@ -1,12 +1,15 @@
 // The datum step of message 1021: its seven parameters applied to a position. It rests on the promises of the reader of a 1021 alone.
+use arith::refusals::ABSENT;
+use arith::refusals::METHOD;
+use arith::refusals::POSITION;
+use datum_formula::Position;
+use datum_formula::Values;
 use field::Reading;
-use seven_parameters::Position;
-use seven_parameters::Values;
-use transformation_records::Parameters;
+use record_transformations::Parameters;
 ghost use Prim.Native.Nat.{_*_, _^_};
 ghost use mathlib.Core.Bool.{cond};
 ghost use Rattle.arith.specs.First.{first};
-ghost use Rattle.seven_parameters.specs.Formula.{formulaTests, Answered};
+ghost use Rattle.datum_formula.specs.Formula.{formulaTests, Answered};
 ghost use Rattle.datum.specs.Step.{absent, valuesIn, Stepped};
 ghost use Rattle.datum.specs.Private.{stepBy};
 
@@ -16,31 +19,31 @@ fn by_values(p: Parameters, x: i64, y: i64, z: i64) -> Position
 {
     let dx = p.dx;
     let Reading::Value(dx) = dx else {
-        return seven_parameters::refused(15);
+        return datum_formula::refused(ABSENT);
     };
     let dy = p.dy;
     let Reading::Value(dy) = dy else {
-        return seven_parameters::refused(15);
+        return datum_formula::refused(ABSENT);
     };
     let dz = p.dz;
     let Reading::Value(dz) = dz else {
-        return seven_parameters::refused(15);
+        return datum_formula::refused(ABSENT);
     };
     let rx = p.rx;
     let Reading::Value(rx) = rx else {
-        return seven_parameters::refused(15);
+        return datum_formula::refused(ABSENT);
     };
     let ry = p.ry;
     let Reading::Value(ry) = ry else {
-        return seven_parameters::refused(15);
+        return datum_formula::refused(ABSENT);
     };
     let rz = p.rz;
     let Reading::Value(rz) = rz else {
-        return seven_parameters::refused(15);
+        return datum_formula::refused(ABSENT);
     };
     let ds = p.ds;
     let Reading::Value(ds) = ds else {
-        return seven_parameters::refused(15);
+        return datum_formula::refused(ABSENT);
     };
     let v = Values {
         dx,
@@ -51,18 +54,18 @@ fn by_values(p: Parameters, x: i64, y: i64, z: i64) -> Position
         rz,
         ds,
     };
-    seven_parameters::transformed(v, x, y, z)
+    datum_formula::transformed(v, x, y, z)
 }
 
 // POSITION, METHOD, or what the parameters give.
 fn step_by(computation: i64, p: Parameters, x: i64, y: i64, z: i64) -> Position
     ensures { λ r. ⌜ Answered (521 * 10 ^ 32) (stepBy computation p x y z) (valuesIn p) x y z r ⌝ }
 {
-    if seven_parameters::beyond(100000000000, x, y, z) {
-        return seven_parameters::refused(9);
+    if datum_formula::beyond(100000000000, x, y, z) {
+        return datum_formula::refused(POSITION);
     }
     if computation != 0 {
-        return seven_parameters::refused(11);
+        return datum_formula::refused(METHOD);
     }
     by_values(p, x, y, z)
 }
@@ -71,10 +74,10 @@ fn step_by(computation: i64, p: Parameters, x: i64, y: i64, z: i64) -> Position
 pub fn datum_step(message: &[u8], x: i64, y: i64, z: i64) -> Position
     ensures { λ r. ⌜ Stepped (now (message .entry)) x y z r ⌝ }
 {
-    let r = message::read_helmert(message);
+    let r = message_records::read_helmert(message);
     let refusal = r.refusal;
     if refusal != 0 {
-        return seven_parameters::refused(refusal);
+        return datum_formula::refused(refusal);
     }
     let h = r.value;
     step_by(h.system.computation, h.parameters, x, y, z)

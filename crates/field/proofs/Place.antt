@@ -11,7 +11,8 @@ use lib.IntN.{pos}
 use lib.Pow.{pow-mono, pow-pos}
 use borrow.Author.Tests.{le-leb, lt-leb, leb-true, lt-ltb, ne-eqb}
 use Rattle.arith.proofs.Tests.{both-first, both-second}
-use Rattle.field.specs.Field.{field, contains, fieldAt, signedOf, twos, signedAt}
+use Rattle.field.specs.Field.{field, signedOf, twos}
+use Rattle.field.specs.Inner.{contains, fieldAt, signedAt}
 use Rattle.field.specs.declared.Reading.the-variants.{Value}
 use Rattle.field.proofs.Bit.{field-lt}
 

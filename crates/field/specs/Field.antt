@@ -2,10 +2,10 @@
 -- Assumes nothing.
 use Prim.Native.Nat.{ℕ, zero, suc, _+_, _-_, _*_, _/_, _%_, _^_}
 use mathlib.Core.List.{List}
-use mathlib.Core.Bool.{Bool, true, cond, _&&_}
-use lib.Dec.{ltb, leb, eqb}
-use lib.ListN.{length, getD, set}
-use lib.IntN.{ℤ, pos, negsuc, natAbs}
+use mathlib.Core.Bool.{cond}
+use lib.Dec.{ltb, eqb}
+use lib.ListN.{getD, set}
+use lib.IntN.{ℤ, pos, negsuc}
 use Rattle.field.specs.declared.Reading.{Reading}
 use Rattle.field.specs.declared.Reading.the-variants.{Value, Absent}
 
@@ -47,33 +47,8 @@ twos w u = cond (ltb (u * 2) (2 ^ w)) (pos u) (negsuc (2 ^ w - suc u))
 unfoldable pub signedOf : ℕ → ℕ → Reading
 signedOf w u = cond (eqb u (noneOf w)) Absent (Value (twos w u))
 
--- the values of w bits are those between the most negative one and its opposite
-abbrev pub fits : ℕ → Reading → Bool
-fits w (Value z) = ltb (natAbs z) (noneOf w)
-fits w Absent = true
-
 -- the pattern of w bits: z itself, z + 2^w where z is negative, or the most negative one
 abbrev pub patternOf : ℕ → Reading → ℕ
 patternOf w (Value (pos n)) = n
 patternOf w (Value (negsuc n)) = 2 ^ w - suc n
 patternOf w Absent = noneOf w
-
--- ---- fields of lent bytes
-
--- the field has at most 63 bits, begins at a bit of at most 65,535 and ends within s
-abbrev pub contains : List ℕ → ℕ → ℕ → Bool
-contains s p w = leb w 63 && (leb p 65535 && leb (p + w) (8 * length s))
-
--- the number in a field, 0 where s does not contain it; and what a signed field says, which is the value 0 there (none, where w is 0)
-unfoldable pub fieldAt : List ℕ → ℕ → ℕ → ℕ
-fieldAt s p w = cond (contains s p w) (field s p w) 0
-
-unfoldable pub signedAt : List ℕ → ℕ → ℕ → Reading
-signedAt s p w = signedOf w (fieldAt s p w)
-
--- s with a number in a field, or with what a signed field is to say; s where s does not contain the field or the number does not fit
-unfoldable pub putField : List ℕ → ℕ → ℕ → ℕ → List ℕ
-putField s p w v = cond (contains s p w && ltb v (2 ^ w)) (setField s p w v) s
-
-unfoldable pub putSigned : List ℕ → ℕ → ℕ → Reading → List ℕ
-putSigned s p w r = cond (fits w r) (putField s p w (patternOf w r)) s

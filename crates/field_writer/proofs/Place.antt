@@ -6,7 +6,8 @@ use mathlib.Core.List.{List}
 use Prim.Native.Nat.{ℕ, _^_, _≤_, _<_}
 use lib.IntN.{ℤ, natAbs}
 use borrow.Author.Tests.{lt-ltb, le-ltb}
-use Rattle.field.specs.Field.{contains, noneOf, fits, patternOf, setField, putField, putSigned}
+use Rattle.field.specs.Inner.{contains, fits, putField, putSigned}
+use Rattle.field.specs.Field.{noneOf, patternOf, setField}
 use Rattle.field.specs.declared.Reading.{Reading}
 use Rattle.field.specs.declared.Reading.the-variants.{Value}
 use Rattle.field.proofs.Place.{wide}

@@ -104,7 +104,7 @@ setField-in s p (suc m) j v h l n =
     step : setBit (set s (p / 8) B) (p + m) (v % 2) ≡ set s (p / 8) (putBits (getD s (p / 8) 0) j (suc m) v)
     step = unfold setBit in rw (q, r, getD-set-same s (p / 8) B 0 n, set-set) (ap (λ (x : ℕ). set s (p / 8) x) (put-put (getD s (p / 8) 0) j m v))
 
--- one turn of a writer: the m bits that one byte takes at bit p + k
+-- one round of a writer: the m bits that one byte takes at bit p + k
 pub setField-step : (s t : List ℕ) (p w v k m : ℕ) → t ≡ setField s p k (v / 2 ^ (w - k)) → k + m ≤ w → m ≤ 8 - (p + k) % 8 → p + w ≤ 8 * length s → 0 < m
     → set t ((p + k) / 8) (putBits (getD t ((p + k) / 8) 0) (8 - (p + k) % 8 - m) m (v / 2 ^ (w - k - m) % 2 ^ m)) ≡ setField s p (k + m) (v / 2 ^ (w - (k + m)))
 setField-step s t p w v k m e h l n z =

@@ -4,7 +4,8 @@ ghost use mathlib.Core.Path.{_≡_};
 ghost use Prim.Native.Nat.{_+_, _*_, _^_, _≤_, _<_, min};
 ghost use lib.ListN.{length};
 ghost use lib.IntN.{natAbs};
-ghost use Rattle.field.specs.Field.{putBits, setField, patternOf, putField, putSigned};
+ghost use Rattle.field.specs.Field.{putBits, setField, patternOf};
+ghost use Rattle.field.specs.Inner.{putField, putSigned};
 ghost use Rattle.field.specs.declared.Reading.the-variants.{Value};
 
 fn pow2(m: usize) -> u64

@@ -9,9 +9,10 @@ use lib.Dec.{ltb}
 use lib.ListN.{length, take, drop, length-drop}
 use lib.Seq.{take-all}
 use borrow.Author.Tests.{lt-ltb, le-ltb, le-leb, lt-leb, ltb-true}
-use Rattle.arith.proofs.Places.{turn-hit, turn-on, turn-end, From, from}
+use Rattle.arith.proofs.Places.{round-hit, round-on, round-end, From, from}
 use Rattle.arith.proofs.Tests.{both-first, both-second}
-use Rattle.frame.specs.Frames.{candidate, lengthOf, rightCrc, unfinished, whole, standsAt, firstPlace, found, need, noFrame, answerOf, findFrame, frameAt}
+use Rattle.frame.specs.Frames.{candidate, lengthOf, rightCrc, unfinished, whole, standsAt, firstPlace, found, need, noFrame, answerOf, findFrame}
+use Rattle.frame.specs.Private.{frameAt}
 
 -- ---- the branches at one place
 
@@ -44,21 +45,21 @@ apart t e =
 module _ (p : List ℕ → Bool) (s : List ℕ) (i : ℕ) where
   pub here : i < length s → p (drop i s) ≡ true → firstPlace p s i ≡ i
   unfolding firstPlace standsAt
-  here h e = turn-hit (standsAt p s) i (length s) h e
+  here h e = round-hit (standsAt p s) i (length s) h e
 
   pub later : i < length s → p (drop i s) ≡ false → firstPlace p s i ≡ firstPlace p s (i + 1)
   unfolding firstPlace standsAt
-  later h e = turn-on (standsAt p s) i (length s) h e
+  later h e = round-on (standsAt p s) i (length s) h e
 
   pub nowhere : length s ≤ i → firstPlace p s i ≡ i
   unfolding firstPlace
-  nowhere h = turn-end (standsAt p s) i (length s) h
+  nowhere h = round-end (standsAt p s) i (length s) h
 
   pub least : From (standsAt p s) i (length s - i) (firstPlace p s i)
   unfolding firstPlace
   least = from (standsAt p s) (length s - i) i
 
--- ---- a turn of the search
+-- ---- a round of the search
 
 -- what is lent from place i on
 pub rest : (s : List ℕ) (i : ℕ) → take (length s - i) (drop i s) ≡ drop i s

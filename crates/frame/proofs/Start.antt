@@ -8,10 +8,10 @@ use native.Mathlib.Omega.{arith}
 use lib.ListN.{length, getD, take, drop, length-append}
 use lib.Seq.{take-at, getD-append-add, drop-append-seam, drop-append-add, take-append-seam}
 use borrow.Author.Tests.{lt-ltb, le-ltb, le-leb, eq-eqb}
-use Rattle.crc.specs.Crc.{crc}
+use Rattle.frame_crc.specs.Crc.{crc}
 use Rattle.frame.specs.Frames.{head, three, headed, frame, candidate, lengthOf, threeAt, rightCrc, unfinished, whole, found, findFrame}
 use Rattle.frame.specs.Stream.{stream, Short, ReadsBack}
-use Rattle.crc.proofs.Linear.{crc-lt}
+use Rattle.frame_crc.proofs.Linear.{crc-lt}
 use Rattle.frame.proofs.Lengths.{length-headed, length-frame}
 use Rattle.frame.proofs.At.{over, hits}
 

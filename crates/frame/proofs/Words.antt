@@ -11,7 +11,7 @@ use lib.ListN.{length, getD, take, drop, length-drop, take-append-drop}
 use lib.Seq.{length-take-le, getD-drop, take-add}
 use borrow.Author.Tests.{lt-ltb, eq-eqb, eqb-true, ltb-true, leb-true}
 use Rattle.arith.proofs.Tests.{both-first, both-second, false-ne-true}
-use Rattle.crc.specs.Crc.{crc}
+use Rattle.frame_crc.specs.Crc.{crc}
 use Rattle.frame.specs.Frames.{head, three, headed, frame, candidate, lengthOf, threeAt, rightCrc, unfinished, whole}
 use Rattle.frame.specs.Words.{Bytes, Calls, Stands}
 use Rattle.frame.proofs.Start.{size, finished, stands}

@@ -6,7 +6,7 @@ use mathlib.Core.List.{List, [], _∷_, _++_}
 use lib.ListN.{length, getD, take, drop}
 use lib.Dec.{ltb, leb, eqb}
 use Rattle.arith.specs.Places.{firstOf}
-use Rattle.crc.specs.Crc.{crc}
+use Rattle.frame_crc.specs.Crc.{crc}
 use Rattle.frame.specs.declared.Frame.{Frame}
 
 -- ---- the frame of a message
@@ -76,7 +76,3 @@ answerOf s u f = cond (ltb u f) (need u) (cond (ltb f (length s)) (found f (leng
 
 unfoldable pub findFrame : List ℕ → ℕ → Frame
 findFrame s from = answerOf s (firstPlace unfinished s from) (firstPlace whole s from)
-
--- what the code finds at one place
-unfoldable pub frameAt : List ℕ → ℕ → Frame
-frameAt t at = cond (unfinished t) (need at) (cond (whole t) (found at (lengthOf t)) noFrame)

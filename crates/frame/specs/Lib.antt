@@ -1,3 +1,4 @@
 pub mod Frames
 pub mod Stream
 pub mod Words
+pub mod Private

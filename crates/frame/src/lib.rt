@@ -1,13 +1,11 @@
 // Frames of RTCM 10403.1, section 4, found in a stream of bytes.
+use arith::refusals::NEED;
+use arith::refusals::NOFRAME;
 ghost use mathlib.Core.Path.{_≡_};
 ghost use Prim.Native.Nat.{_+_, _≤_};
 ghost use lib.ListN.{length, getD};
-ghost use Rattle.frame.specs.Frames.{candidate, lengthOf, threeAt, rightCrc, found, need, noFrame, frameAt, findFrame};
-
-// Refusal numbers.
-const NEED: u8 = 19;
-
-const NOFRAME: u8 = 20;
+ghost use Rattle.frame.specs.Frames.{candidate, lengthOf, threeAt, rightCrc, found, need, noFrame, findFrame};
+ghost use Rattle.frame.specs.Private.{frameAt};
 
 // Where a frame stands and the length of its message; with NEED the place alone.
 #[repr(C)]
@@ -93,7 +91,7 @@ fn right_crc(t: &[u8], n: usize) -> bool
     ensures { λ r. ⌜ r ≡ rightCrc (now (t .entry)) ⌝ }
 {
     let e = n + 3;
-    crc::crc_of(&t[..e]) == three_at(t, e)
+    frame_crc::crc_of(&t[..e]) == three_at(t, e)
 }
 
 // What stands at the start of t, whose place is at.

@@ -12,10 +12,11 @@ use Rattle.frame.specs.declared.Frame.{Frame}
 use Rattle.frame.specs.Frames.{lengthOf, unfinished, whole, found, need, noFrame, findFrame}
 use Rattle.frame.proofs.At.{over, waits, hits}
 use Rattle.frame.proofs.Behind.{Clear, skip, up-to, found-stays, need-goes-on, Waiting, Standing, Nothing, Answer, waiting, standing, nothing, answer}
-use Rattle.frame_search.specs.Search.{found-step, end-step, pass-step, wait-step, stepBy, stepOf, framesWithin, framesFrom, reported, moved}
+use Rattle.frame_search.specs.Inner.{found-step, end-step, pass-step, wait-step, stepBy, stepOf}
+use Rattle.frame_search.specs.Private.{framesWithin, framesFrom, reported, moved}
 use Rattle.frame_search.proofs.Inside.{frame-inside, place-inside}
 
--- ---- a turn of the whole search
+-- ---- a round of the whole search
 
 module _ (s : List ℕ) where
   by-found : (k from f n : ℕ) → findFrame s from ≡ found f n → framesWithin (suc k) s from ≡ found f n ∷ framesWithin k s (f + n + 6)
@@ -30,7 +31,7 @@ module _ (s : List ℕ) where
   unfolding framesWithin
   by-none k from e = rw e
 
-  -- more turns than there are places change nothing
+  -- more rounds than there are places change nothing
   enough : (k j from : ℕ) → length s < from + k → length s < from + j → framesWithin k s from ≡ framesWithin j s from
   unfolding framesWithin
   enough zero zero from h l = refl
@@ -59,10 +60,10 @@ module _ (s : List ℕ) where
       go (standing f w) = rw (w .answer) (w .start)
       go (nothing w) = absurd (n (ap (λ r. r .refusal) (w .answer)))
 
-  -- the turns that are left at a place of s
-  turns : (from : ℕ) → from ≤ length s → framesFrom s from ≡ framesWithin (suc (length s - from)) s from
+  -- the rounds that are left at a place of s
+  rounds : (from : ℕ) → from ≤ length s → framesFrom s from ≡ framesWithin (suc (length s - from)) s from
   unfolding framesFrom
-  turns from h = let e : length s + 1 - from ≡ suc (length s - from) = omega arith in ap (λ (k : ℕ). framesWithin k s from) e
+  rounds from h = let e : length s + 1 - from ≡ suc (length s - from) = omega arith in ap (λ (k : ℕ). framesWithin k s from) e
 
   left : (k from : ℕ) → length s < from + k → framesWithin k s from ≡ framesFrom s from
   unfolding framesFrom
@@ -73,7 +74,7 @@ module _ (s : List ℕ) where
       let no : findFrame s from .refusal ≡ 20 → ⊥ = λ z. let y : _≡_ {A = ℕ} 0 20 = sym (ap (λ r. r .refusal) e) ∙ z in omega arith in
       let l : from ≤ f = rw e at (starts from no) in
       let h : f < length s = rw e at (place-inside s from no) in
-      turns from (omega arith)
+      rounds from (omega arith)
       ∙ by-found (length s - from) from f n e
       ∙ ap (λ (r : List Frame). found f n ∷ r) (left (length s - from) (f + n + 6) (omega arith))
 
@@ -82,7 +83,7 @@ module _ (s : List ℕ) where
       let no : findFrame s from .refusal ≡ 20 → ⊥ = λ z. let y : _≡_ {A = ℕ} 19 20 = sym (ap (λ r. r .refusal) e) ∙ z in omega arith in
       let l : from ≤ u = rw e at (starts from no) in
       let h : u < length s = rw e at (place-inside s from no) in
-      turns from (omega arith) ∙ by-need (length s - from) from u e ∙ left (length s - from) (u + 1) (omega arith)
+      rounds from (omega arith) ∙ by-need (length s - from) from u e ∙ left (length s - from) (u + 1) (omega arith)
 
   pub none-first : (from : ℕ) → findFrame s from ≡ noFrame → framesFrom s from ≡ []
   unfolding framesFrom framesWithin

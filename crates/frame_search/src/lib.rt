@@ -1,9 +1,7 @@
 // The search for frames in a stream of which a window is held.
-ghost use Prim.Native.Nat.{_+_, _≤_};
+use arith::refusals::NOFRAME;
 ghost use mathlib.Core.Path.{_≡_};
-ghost use mathlib.Core.List.{_++_};
-ghost use lib.ListN.{length, take, drop};
-ghost use Rattle.frame_search.specs.Search.{stepOf, kept, slid};
+ghost use Rattle.frame_search.specs.Inner.{stepOf};
 
 // What is found at a place, or nothing; the search goes on from `next`, and with `more` where it needs bytes that are not there.
 pub struct Step {
@@ -28,7 +26,7 @@ pub fn next_step(bytes: &[u8], from: usize, ended: bool) -> Step
             next: f.at + f.length + 6,
         };
     }
-    if f.refusal == 20 {
+    if f.refusal == NOFRAME {
         return Step {
             found: false,
             more: true,
@@ -53,31 +51,4 @@ pub fn next_step(bytes: &[u8], from: usize, ended: bool) -> Step
         length: 0,
         next: f.at,
     }
-}
-
-// n bytes from a place on, moved to the front.
-fn move_down(window: &mut [u8], from: usize, n: usize)
-    requires { ⌜ from + n ≤ length (now window) ⌝ }
-    ensures { λ _. ⌜ now (window .exit) ≡ take n (drop from (now (window .entry))) ++ drop n (now (window .entry)) ⌝ }
-{
-    let mut i = 0;
-    while i < n {
-        window[i] = window[from + i];
-        i += 1;
-    }
-}
-
-// Moves the bytes from a place on that stand before `end` to the front, and answers their number.
-pub fn slide(window: &mut [u8], from: usize, end: usize) -> usize
-    ensures answer { λ r. ⌜ r ≡ kept (length (now (window .entry))) from end ⌝ }
-    ensures output { λ r. ⌜ now (window .exit) ≡ slid (now (window .entry)) from end ⌝ }
-{
-    if window.len() < end {
-        return 0;
-    }
-    if end < from {
-        return 0;
-    }
-    move_down(window, from, end - from);
-    end - from
 }

@@ -9,7 +9,7 @@ use lib.ListN.{length, take, drop, set, length-drop, length-append}
 use lib.Seq.{take-at, drop-at, drop-append-add, drop-drop, drop-length}
 use borrow.Author.Tests.{lt-ltb, le-ltb}
 use borrow.Rule.Slice.PartMut.{putMid, post-is}
-use Rattle.crc.specs.Crc.{crc}
+use Rattle.frame_crc.specs.Crc.{crc}
 use Rattle.frame.specs.Frames.{head, three, headed, frame}
 use Rattle.frame.proofs.At.{rest}
 use Rattle.frame.proofs.Lengths.{length-headed}

@@ -1,4 +1,6 @@
 // Frames of RTCM 10403.1, section 4, written.
+use arith::refusals::LENGTH;
+use arith::refusals::ROOM;
 ghost use mathlib.Core.Path.{_≡_};
 ghost use Prim.Native.Nat.{_+_, _≤_, _<_, _^_};
 ghost use mathlib.Core.List.{_∷_, _++_};
@@ -65,7 +67,7 @@ fn put_frame(m: &[u8], out: &mut [u8])
 {
     put_headed(m, out);
     let e = m.len() + 3;
-    let c = crc::crc_of(&out[..e]);
+    let c = frame_crc::crc_of(&out[..e]);
     put_crc(&mut out[e..], c);
 }
 
@@ -77,13 +79,13 @@ pub fn write_frame(message: &[u8], out: &mut [u8]) -> layout::Written
     let n = message.len();
     if 1023 < n {
         return layout::Written {
-            refusal: 3,
+            refusal: LENGTH,
             length: 0,
         };
     }
     if out.len() < n + 6 {
         return layout::Written {
-            refusal: 6,
+            refusal: ROOM,
             length: 0,
         };
     }

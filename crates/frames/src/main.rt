@@ -3,11 +3,15 @@
 // refusal number. The last line says how many frames there were, and how many bytes outside them. Places and counts are modulo 2^64.
 use frame_search::Step;
 use libc::STDIN_FILENO;
-use lines::output;
-use lines::output::Out;
+use libc::STDOUT_FILENO;
 
-// More turns than any recording asks for: each finds a frame, passes a byte or reads on.
-const TURNS: usize = 1099511627776;
+type Out = [u8; 16384];
+
+// The place in the output up to which there is room for a line, of which none has 128 bytes.
+const LAST: usize = 16256;
+
+// More rounds than any recording asks for: each finds a frame, passes a byte or reads on.
+const ROUNDS: usize = 1099511627776;
 
 // The window's place in the stream, where the search goes on in it, how many bytes it holds, whether no more come; then the frames found, the bytes
 // in them, and the bytes in the output's buffer.
@@ -31,14 +35,14 @@ fn main() {
 // Every frame of the input, and the last line.
 fn list_frames(window: &mut [u8], out: &mut Out) {
     let mut state = start();
-    let mut turns: usize = TURNS;
-    while turns > 0 {
-        state = turn(window, out, state);
+    let mut rounds: usize = ROUNDS;
+    while rounds > 0 {
+        state = round(window, out, state);
         if state.done {
             put_end(out, state);
             return;
         }
-        turns -= 1;
+        rounds -= 1;
     }
     put_end(out, state);
 }
@@ -58,8 +62,12 @@ fn start() -> State {
 }
 
 // One step of the search, and what it asks for.
-fn turn(window: &mut [u8], out: &mut Out, state: State) -> State {
-    let s = frame_search::next_step(words::before(window, state.held), state.from, state.ended);
+fn round(window: &mut [u8], out: &mut Out, state: State) -> State {
+    let s = frame_search::next_step(
+        text_words::before(window, state.held),
+        state.from,
+        state.ended,
+    );
     if s.found {
         return report(window, out, state, s);
     }
@@ -71,8 +79,8 @@ fn turn(window: &mut [u8], out: &mut Out, state: State) -> State {
 
 // The line of a frame that was found; the search goes on behind it.
 fn report(window: &[u8], out: &mut Out, state: State, s: Step) -> State {
-    let message = words::before(
-        words::behind(window, std::num::wrapping_add_usize(s.at, 3)),
+    let message = text_words::before(
+        text_words::behind(window, std::num::wrapping_add_usize(s.at, 3)),
         s.length,
     );
     let to = put_frame(out, state.out, later(state.base, s.at), message);
@@ -107,7 +115,7 @@ fn go_on(window: &mut [u8], state: State, next: usize) -> State {
     if state.ended {
         return stop(state);
     }
-    let held = frame_search::slide(window, next, state.held);
+    let held = text_lines::slide(window, next, state.held);
     let got = read_more(window, held);
     State {
         base: later(state.base, next),
@@ -148,10 +156,31 @@ fn later(place: u64, by: usize) -> u64 {
 }
 
 fn put_frame(out: &mut Out, at: usize, place: u64, message: &[u8]) -> usize {
-    let a = output::put_field(out, at, place);
-    let b = output::put_field(out, a, message.len() as u64);
-    let c = put_number(out, b, message);
-    output::put(out, c, b'\n')
+    let a = room(out, at);
+    let b = put_field(out, a, place);
+    let c = put_field(out, b, message.len() as u64);
+    let d = put_number(out, c, message);
+    text_words::put(out, d, b"\n")
+}
+
+// A place with room for a line: where there is none, the output is written and begins anew.
+fn room(out: &Out, at: usize) -> usize {
+    if at <= LAST {
+        return at;
+    }
+    print(out, at);
+    0
+}
+
+// Writes the first bytes of the output.
+fn print(out: &Out, length: usize) {
+    io::write_all(STDOUT_FILENO, text_words::before(out, length));
+}
+
+// A number and a space.
+fn put_field(out: &mut Out, at: usize, n: u64) -> usize {
+    let to = text_numerals::put_natural(out, at, n);
+    text_words::put(out, to, b" ")
 }
 
 // The first 12 of 16 bits.
@@ -162,10 +191,10 @@ fn number(high: u8, low: u8) -> u64 {
 // The message's number, and what belongs behind it.
 fn put_number(out: &mut Out, at: usize, message: &[u8]) -> usize {
     if message.len() < 2 {
-        return output::put(out, at, b'-');
+        return text_words::put(out, at, b"-");
     }
     let n = number(message[0], message[1]);
-    let to = output::put_natural(out, at, n);
+    let to = text_numerals::put_natural(out, at, n);
     if n < 1021 {
         return to;
     }
@@ -177,21 +206,22 @@ fn put_number(out: &mut Out, at: usize, message: &[u8]) -> usize {
 
 // What one of 1021 to 1027 answers to the look at its header.
 fn put_header(out: &mut Out, at: usize, message: &[u8]) -> usize {
-    let h = wire::read_header(message);
+    let h = message_rows::read_header(message);
     if h.refusal != 0 {
-        let to = output::put_all(out, at, b" refused ");
-        return output::put_small(out, to, h.refusal);
+        let to = text_words::put(out, at, b" refused ");
+        return text_numerals::put_natural(out, to, h.refusal as u64);
     }
-    let to = output::put_all(out, at, b" sin ");
-    output::put_small(out, to, h.sin)
+    let to = text_words::put(out, at, b" sin ");
+    text_numerals::put_natural(out, to, h.sin as u64)
 }
 
 // The last line, and what is left of the output.
 fn put_end(out: &mut Out, state: State) {
     let all = later(state.base, state.held);
-    let a = output::put_natural(out, state.out, state.frames);
-    let b = output::put_all(out, a, b" frames, ");
-    let c = output::put_natural(out, b, std::num::wrapping_sub_u64(all, state.inside));
-    let d = output::put_all(out, c, b" bytes outside frames\n");
-    output::flush(out, d);
+    let a = room(out, state.out);
+    let b = text_numerals::put_natural(out, a, state.frames);
+    let c = text_words::put(out, b, b" frames, ");
+    let d = text_numerals::put_natural(out, c, std::num::wrapping_sub_u64(all, state.inside));
+    let e = text_words::put(out, d, b" bytes outside frames\n");
+    print(out, e);
 }

@@ -1,2 +1,4 @@
 pub mod Table
 pub mod Says
+pub mod NodeTable
+pub mod Pairs

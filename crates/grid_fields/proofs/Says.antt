@@ -8,18 +8,19 @@ use mathlib.Core.Path.{_≡_, refl, sym, ap, _∙_}
 use mathlib.Core.List.{List, _∷_, _++_}
 use lib.ListN.{length, getD, take, drop}
 use lib.Seq.{split-at}
-use Rattle.field.specs.Field.{field, fieldAt}
+use Rattle.field.specs.Field.{field}
+use Rattle.field.specs.Inner.{fieldAt}
 use Rattle.field.proofs.Place.{field-inside}
 use Rattle.layout.specs.Layout.{width, total, readingOf}
 use Rattle.layout.proofs.Round.{total-append, total-most, accepted}
-use Rattle.layouts.specs.Layouts.{layoutOf, layout1023, layout1024}
-use Rattle.layouts.proofs.Length.{length-1023, length-1024, total-1023, total-1024}
-use Rattle.row.specs.Numbers.{says}
-use Rattle.wire.specs.Message.{numberOf, sourceCount, targetCount, layout, row, kindRefusal}
-use Rattle.wire.proofs.Head.{number-read, head-of, head-passed, accepted-head}
-use Rattle.wire.proofs.OneKind.{kind-of}
-use Rattle.wire.proofs.Trips.{row-place}
-use Rattle.grid_fields.specs.Fields.{gridLayout, gridSays}
+use Rattle.layout_tables.specs.Layouts.{layoutOf, layout1023, layout1024}
+use Rattle.layout_tables.proofs.Length.{length-1023, length-1024, total-1023, total-1024}
+use Rattle.record_rows.specs.Numbers.{says}
+use Rattle.message_rows.specs.Message.{numberOf, sourceCount, targetCount, layout, row, kindRefusal}
+use Rattle.message_rows.proofs.Head.{number-read, head-of, head-passed, accepted-head}
+use Rattle.message_rows.proofs.OneKind.{kind-of}
+use Rattle.message_rows.proofs.Trips.{row-place}
+use Rattle.grid_fields.specs.Inner.{gridLayout, gridSays}
 
 -- a field ends within its layout
 within : (es : List ℕ) (k : ℕ) → k < length es → total (take k es) + width (getD es k 0) ≤ total es

@@ -1,17 +1,16 @@
 -- Refusals 8 COMPONENT to 13 SPACING of the shift: document 01, "The grid" and "Refusal numbers".
 -- Assumes nothing.
 use Prim.Native.Nat.{ℕ}
-use mathlib.Core.Bool.{Bool, true, false, not, cond, _&&_, _||_}
+use mathlib.Core.Bool.{Bool, not, cond, _&&_, _||_}
 use mathlib.Core.List.{List, [], _∷_}
 use lib.Dec.{eqb, ltb}
 use lib.IntN.{ℤ, pos, natAbs}
 use Rattle.arith.specs.First.{Test}
 use Rattle.arith.specs.Whole.{sameZ}
-use Rattle.field.specs.declared.Reading.{Reading}
-use Rattle.field.specs.declared.Reading.the-variants.{Value, Absent}
-use Rattle.grid_records.specs.declared.Origin.{Origin}
-use Rattle.grid_records.specs.declared.Frame.{Frame}
-use Rattle.row.specs.declared.Pair.{Pair}
+use Rattle.layout.specs.Layout.{available}
+use Rattle.record_grids.specs.declared.Origin.{Origin}
+use Rattle.record_grids.specs.declared.Settings.{Settings}
+use Rattle.record_rows.specs.declared.Pair.{Pair}
 
 -- by the message number: 1023 gives angles, 1024 metres
 abbrev pub ellipsoidal : ℤ → Bool
@@ -20,11 +19,6 @@ ellipsoidal number = sameZ number (pos 1023)
 -- components 0 and 1 go by the horizontal indicators, component 2 by the vertical ones
 abbrev pub side : ℕ → Pair → ℤ
 side c p = cond (eqb c 2) (p .vertical) (p .horizontal)
-
--- a field has a value
-abbrev pub available : Reading → Bool
-available (Value z) = true
-available Absent = false
 
 -- DF192 and DF193, DF202; DF203, which is unsigned, has a value in every message
 abbrev pub originAvailable : Origin → Bool
@@ -40,7 +34,7 @@ beyond number n e =
     (ltb 1000000000000 (natAbs n) || ltb 1000000000000 (natAbs e))
 
 -- 8 COMPONENT, 9 POSITION, 10 OFF, 11 METHOD, 12 ORIGIN, 13 SPACING
-abbrev pub fieldTests : Frame → ℕ → ℤ → ℤ → List Test
+abbrev pub fieldTests : Settings → ℕ → ℤ → ℤ → List Test
 fieldTests f c n e =
     (8, ltb 2 c)
     ∷ (9, beyond (f .number) n e)

@@ -1,7 +1,13 @@
 // The refusals of the shift that a grid without its shifts, a component and a position give before the place in the grid is looked for: COMPONENT to SPACING.
+use arith::refusals::COMPONENT;
+use arith::refusals::METHOD;
+use arith::refusals::OFF;
+use arith::refusals::ORIGIN;
+use arith::refusals::POSITION;
+use arith::refusals::SPACING;
 use field::Reading;
-use grid_records::Frame;
-use row::Pair;
+use record_grids::Settings;
+use record_rows::Pair;
 ghost use mathlib.Core.Path.{_≡_};
 ghost use mathlib.Core.Bool.{not, _&&_, _||_};
 ghost use mathlib.Core.List.{[], _∷_};
@@ -9,7 +15,8 @@ ghost use lib.Dec.{ltb};
 ghost use lib.IntN.{pos, natAbs};
 ghost use Rattle.arith.specs.First.{first};
 ghost use Rattle.arith.specs.Whole.{sameZ};
-ghost use Rattle.grid_refusals.specs.Refusals.{side, available, beyond, fieldTests};
+ghost use Rattle.grid_refusals.specs.Refusals.{side, beyond, fieldTests};
+ghost use Rattle.layout.specs.Layout.{available};
 
 // COMPONENT, POSITION, or 0.
 pub fn position_refusal(component: u8, number: i64, north: i64, east: i64) -> u8
@@ -18,22 +25,22 @@ pub fn position_refusal(component: u8, number: i64, north: i64, east: i64) -> u8
     let n = field::magnitude(north);
     let e = field::magnitude(east);
     if 2 < component {
-        return 8;
+        return COMPONENT;
     }
     if number == 1023 {
         if 3240000000 < n {
-            return 9;
+            return POSITION;
         }
         if 6480000000 < e {
-            return 9;
+            return POSITION;
         }
         return 0;
     }
     if 1000000000000 < n {
-        return 9;
+        return POSITION;
     }
     if 1000000000000 < e {
-        return 9;
+        return POSITION;
     }
     0
 }
@@ -50,22 +57,22 @@ fn field_refusal(
     ensures { λ r. ⌜ r ≡ first ((10, sameZ indicator (pos 0)) ∷ (11, not (sameZ method (pos 0))) ∷ (12, not (available north && available east)) ∷ (13, sameZ rows (pos 0) || sameZ columns (pos 0)) ∷ []) ⌝ }
 {
     if indicator == 0 {
-        return 10;
+        return OFF;
     }
     if method != 0 {
-        return 11;
+        return METHOD;
     }
     let Reading::Value(_) = north else {
-        return 12;
+        return ORIGIN;
     };
     let Reading::Value(_) = east else {
-        return 12;
+        return ORIGIN;
     };
     if rows == 0 {
-        return 13;
+        return SPACING;
     }
     if columns == 0 {
-        return 13;
+        return SPACING;
     }
     0
 }
@@ -81,7 +88,7 @@ fn side_of(component: u8, p: Pair) -> i64
 }
 
 // COMPONENT, POSITION, OFF, METHOD, ORIGIN, SPACING, or 0.
-pub fn early_refusal(f: Frame, component: u8, north: i64, east: i64) -> u8
+pub fn early_refusal(f: Settings, component: u8, north: i64, east: i64) -> u8
     ensures { λ r. ⌜ r ≡ first (fieldTests f component north east) ⌝ }
 {
     let number = f.number;

@@ -12,10 +12,10 @@ use Rattle.arith.specs.First.{Test, first}
 use Rattle.arith.proofs.First.{stops, goes-on}
 use Rattle.layout.specs.declared.Written.{Written}
 use Rattle.layout.specs.Layout.{rowOf, answered, stored}
-use Rattle.wire.specs.Message.{message, kindWriteRefusal}
-use Rattle.height_mean.specs.Means.{smallestMean}
-use Rattle.height_mean.specs.declared.Mean.{Mean}
-use Rattle.height_mean.specs.declared.Mean.the-variants.{Found, Missing}
+use Rattle.message_rows.specs.Message.{message, kindWriteRefusal}
+use Rattle.heights_mean.specs.Means.{smallestMean}
+use Rattle.heights_mean.specs.declared.Mean.{Mean}
+use Rattle.heights_mean.specs.declared.Mean.the-variants.{Is, Missing}
 use Rattle.heights.specs.Heights.{heightValues, heightPresent, countTests, recordTests, meanTests, heightsRefusal, heightsMessage}
 
 module _ (z : List ℤ) (b : List ℕ) (wanted : List ℤ) (n : ℕ) where
@@ -58,12 +58,12 @@ module _ (z : List ℤ) (b : List ℕ) (wanted : List ℤ) (n : ℕ) where
           mean-out f = behind Missing f
 
           -- the row that is written is refused as the writer of one kind refuses it
-          pub written-out : (m : ℤ) → smallestMean wanted ≡ Found m
+          pub written-out : (m : ℤ) → smallestMean wanted ≡ Is m
               → kindWriteRefusal 1023 1023 true (heightValues z wanted m) (heightPresent b) n ≡ heightsRefusal z b wanted n
           unfolding kindWriteRefusal
-          written-out m f = behind (Found m) f
+          written-out m f = behind (Is m) f
 
-pub message-is : (z : List ℤ) (b : List ℕ) (wanted : List ℤ) (m : ℤ) → smallestMean wanted ≡ Found m
+pub message-is : (z : List ℤ) (b : List ℕ) (wanted : List ℤ) (m : ℤ) → smallestMean wanted ≡ Is m
     → message (rowOf (heightValues z wanted m) (heightPresent b)) ≡ heightsMessage z b wanted
 unfolding heightsMessage
 message-is z b wanted m f = rw f

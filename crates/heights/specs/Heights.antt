@@ -8,13 +8,13 @@ use lib.Dec.{eqb, leb}
 use lib.IntN.{ℤ, pos}
 use lib.ListN.{length, getD}
 use Rattle.arith.specs.First.{Test, first}
-use Rattle.arith.specs.Row.{at, upTo}
+use Rattle.arith.specs.Lists.{at, upTo}
 use Rattle.arith.specs.Whole.{sameZ}
 use Rattle.layout.specs.Layout.{rowOf}
-use Rattle.wire.specs.Message.{rowTests, ofKind, message, Outcome, outcomeOf}
-use Rattle.height_mean.specs.Means.{less, smallestMean}
-use Rattle.height_mean.specs.declared.Mean.{Mean}
-use Rattle.height_mean.specs.declared.Mean.the-variants.{Found, Missing}
+use Rattle.message_rows.specs.Message.{rowTests, ofKind, message, Outcome, outcomeOf}
+use Rattle.heights_mean.specs.Means.{less, smallestMean}
+use Rattle.heights_mean.specs.declared.Mean.{Mean}
+use Rattle.heights_mean.specs.declared.Mean.the-variants.{Is, Missing}
 
 -- ---- the row with a mean and the wanted heights
 
@@ -66,7 +66,7 @@ recordTests z b =
 
 -- "23 NOMEAN exactly if no such mean exists; then RANGE for the other fields, then ROOM", in n bytes: 5, a number other than 1023 included, and 6
 abbrev pub meanTests : List ℤ → List ℕ → List ℤ → ℕ → Mean → List Test
-meanTests z b wanted n (Found m) =
+meanTests z b wanted n (Is m) =
     (5, not (ofKind 1023 1023 (rowOf (heightValues z wanted m) (heightPresent b)))) ∷ rowTests (heightValues z wanted m) (heightPresent b) n
 meanTests z b wanted n Missing = (23, true) ∷ []
 
@@ -76,7 +76,7 @@ heightsRefusal z b wanted n = first ((countTests z b wanted ++ recordTests z b) 
 -- ---- the message
 
 abbrev pub messageWith : List ℤ → List ℕ → List ℤ → Mean → List ℕ
-messageWith z b wanted (Found m) = message (rowOf (heightValues z wanted m) (heightPresent b))
+messageWith z b wanted (Is m) = message (rowOf (heightValues z wanted m) (heightPresent b))
 messageWith z b wanted Missing = []
 
 unfoldable pub heightsMessage : List ℤ → List ℕ → List ℤ → List ℕ

@@ -1,5 +1,11 @@
 // Making a height grid: a 1023 message from sixteen wanted heights in millimetres and the rest of its row.
-use height_mean::Mean;
+use arith::refusals::METHOD;
+use arith::refusals::NOMEAN;
+use arith::refusals::OFF;
+use arith::refusals::ORIGIN;
+use arith::refusals::RANGE;
+use arith::refusals::SPACING;
+use heights_mean::Mean;
 use layout::Written;
 ghost use mathlib.Core.Path.{_≡_};
 ghost use mathlib.Core.Bool.{true};
@@ -7,7 +13,7 @@ ghost use Prim.Native.Nat.{_≤_, _<_};
 ghost use lib.ListN.{length};
 ghost use lib.IntN.{natAbs};
 ghost use Rattle.arith.specs.First.{first};
-ghost use Rattle.height_mean.specs.Means.{less, near, fits};
+ghost use Rattle.heights_mean.specs.Means.{less, near, fits};
 ghost use Rattle.heights.specs.Heights.{valueWith, presentWith, heightValues, heightPresent, zeroBeside, saysOther, recordTests, writeHeights};
 
 // Whether place k of a row holds the value 0 beside the presence byte `mark`.
@@ -44,22 +50,22 @@ fn record_refusal(values: &[i64], present: &[u8]) -> u8
     ensures { λ r. ⌜ r ≡ first (recordTests (now (values .entry)) (now (present .entry))) ⌝ }
 {
     if zero_beside(values, present, 3, 1) {
-        return 10;
+        return OFF;
     }
     if says_other(values, present, 60) {
-        return 11;
+        return METHOD;
     }
     if zero_beside(values, present, 4, 0) {
-        return 12;
+        return ORIGIN;
     }
     if zero_beside(values, present, 5, 0) {
-        return 12;
+        return ORIGIN;
     }
     if zero_beside(values, present, 6, 1) {
-        return 13;
+        return SPACING;
     }
     if zero_beside(values, present, 7, 1) {
-        return 13;
+        return SPACING;
     }
     0
 }
@@ -89,7 +95,7 @@ fn value_with(values: &[i64], wanted: &[i64], mean: i64, k: usize) -> i64
     if k == 10 {
         return mean;
     }
-    height_less(height_mean::height_at(wanted, (k - 13) / 3), mean)
+    height_less(heights_mean::height_at(wanted, (k - 13) / 3), mean)
 }
 
 // The presence byte at place k of that row.
@@ -141,19 +147,19 @@ pub fn write_heights(values: &[i64], present: &[u8], wanted: &[i64], out: &mut [
 {
     if values.len() != 64 {
         return Written {
-            refusal: 5,
+            refusal: RANGE,
             length: 0,
         };
     }
     if present.len() != 64 {
         return Written {
-            refusal: 5,
+            refusal: RANGE,
             length: 0,
         };
     }
     if wanted.len() != 16 {
         return Written {
-            refusal: 5,
+            refusal: RANGE,
             length: 0,
         };
     }
@@ -164,14 +170,14 @@ pub fn write_heights(values: &[i64], present: &[u8], wanted: &[i64], out: &mut [
             length: 0,
         };
     }
-    let chosen = height_mean::smallest_mean(wanted);
-    let Mean::Found(mean) = chosen else {
+    let chosen = heights_mean::smallest_mean(wanted);
+    let Mean::Is(mean) = chosen else {
         return Written {
-            refusal: 23,
+            refusal: NOMEAN,
             length: 0,
         };
     };
     let v = values_with(values, wanted, mean);
     let p = bytes_with(present);
-    wire_writer::write_kind(true, &v, &p, 1023, 1023, out)
+    message_rows::write_kind(true, &v, &p, 1023, 1023, out)
 }

@@ -11,7 +11,7 @@ fn main() {
 
 // The line for a message.
 fn show(s: &[u8]) {
-    let h = wire::read_header(s);
+    let h = message_rows::read_header(s);
     if h.refusal != 0 {
         io::write_all(STDOUT_FILENO, b"refused ");
         print(wide(h.refusal), b"\n");

@@ -11,7 +11,8 @@ use lib.IntN.{ℤ}
 use borrow.Author.Tests.{lt-ltb, le-ltb, eq-eqb, ne-eqb, ltb-false, eqb-true}
 use Rattle.arith.proofs.First.{passed, not-false, stops, goes-on}
 use Rattle.layout.specs.declared.Written.{Written}
-use Rattle.layout.specs.Layout.{allTake, total, size, decodeAll, zeroFrom, readTests, refusalOf, decodeRefusal, stored, rowTakes, encodeRefusal, answered}
+use Rattle.layout.specs.Layout.{allTake, total, size, decodeAll, zeroFrom, readTests, stored, rowTakes, answered}
+use Rattle.layout.specs.Inner.{refusalOf, decodeRefusal, encodeRefusal}
 
 pub length-decodeAll : (es : List ℕ) (p : ℕ) (s : List ℕ) → length (decodeAll es p s) ≡ length es
 unfolding decodeAll

@@ -20,7 +20,8 @@ use Rattle.field.specs.declared.Reading.{Reading}
 use Rattle.field.specs.declared.Reading.the-variants.{Value, Absent}
 use Rattle.field.proofs.Bit.{field-lt, field-same, length-setField, setField-outside, field-setField, Bytes, bits-decide}
 use Rattle.field.proofs.Bytes.{Agree, agree-field, bytes-setField, zero-bits}
-use Rattle.layout.specs.Layout.{width, signed, readingOf, takes, allTake, total, size, decodeAll, encodeInto, blank, encodeAll, zeroFrom, valueIn, presentIn, readingIn, rowOf, placeTakes, rowTakes, refusalOf, encodeRefusal}
+use Rattle.layout.specs.Layout.{width, signed, readingOf, takes, allTake, total, size, decodeAll, encodeInto, blank, encodeAll, zeroFrom, valueIn, presentIn, readingIn, rowOf, placeTakes, rowTakes}
+use Rattle.layout.specs.Inner.{refusalOf, encodeRefusal}
 use Rattle.layout.proofs.Says.{from-T, pattern-reading, reading-pattern}
 use Rattle.layout.proofs.Loop.{row-lengths}
 pub use Rattle.layout.proofs.Says.{of-true}

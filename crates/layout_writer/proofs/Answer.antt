@@ -12,7 +12,8 @@ use Rattle.field.specs.Field.{patternOf}
 use Rattle.field.specs.declared.Reading.{Reading}
 use Rattle.field.proofs.Bit.{length-setField}
 use Rattle.field.proofs.Bytes.{setField-left}
-use Rattle.layout.specs.Layout.{width, total, bitsOf, size, encodeInto, blank, encodeAll, rowTakes, encodeRefusal}
+use Rattle.layout.specs.Layout.{width, total, size, encodeInto, blank, encodeAll, rowTakes}
+use Rattle.layout.specs.Inner.{bitsOf, encodeRefusal}
 use Rattle.layout.proofs.Round.{length-blank}
 
 -- bytes behind the message stay

@@ -6,7 +6,8 @@ use Prim.Native.Nat.{ℕ}
 use lib.Dec.{ltb, eqb}
 use lib.IntN.{ℤ, pos, negsuc, natAbs}
 use Rattle.arith.proofs.Tests.{false-ne-true, both-first}
-use Rattle.field.specs.Field.{patternOf, fits, noneOf}
+use Rattle.field.specs.Field.{patternOf, noneOf}
+use Rattle.field.specs.Inner.{fits}
 use Rattle.field.specs.declared.Reading.{Reading}
 use Rattle.field.specs.declared.Reading.the-variants.{Value, Absent}
 use Rattle.layout.specs.Layout.{width, signed, ofWidth, takes, readingIn}

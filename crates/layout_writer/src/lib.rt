@@ -1,4 +1,6 @@
 // Rows written by a layout. The functions with a requires are private.
+use arith::refusals::RANGE;
+use arith::refusals::ROOM;
 use layout::Written;
 ghost use mathlib.Core.Path.{_≡_};
 ghost use Prim.Native.Nat.{_+_, _*_, _≤_};
@@ -6,7 +8,8 @@ ghost use mathlib.Core.List.{_++_};
 ghost use lib.Dec.{T};
 ghost use lib.ListN.{length, drop};
 ghost use Rattle.field.specs.Field.{setField, patternOf};
-ghost use Rattle.layout.specs.Layout.{width, total, size, encodeInto, blank, encodeAll, readingIn, rowOf, placeTakes, rowTakes, stored, encodeRefusal, answered};
+ghost use Rattle.layout.specs.Layout.{width, total, size, encodeInto, blank, encodeAll, readingIn, rowOf, placeTakes, rowTakes, stored, answered};
+ghost use Rattle.layout.specs.Inner.{encodeRefusal};
 
 // Whether entry e takes what a value and its byte say.
 fn takes_place(e: u64, z: i64, b: u8) -> bool
@@ -102,20 +105,20 @@ pub fn encode(layout: &[u64], values: &[i64], present: &[u8], out: &mut [u8]) ->
 {
     if 96 < layout.len() {
         return Written {
-            refusal: 5,
+            refusal: RANGE,
             length: 0,
         };
     }
     if !row_taken(layout, values, present) {
         return Written {
-            refusal: 5,
+            refusal: RANGE,
             length: 0,
         };
     }
     let n = (layout::bits_of(layout) + 7) / 8;
     if out.len() < n {
         return Written {
-            refusal: 6,
+            refusal: ROOM,
             length: 0,
         };
     }

@@ -2,21 +2,24 @@
 // under 1 to 15, the smallest and the greatest count, their first places, and the sum of counts; or `refused` and the refusal number.
 // The first line has the message in hexadecimal digits, `-` for none, the second the component, each further line a point: north and east in whole steps.
 // Empty lines at the end are ignored; any other bad line is answered by `bad input: line` and its number alone.
-use lines::input;
-use lines::input::Chunk;
-use lines::input::Got;
-use lines::input::Line;
-use lines::input::Place;
-use lines::output;
-use lines::output::Out;
-use numerals::Byte;
-use numerals::Bytes;
-use numerals::Count;
-use numerals::Integer;
-use tally_update::Tally;
+mod input;
+
+use input::Got;
+use input::Place;
+use input::Window;
+use libc::STDOUT_FILENO;
+use report_update::Tally;
+use text_numerals::Byte;
+use text_numerals::Count;
+use text_numerals::Integer;
+
+type Message = [u8; 400];
+
+// 21 numbers of at most 20 bytes, with a newline each.
+type Out = [u8; 441];
 
 // More lines than any list of points has.
-const TURNS: usize = 1099511627776;
+const ROUNDS: usize = 1099511627776;
 
 // The tally of the points so far, its refusal number or 0, the lines read, and two numbers of lines or 0: the first empty one, and a bad one.
 struct State {
@@ -28,86 +31,78 @@ struct State {
 }
 
 fn main() {
-    let mut chunk = [0u8; 4096];
-    let mut line = [0u8; 900];
+    let mut window = [0u8; 4096];
     let mut message = [0u8; 400];
-    let mut out = [0u8; 16384];
-    answer(&mut chunk, &mut line, &mut message, &mut out);
+    let mut out = [0u8; 441];
+    answer(&mut window, &mut message, &mut out);
 }
 
 // The answer to the whole input.
-fn answer(chunk: &mut Chunk, line: &mut Line, message: &mut Bytes, out: &mut Out) {
-    let first = input::read_line(chunk, line, input::start());
-    let Count::Is(n) = message_of(line, first, message) else {
+fn answer(window: &mut Window, message: &mut Message, out: &mut Out) {
+    let first = input::next_line(window, input::start());
+    let Count::Is(n) = message_of(window, first, message) else {
         put_bad(out, 1);
         return;
     };
-    let second = input::read_line(chunk, line, first.place);
-    let Byte::Is(component) = component_of(line, second) else {
+    let second = input::next_line(window, first.place);
+    let Byte::Is(component) = component_of(window, second) else {
         put_bad(out, 2);
         return;
     };
     let state = add_points(
-        chunk,
-        line,
+        window,
         second.place,
-        words::before(message, n),
+        text_words::before(message, n),
         component,
     );
     put_end(out, state);
 }
 
 // The bytes that the first line spells.
-fn message_of(line: &Line, got: Got, message: &mut Bytes) -> Count {
+fn message_of(window: &Window, got: Got, message: &mut Message) -> Count {
     if got.ended {
         return Count::Bad;
     }
     if 900 < got.length {
         return Count::Bad;
     }
-    numerals::hex(words::before(line, got.length), message)
+    text_numerals::hex(input::text_of(window, got), message)
 }
 
 // The number that the second line spells.
-fn component_of(line: &Line, got: Got) -> Byte {
+fn component_of(window: &Window, got: Got) -> Byte {
     if got.ended {
         return Byte::Bad;
     }
     if 900 < got.length {
         return Byte::Bad;
     }
-    numerals::small(words::before(line, got.length))
+    text_numerals::small(input::text_of(window, got))
 }
 
 // The points of all further lines, up to a bad one.
-fn add_points(
-    chunk: &mut Chunk,
-    line: &mut Line,
-    behind: Place,
-    message: &[u8],
-    component: u8,
-) -> State {
+fn add_points(window: &mut Window, behind: Place, message: &[u8], component: u8) -> State {
     let mut state = start(component);
     let mut place = behind;
-    let mut turns: usize = TURNS;
-    while turns > 0 {
-        let got = input::read_line(chunk, line, place);
+    let mut rounds: usize = ROUNDS;
+    while rounds > 0 {
+        let got = input::next_line(window, place);
         if got.ended {
             return state;
         }
         place = got.place;
-        state = add_line(state, line, got.length, message, component);
+        state = add_line(state, window, got, message, component);
         if state.bad != 0 {
             return state;
         }
-        turns -= 1;
+        rounds -= 1;
     }
     state
 }
 
 // Two lines are read, and no point: COMPONENT is refused without one.
 fn start(component: u8) -> State {
-    let zeros = tally_update::empty(0);
+    let zeros = report_update::empty(0);
     let tally = zeros.tally;
     State {
         tally,
@@ -126,21 +121,21 @@ fn component_refusal(component: u8) -> u8 {
 }
 
 // One line more.
-fn add_line(state: State, line: &Line, length: usize, message: &[u8], component: u8) -> State {
+fn add_line(state: State, window: &Window, got: Got, message: &[u8], component: u8) -> State {
     let number = std::num::wrapping_add_usize(state.lines, 1);
-    if length == 0 {
+    if got.length == 0 {
         return with_empty(state, number);
     }
     if state.empty != 0 {
         return with_bad(state, state.empty);
     }
-    if 900 < length {
+    if 900 < got.length {
         return with_bad(state, number);
     }
     add_point(
         state,
         number,
-        words::before(line, length),
+        input::text_of(window, got),
         message,
         component,
     )
@@ -148,10 +143,10 @@ fn add_line(state: State, line: &Line, length: usize, message: &[u8], component:
 
 // A line with two whole numbers and one space between them.
 fn add_point(state: State, number: usize, s: &[u8], message: &[u8], component: u8) -> State {
-    let Integer::Is(north) = numerals::whole(words::word(s)) else {
+    let Integer::Is(north) = text_numerals::whole(text_words::word(s)) else {
         return with_bad(state, number);
     };
-    let Integer::Is(east) = numerals::whole(words::rest(s)) else {
+    let Integer::Is(east) = text_numerals::whole(text_words::rest(s)) else {
         return with_bad(state, number);
     };
     with_point(state, number, message, component, north, east)
@@ -176,7 +171,7 @@ fn with_point(
             bad: 0,
         };
     }
-    let r = tally::tally_next(tally, message, component, north, east);
+    let r = report_tally::tally_next(tally, message, component, north, east);
     let next = r.tally;
     State {
         tally: next,
@@ -219,10 +214,9 @@ fn with_bad(state: State, number: usize) -> State {
 }
 
 fn put_bad(out: &mut Out, number: usize) {
-    let to = output::put_all(out, 0, b"bad input: line ");
-    let to = output::put_count(out, to, number);
-    let to = output::put(out, to, b'\n');
-    output::flush(out, to);
+    let to = text_words::put(out, 0, b"bad input: line ");
+    let to = put_line(out, to, number as u64);
+    print(out, to);
 }
 
 // The bad line, the refusal, or the numbers.
@@ -232,10 +226,9 @@ fn put_end(out: &mut Out, state: State) {
         return;
     }
     if state.refusal != 0 {
-        let to = output::put_all(out, 0, b"refused ");
-        let to = output::put_small(out, to, state.refusal);
-        let to = output::put(out, to, b'\n');
-        output::flush(out, to);
+        let to = text_words::put(out, 0, b"refused ");
+        let to = put_line(out, to, state.refusal as u64);
+        print(out, to);
         return;
     }
     let tally = state.tally;
@@ -251,7 +244,7 @@ fn put_numbers(out: &mut Out, t: Tally) {
     let to = put_line(out, to, t.smallest_place);
     let to = put_line(out, to, t.greatest_place);
     let to = put_whole_line(out, to, t.sum);
-    output::flush(out, to);
+    print(out, to);
 }
 
 // Each number on a line.
@@ -266,11 +259,16 @@ fn put_lines(out: &mut Out, at: usize, numbers: &[u64]) -> usize {
 }
 
 fn put_line(out: &mut Out, at: usize, n: u64) -> usize {
-    let to = output::put_natural(out, at, n);
-    output::put(out, to, b'\n')
+    let to = text_numerals::put_natural(out, at, n);
+    text_words::put(out, to, b"\n")
 }
 
 fn put_whole_line(out: &mut Out, at: usize, n: i64) -> usize {
-    let to = output::put_whole(out, at, n);
-    output::put(out, to, b'\n')
+    let to = text_numerals::put_whole(out, at, n);
+    text_words::put(out, to, b"\n")
+}
+
+// Writes the first bytes of the output.
+fn print(out: &Out, length: usize) {
+    io::write_all(STDOUT_FILENO, text_words::before(out, length));
 }

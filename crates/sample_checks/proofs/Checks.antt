@@ -16,9 +16,10 @@ use borrow.Author.Tests.{eqb-true, eqb-false, ne-eqb, lt-ltb, le-ltb}
 use Rattle.arith.specs.Places.{firstOf}
 use Rattle.arith.specs.Whole.{sameZ}
 use Rattle.arith.proofs.Order.{same-yes, same-no}
-use Rattle.arith.proofs.Places.{turn-hit, turn-on, turn-end}
-use Rattle.byte_numbers.specs.Number.{number}
-use Rattle.sample_files.specs.File.{messageEnd, messageOf, pointsOf, shape, endIn, pointAt}
+use Rattle.arith.proofs.Places.{round-hit, round-on, round-end}
+use Rattle.sample_numbers.specs.Number.{number}
+use Rattle.sample_files.specs.File.{messageEnd, messageOf, pointsOf, shape}
+use Rattle.sample_files.specs.Inner.{endIn, pointAt}
 use Rattle.field.proofs.Bit.{Bytes}
 use Rattle.sample_files.proofs.Fields.{end-whole}
 use Rattle.sample_files.proofs.Shape.{message-whole}
@@ -36,7 +37,7 @@ module _ (a b : ℤ) (p : mag a < 2 ^ 63) (q : mag b < 2 ^ 63) where
   pub same-test : eqb (ofZ w64 a) (ofZ w64 b) ≡ sameZ a b
   same-test = by (eqb (ofZ w64 a) (ofZ w64 b)) refl
 
--- ---- the loop: its turns and its end
+-- ---- the loop: its rounds and its end
 
 module _ (m f : List ℕ) where
   abbrev pub badFrom : ℕ → ℕ
@@ -46,22 +47,22 @@ module _ (m f : List ℕ) where
   unfolding badAt pointAt
   test-is i b e = rw e
 
-  pub turn-bad : (i : ℕ) → i < length (pointsOf f) → right m (pointAt f i) ≡ false → badFrom 0 ≡ badFrom i → i + 1 ≡ firstBad m (pointsOf f)
+  pub round-bad : (i : ℕ) → i < length (pointsOf f) → right m (pointAt f i) ≡ false → badFrom 0 ≡ badFrom i → i + 1 ≡ firstBad m (pointsOf f)
   unfolding firstBad placeOf
-  turn-bad i h e v =
-      rw (← start, v, turn-hit (badAt m (pointsOf f)) i (length (pointsOf f)) h (test-is i false e), lt-ltb i (length (pointsOf f)) h) (add-one i)
+  round-bad i h e v =
+      rw (← start, v, round-hit (badAt m (pointsOf f)) i (length (pointsOf f)) h (test-is i false e), lt-ltb i (length (pointsOf f)) h) (add-one i)
     where
       start : firstOf (badAt m (pointsOf f)) 0 (length (pointsOf f) - 0) ≡ firstOf (badAt m (pointsOf f)) 0 (length (pointsOf f))
       start = ap (firstOf (badAt m (pointsOf f)) 0) (omega arith)
 
-  pub turn-right : (i : ℕ) → i < length (pointsOf f) → right m (pointAt f i) ≡ true → badFrom i ≡ badFrom (i + 1)
-  turn-right i h e = turn-on (badAt m (pointsOf f)) i (length (pointsOf f)) h (test-is i true e)
+  pub round-right : (i : ℕ) → i < length (pointsOf f) → right m (pointAt f i) ≡ true → badFrom i ≡ badFrom (i + 1)
+  round-right i h e = round-on (badAt m (pointsOf f)) i (length (pointsOf f)) h (test-is i true e)
 
   pub none-bad : (i : ℕ) → length (pointsOf f) ≤ i → badFrom 0 ≡ badFrom i → 0 ≡ firstBad m (pointsOf f)
   unfolding firstBad placeOf
   none-bad i h v =
       let s : firstOf (badAt m (pointsOf f)) 0 (length (pointsOf f)) ≡ i =
-      ap (firstOf (badAt m (pointsOf f)) 0) (omega arith) ∙ v ∙ turn-end (badAt m (pointsOf f)) i (length (pointsOf f)) h in
+      ap (firstOf (badAt m (pointsOf f)) 0) (omega arith) ∙ v ∙ round-end (badAt m (pointsOf f)) i (length (pointsOf f)) h in
       rw (s, le-ltb i (length (pointsOf f)) h)
 
 -- ---- the message's part of a file

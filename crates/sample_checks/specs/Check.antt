@@ -7,9 +7,9 @@ use lib.Dec.{eqb, ltb}
 use lib.ListN.{length, getD}
 use Rattle.arith.specs.Places.{firstOf}
 use Rattle.arith.specs.Whole.{sameZ}
-use Rattle.wire.specs.Message.{kindRefusal}
-use Rattle.grid.specs.Shift.{messageShift}
-use Rattle.sample_files.specs.declared.Point.{Point}
+use Rattle.message_rows.specs.Message.{kindRefusal}
+use Rattle.grid_shifts.specs.Shift.{messageShift}
+use Rattle.sample_files.specs.declared.SamplePoint.{SamplePoint}
 use Rattle.sample_files.specs.File.{messageOf, pointsOf, shape, noPoint}
 use Rattle.sample_checks.specs.declared.Checked.{Checked}
 
@@ -18,20 +18,20 @@ abbrev pub messageRefusal : List ℕ → ℕ
 messageRefusal m = kindRefusal 1023 1024 m
 
 -- "answered 0 with the claimed count"
-unfoldable pub right : List ℕ → Point → Bool
+unfoldable pub right : List ℕ → SamplePoint → Bool
 right m p =
     let a = messageShift m (p .component) (p .north) (p .east) in
     eqb (a .refusal) 0 && sameZ (a .count) (p .claim)
 
 -- point i, from 0, is bad
-unfoldable pub badAt : List ℕ → List Point → ℕ → Bool
+unfoldable pub badAt : List ℕ → List SamplePoint → ℕ → Bool
 badAt m ps i = not (right m (getD ps i noPoint))
 
 -- "the first bad point, from 1"; 0 where there is none
 unfoldable pub placeOf : ℕ → ℕ → ℕ
 placeOf i n = cond (ltb i n) (suc i) 0
 
-unfoldable pub firstBad : List ℕ → List Point → ℕ
+unfoldable pub firstBad : List ℕ → List SamplePoint → ℕ
 firstBad m ps = placeOf (firstOf (badAt m ps) 0 (length ps)) (length ps)
 
 abbrev pub refusedWith : ℕ → Checked

@@ -1,15 +1,12 @@
 // Checking a vendor's sample answers against the shifts of their message. The functions with a requires are private.
-use part::Kept;
-use sample_files::Point;
+use arith::refusals::CLAIM;
+use arith::refusals::LAYOUT;
+use grid_component::Kept;
+use sample_files::SamplePoint;
 ghost use mathlib.Core.Path.{_≡_};
-ghost use Rattle.part.specs.Part.{keptOf};
+ghost use Rattle.grid_component.specs.Inner.{keptOf};
 ghost use Rattle.sample_files.specs.File.{pointsOf};
 ghost use Rattle.sample_checks.specs.Check.{right, firstBad, checked};
-
-// Refusal numbers.
-const LAYOUT: u8 = 24;
-
-const CLAIM: u8 = 25;
 
 // A refusal number, or 0; and with CLAIM the place, from 1, of the first bad point.
 #[repr(C)]
@@ -19,11 +16,11 @@ pub struct Checked {
 }
 
 // Whether a point is answered 0 with the count that it claims.
-fn right_point(message: &[u8], kept: Kept, p: Point) -> bool
+fn right_point(message: &[u8], kept: Kept, p: SamplePoint) -> bool
     requires { ⌜ kept ≡ keptOf (now message) ⌝ }
     ensures { λ r. ⌜ r ≡ right (now (message .entry)) p ⌝ }
 {
-    let answer = part::count_at(message, kept, p.component, p.north, p.east);
+    let answer = grid_component::count_at(message, kept, p.component, p.north, p.east);
     if answer.refusal != 0 {
         return false;
     }
@@ -58,7 +55,7 @@ pub fn check_samples(file: &[u8]) -> Checked
     }
     let e = sample_files::message_end(file);
     let message = &file[3..e];
-    let kept = part::keep(message);
+    let kept = grid_component::keep(message);
     if kept.refusal != 0 {
         return Checked {
             refusal: kept.refusal,

@@ -9,13 +9,13 @@ use borrow.Author.Tests.{le-leb, eq-eqb}
 use lib.Dec.{eqb}
 use lib.ListN.{length, getD, take, drop}
 use lib.Seq.{take-at, drop-at, drop-drop}
-use Rattle.byte_numbers.specs.Number.{number, bytesOf, whole, wholeBytes}
-use Rattle.sample_files.specs.declared.Point.{Point}
-use Rattle.words.specs.Words.{same}
+use Rattle.sample_numbers.specs.Number.{number, bytesOf, whole, wholeBytes}
+use Rattle.sample_files.specs.declared.SamplePoint.{SamplePoint}
+use Rattle.text_words.specs.Words.{same}
 use Rattle.sample_files.specs.File.{field, pointField, pointFields, fileOf, pointSize, mostPoints, messageOf, restOf, pointOf, pointsIn, pointsOf, shape}
 use Rattle.sample_files.specs.Private.{messageFirst, pointHead, pointHeads, onlyPoints, tested}
 use Rattle.sample_files.specs.Held.{Held, AllHeld, more}
-use Rattle.byte_numbers.proofs.Number.{length-bytesOf, length-whole, number-bytesOf, whole-back}
+use Rattle.sample_numbers.proofs.Number.{length-bytesOf, length-whole, number-bytesOf, whole-back}
 use Rattle.sample_files.proofs.Bytes.{length-contents, length-point, length-points, length-file}
 
 pub same-refl : (a : List ℕ) → same a a ≡ true
@@ -25,7 +25,7 @@ same-refl (x ∷ a) = rw (eq-eqb x x refl) (same-refl a)
 
 -- ---- a point
 
-module _ (p : Point) (t : List ℕ) where
+module _ (p : SamplePoint) (t : List ℕ) where
   -- the bytes from the north-south position on
   abbrev places : List ℕ
   places = wholeBytes (p .north) ++ (wholeBytes (p .east) ++ (wholeBytes (p .claim) ++ t))
@@ -62,12 +62,12 @@ module _ (p : Point) (t : List ℕ) where
   pub next-back : drop pointSize (pointField p ++ t) ≡ t
   next-back = drop-at (pointField p) t pointSize (length-point p)
 
-pub heads-back : (ps : List Point) → pointHeads (length ps) (pointFields ps) ≡ true
+pub heads-back : (ps : List SamplePoint) → pointHeads (length ps) (pointFields ps) ≡ true
 unfolding pointHeads pointFields
 heads-back [] = refl
 heads-back (p ∷ ps) = rw (head-back p (pointFields ps), next-back p (pointFields ps)) (heads-back ps)
 
-pub points-back : (ps : List Point) → AllHeld ps → pointsIn (length ps) (pointFields ps) ≡ ps
+pub points-back : (ps : List SamplePoint) → AllHeld ps → pointsIn (length ps) (pointFields ps) ≡ ps
 unfolding pointsIn pointFields
 points-back [] h = refl
 points-back (p ∷ ps) (more h hs) =
@@ -75,7 +75,7 @@ points-back (p ∷ ps) (more h hs) =
 
 -- ---- a file
 
-module _ (m : List ℕ) (ps : List Point) (h : length m < 65536) where
+module _ (m : List ℕ) (ps : List SamplePoint) (h : length m < 65536) where
   abbrev f : List ℕ
   f = fileOf m ps
 

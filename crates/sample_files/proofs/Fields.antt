@@ -9,8 +9,9 @@ use native.Mathlib.Decide.{decLe}
 use native.Mathlib.Omega.{arith}
 use lib.ListN.{length, getD, take, drop, length-drop, drop-of-length-le}
 use lib.Seq.{take-all, drop-drop}
-use Rattle.sample_files.specs.declared.Point.{Point}
-use Rattle.sample_files.specs.File.{pointSize, messageEnd, restOf, pointOf, pointsIn, pointsOf, endIn, noPoint, pointAt}
+use Rattle.sample_files.specs.declared.SamplePoint.{SamplePoint}
+use Rattle.sample_files.specs.File.{pointSize, messageEnd, restOf, pointOf, pointsIn, pointsOf, noPoint}
+use Rattle.sample_files.specs.Inner.{endIn, pointAt}
 use Rattle.sample_files.specs.Private.{pointHead, pointHeads}
 
 -- the part of a slice from a on
@@ -21,7 +22,7 @@ tail s a = take-all (length s - a) (drop a s) (omega (arith, length-drop a s))
 pub field-in : (s : List ℕ) (n i : ℕ) → i < n → pointSize * n ≤ length s → pointSize ≤ length (take (length s - pointSize * i) (drop (pointSize * i) s))
 field-in s n i h l = rw (tail s (pointSize * i)) (omega (arith, length-drop (pointSize * i) s))
 
--- ---- the loop over fields: its start, its turns and its end
+-- ---- the loop over fields: its start, its rounds and its end
 
 pub start-heads : (s : List ℕ) (n : ℕ) → pointHeads n s ≡ pointHeads (n - 0) (drop (pointSize * 0) s)
 start-heads s n = rw sub-zero
@@ -35,15 +36,15 @@ module _ (s : List ℕ) (n i : ℕ) (h : i < n) where
       let e : pointSize * i + pointSize ≡ pointSize * (i + 1) = omega arith in
       drop-drop pointSize (pointSize * i) s ∙ ap (λ (k : ℕ). drop k s) e
 
-  turn-heads : pointHeads (n - i) (drop (pointSize * i) s) ≡ (pointHead (drop (pointSize * i) s) && pointHeads (n - (i + 1)) (drop (pointSize * (i + 1)) s))
+  round-heads : pointHeads (n - i) (drop (pointSize * i) s) ≡ (pointHead (drop (pointSize * i) s) && pointHeads (n - (i + 1)) (drop (pointSize * (i + 1)) s))
   unfolding pointHeads
-  turn-heads = rw left (ap (λ (l : List ℕ). pointHead (drop (pointSize * i) s) && pointHeads (n - (i + 1)) l) next)
+  round-heads = rw left (ap (λ (l : List ℕ). pointHead (drop (pointSize * i) s) && pointHeads (n - (i + 1)) l) next)
 
   pub head-fails : pointHead (drop (pointSize * i) s) ≡ false → pointHeads (n - i) (drop (pointSize * i) s) ≡ false
-  head-fails e = turn-heads ∙ rw e
+  head-fails e = round-heads ∙ rw e
 
   pub head-holds : pointHead (drop (pointSize * i) s) ≡ true → pointHeads (n - i) (drop (pointSize * i) s) ≡ pointHeads (n - (i + 1)) (drop (pointSize * (i + 1)) s)
-  head-holds e = turn-heads ∙ rw e
+  head-holds e = round-heads ∙ rw e
 
 pub end-heads : (s : List ℕ) (n i : ℕ) → n ≤ i → pointHeads (n - i) (drop (pointSize * i) s) ≡ true
 unfolding pointHeads
@@ -85,7 +86,7 @@ unfolding pointsIn
 length-points-in zero s = refl
 length-points-in (suc n) s = ap suc (length-points-in n (drop pointSize s))
 
-pub point-in : (n : ℕ) (s : List ℕ) (i : ℕ) (d : Point) → i < n → getD (pointsIn n s) i d ≡ pointOf (drop (pointSize * i) s)
+pub point-in : (n : ℕ) (s : List ℕ) (i : ℕ) (d : SamplePoint) → i < n → getD (pointsIn n s) i d ≡ pointOf (drop (pointSize * i) s)
 unfolding pointsIn
 point-in zero s i d h = absurd (not-suc-le-zero h)
 point-in (suc n) s zero d h = refl
@@ -111,7 +112,7 @@ module _ (f : List ℕ) where
   unfolding pointAt
   point-none i h = sym (beyond (pointsOf f) i h)
     where
-      beyond : (ps : List Point) (k : ℕ) → length ps ≤ k → getD ps k noPoint ≡ noPoint
+      beyond : (ps : List SamplePoint) (k : ℕ) → length ps ≤ k → getD ps k noPoint ≡ noPoint
       beyond [] k h = refl
       beyond (p ∷ ps) zero h = absurd (not-suc-le-zero h)
       beyond (p ∷ ps) (suc k) h = beyond ps k (le-of-suc-le-suc h)

@@ -13,10 +13,10 @@ use lib.Signed.{mag}
 use lib.Seq.{length-take-le, take-add, take-suc, drop-drop, getD-drop}
 use Rattle.arith.proofs.Tests.{false-ne-true, both-first, both-second}
 use Rattle.field.proofs.Bit.{Bytes}
-use Rattle.words.specs.Words.{same}
-use Rattle.byte_numbers.specs.Number.{number, bytesOf, whole, wholeBytes}
-use Rattle.byte_numbers.proofs.Number.{number-lt, bytesOf-number, bytes-back, whole-held}
-use Rattle.sample_files.specs.declared.Point.{Point}
+use Rattle.text_words.specs.Words.{same}
+use Rattle.sample_numbers.specs.Number.{number, bytesOf, whole, wholeBytes}
+use Rattle.sample_numbers.proofs.Number.{number-lt, bytesOf-number, bytes-back, whole-held}
+use Rattle.sample_files.specs.declared.SamplePoint.{SamplePoint}
 use Rattle.sample_files.specs.File.{field, pointField, pointFields, fileOf, pointSize, mostPoints, messageEnd, messageOf, restOf, pointOf, pointsIn, pointsOf, shape}
 use Rattle.sample_files.specs.Private.{messageFirst, pointHead, pointHeads, onlyPoints, tested}
 use Rattle.sample_files.specs.Held.{Held, AllHeld, none, more}
@@ -55,7 +55,7 @@ module _ (s : List ℕ) (b : Bytes s) where
   field-of : pointSize ≤ length s → pointHead s ≡ true → pointField (pointOf s) ≡ take pointSize s
   unfolding pointField field pointOf pointHead
   field-of h t =
-      let p : Point = pointOf s in
+      let p : SamplePoint = pointOf s in
       let u : getD s 0 0 ≡ 2 = eqb-true (getD s 0 0) 2 (both-first (eqb (getD s 0 0) 2) (eqb (number 2 (drop 1 s)) 25) t) in
       let v : number 2 (drop 1 s) ≡ 25 = eqb-true (number 2 (drop 1 s)) 25 (both-second (eqb (getD s 0 0) 2) (eqb (number 2 (drop 1 s)) 25) t) in
       (λ i. sym u i ∷ ((ap (bytesOf 2) (length-contents p) ∙ two-bytes 25 v (omega arith)) i

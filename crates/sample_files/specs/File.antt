@@ -1,14 +1,14 @@
 -- A file of sample answers, as a message and points, and as bytes: request A13, "The file is tagged fields".
 -- Assumes nothing.
-use Prim.Native.Nat.{ℕ, zero, suc, _+_, _/_, min}
+use Prim.Native.Nat.{ℕ, zero, suc, _+_, _/_}
 use mathlib.Core.Bool.{Bool, _&&_}
 use mathlib.Core.List.{List, [], _∷_, _++_}
 use lib.Dec.{leb}
 use lib.IntN.{pos}
 use lib.ListN.{length, getD, take, drop}
-use Rattle.words.specs.Words.{same}
-use Rattle.byte_numbers.specs.Number.{number, bytesOf, whole, wholeBytes}
-use Rattle.sample_files.specs.declared.Point.{Point}
+use Rattle.text_words.specs.Words.{same}
+use Rattle.sample_numbers.specs.Number.{number, bytesOf, whole, wholeBytes}
+use Rattle.sample_files.specs.declared.SamplePoint.{SamplePoint}
 
 -- ---- the bytes of a message and points
 
@@ -17,15 +17,15 @@ unfoldable pub field : ℕ → List ℕ → List ℕ
 field tag contents = tag ∷ (bytesOf 2 (length contents) ++ contents)
 
 -- "tag 2, 25 bytes: component, north-south and east-west position, claimed count, the last three as 8 bytes"
-unfoldable pub pointField : Point → List ℕ
+unfoldable pub pointField : SamplePoint → List ℕ
 pointField p = field 2 (p .component ∷ (wholeBytes (p .north) ++ (wholeBytes (p .east) ++ wholeBytes (p .claim))))
 
-unfoldable pub pointFields : List Point → List ℕ
+unfoldable pub pointFields : List SamplePoint → List ℕ
 pointFields [] = []
 pointFields (p ∷ ps) = pointField p ++ pointFields ps
 
 -- "The first is tag 1, a grid message. Then .. of tag 2"
-unfoldable pub fileOf : List ℕ → List Point → List ℕ
+unfoldable pub fileOf : List ℕ → List SamplePoint → List ℕ
 fileOf message points = field 1 message ++ pointFields points
 
 -- ---- the message and the points of bytes
@@ -49,15 +49,15 @@ unfoldable pub restOf : List ℕ → List ℕ
 restOf f = drop (messageEnd f) f
 
 -- the point of the field that s begins with
-unfoldable pub pointOf : List ℕ → Point
+unfoldable pub pointOf : List ℕ → SamplePoint
 pointOf s = record { component = getD s 3 0; north = whole (drop 4 s); east = whole (drop 12 s); claim = whole (drop 20 s) }
 
 -- the points of the first n fields of s
-unfoldable pub pointsIn : ℕ → List ℕ → List Point
+unfoldable pub pointsIn : ℕ → List ℕ → List SamplePoint
 pointsIn zero s = []
 pointsIn (suc n) s = pointOf s ∷ pointsIn n (drop pointSize s)
 
-unfoldable pub pointsOf : List ℕ → List Point
+unfoldable pub pointsOf : List ℕ → List SamplePoint
 pointsOf f = pointsIn (length (restOf f) / pointSize) (restOf f)
 
 -- ---- the shape: f is the bytes of its message and its points, of which there are "at most 1,000"
@@ -67,13 +67,6 @@ shape f = same f (fileOf (messageOf f) (pointsOf f)) && leb (length (pointsOf f)
 
 -- ---- answers for any bytes
 
--- where the message ends, or the file where that is earlier
-unfoldable pub endIn : List ℕ → ℕ
-endIn f = min (messageEnd f) (length f)
-
 -- point i, from 0; all zero where there is none
-abbrev pub noPoint : Point
+abbrev pub noPoint : SamplePoint
 noPoint = record { component = 0; north = pos 0; east = pos 0; claim = pos 0 }
-
-unfoldable pub pointAt : List ℕ → ℕ → Point
-pointAt f i = getD (pointsOf f) i noPoint

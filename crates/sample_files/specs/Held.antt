@@ -3,14 +3,14 @@
 use Prim.Native.Nat.{_^_, _<_}
 use mathlib.Core.List.{List, [], _∷_}
 use lib.Signed.{mag}
-use Rattle.sample_files.specs.declared.Point.{Point}
+use Rattle.sample_files.specs.declared.SamplePoint.{SamplePoint}
 
-pub record Held (p : Point) : Type 0 where
+pub record Held (p : SamplePoint) : Type 0 where
   pub component : p .component < 256
   pub north : mag (p .north) < 2 ^ 63
   pub east : mag (p .east) < 2 ^ 63
   pub claim : mag (p .claim) < 2 ^ 63
 
-pub data AllHeld : List Point → Type 0 where
+pub data AllHeld : List SamplePoint → Type 0 where
   none : AllHeld []
-  more : {p : Point} {ps : List Point} → Held p → AllHeld ps → AllHeld (p ∷ ps)
+  more : {p : SamplePoint} {ps : List SamplePoint} → Held p → AllHeld ps → AllHeld (p ∷ ps)

@@ -1,3 +1,4 @@
 pub mod File
 pub mod Private
 pub mod Held
+pub mod Inner

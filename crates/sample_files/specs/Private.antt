@@ -5,7 +5,7 @@ use mathlib.Core.Bool.{Bool, true, _&&_}
 use mathlib.Core.List.{List}
 use lib.Dec.{eqb, leb}
 use lib.ListN.{length, getD, drop}
-use Rattle.byte_numbers.specs.Number.{number}
+use Rattle.sample_numbers.specs.Number.{number}
 use Rattle.sample_files.specs.File.{pointSize, mostPoints, messageEnd, restOf}
 
 unfoldable pub messageFirst : List ℕ → Bool

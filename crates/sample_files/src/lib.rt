@@ -2,7 +2,8 @@
 ghost use mathlib.Core.Path.{_≡_};
 ghost use Prim.Native.Nat.{_+_, _*_, _≤_};
 ghost use lib.ListN.{length, drop};
-ghost use Rattle.sample_files.specs.File.{pointSize, pointOf, pointsOf, shape, endIn, pointAt};
+ghost use Rattle.sample_files.specs.File.{pointSize, pointOf, pointsOf, shape};
+ghost use Rattle.sample_files.specs.Inner.{endIn, pointAt};
 ghost use Rattle.sample_files.specs.Private.{messageFirst, pointHead, pointHeads, onlyPoints};
 
 const POINT_SIZE: usize = 28;
@@ -10,7 +11,7 @@ const POINT_SIZE: usize = 28;
 const MOST_POINTS: usize = 1000;
 
 // A component, a position and the count that is claimed there.
-pub struct Point {
+pub struct SamplePoint {
     pub component: u8,
     pub north: i64,
     pub east: i64,
@@ -27,7 +28,7 @@ fn message_first(file: &[u8]) -> bool
     if file[0] != 1 {
         return false;
     }
-    let n = byte_numbers::number_at(file, 1, 2) as usize;
+    let n = sample_numbers::number_at(file, 1, 2) as usize;
     if file.len() - 3 < n {
         return false;
     }
@@ -42,7 +43,7 @@ pub fn message_end(file: &[u8]) -> usize
     if length < 3 {
         return length;
     }
-    let n = byte_numbers::number_at(file, 1, 2) as usize;
+    let n = sample_numbers::number_at(file, 1, 2) as usize;
     if length - 3 < n {
         return length;
     }
@@ -57,7 +58,7 @@ fn point_head(s: &[u8]) -> bool
     if s[0] != 2 {
         return false;
     }
-    byte_numbers::number_at(s, 1, 2) == 25
+    sample_numbers::number_at(s, 1, 2) == 25
 }
 
 // Whether each of the n fields of s has the tag and the length of a point.
@@ -110,24 +111,24 @@ pub fn point_count(file: &[u8]) -> usize
 }
 
 // The point of the field that begins at byte a.
-fn point_in(s: &[u8], a: usize) -> Point
+fn point_in(s: &[u8], a: usize) -> SamplePoint
     requires { ⌜ a + pointSize ≤ length (now s) ⌝ }
     ensures { λ r. ⌜ r ≡ pointOf (drop a (now (s .entry))) ⌝ }
 {
-    Point {
+    SamplePoint {
         component: s[a + 3],
-        north: byte_numbers::whole_at(s, a + 4),
-        east: byte_numbers::whole_at(s, a + 12),
-        claim: byte_numbers::whole_at(s, a + 20),
+        north: sample_numbers::whole_at(s, a + 4),
+        east: sample_numbers::whole_at(s, a + 12),
+        claim: sample_numbers::whole_at(s, a + 20),
     }
 }
 
-// Point i of a file, from 0; all zero where there is none.
-pub fn point_at(file: &[u8], i: usize) -> Point
+// SamplePoint i of a file, from 0; all zero where there is none.
+pub fn point_at(file: &[u8], i: usize) -> SamplePoint
     ensures { λ r. ⌜ r ≡ pointAt (now (file .entry)) i ⌝ }
 {
     if point_count(file) <= i {
-        return Point {
+        return SamplePoint {
             component: 0,
             north: 0,
             east: 0,

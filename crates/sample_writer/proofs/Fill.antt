@@ -8,9 +8,9 @@ use borrow.Rule.Slice.PartMut.{putMid, post-is}
 use lib.IntN.{ℤ}
 use lib.ListN.{length, take, drop, length-append, length-drop, drop-of-length-le}
 use lib.Seq.{take-at, drop-at, drop-drop, length-take-le}
-use Rattle.byte_numbers.specs.Number.{bytesOf, wholeBytes, putBytes}
-use Rattle.byte_numbers.proofs.Number.{length-bytesOf, length-whole, put-within}
-use Rattle.sample_files.specs.declared.Point.{Point}
+use Rattle.sample_numbers.specs.Number.{bytesOf, wholeBytes, putBytes}
+use Rattle.sample_numbers.proofs.Number.{length-bytesOf, length-whole, put-within}
+use Rattle.sample_files.specs.declared.SamplePoint.{SamplePoint}
 use Rattle.sample_files.specs.File.{field, pointField, pointFields, fileOf}
 use Rattle.sample_files.proofs.Bytes.{length-contents}
 
@@ -67,7 +67,7 @@ one-byte c h = let e : c % 256 ≡ c = omega arith in ap (λ (n : ℕ). n ∷ []
 regroup : (x a c n e z : List ℕ) → ((((([] ++ x) ++ a) ++ c) ++ n) ++ e) ++ z ≡ x ++ (a ++ (c ++ (n ++ (e ++ z))))
 regroup x a c n e z = simp append-assoc
 
-pub put-point-is : (p : Point) (n e z : ℤ) → p .component < 256 → n ≡ p .north → e ≡ p .east → z ≡ p .claim
+pub put-point-is : (p : SamplePoint) (n e z : ℤ) → p .component < 256 → n ≡ p .north → e ≡ p .east → z ≡ p .claim
     → ((((([] ++ bytesOf 1 2) ++ bytesOf 2 25) ++ bytesOf 1 (p .component)) ++ wholeBytes n) ++ wholeBytes e) ++ wholeBytes z ≡ pointField p
 unfolding pointField field
 put-point-is p n e z h a b d =
@@ -76,6 +76,6 @@ put-point-is p n e z h a b d =
     ++ (bytesOf 2 (sym (length-contents p) i)
     ++ (one-byte (p .component) h i ++ (wholeBytes (a i) ++ (wholeBytes (b i) ++ wholeBytes (d i)))))
 
-pub put-file-is : (m : List ℕ) (ps : List Point) → ((([] ++ bytesOf 1 1) ++ bytesOf 2 (length m)) ++ m) ++ pointFields ps ≡ fileOf m ps
+pub put-file-is : (m : List ℕ) (ps : List SamplePoint) → ((([] ++ bytesOf 1 1) ++ bytesOf 2 (length m)) ++ m) ++ pointFields ps ≡ fileOf m ps
 unfolding fileOf field
 put-file-is m ps = rw (one-byte 1 (omega arith)) (simp append-assoc)

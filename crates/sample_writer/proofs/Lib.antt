@@ -1,3 +1,4 @@
+pub mod Asked
 pub mod Fill
 pub mod Points
 pub mod Writes

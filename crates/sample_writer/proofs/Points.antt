@@ -10,7 +10,7 @@ use lib.ListN.{length, take, drop, length-append}
 use lib.Seq.{take-at, take-all, length-take-le}
 use Rattle.sample_files.specs.File.{pointSize, pointField, pointFields}
 use Rattle.sample_files.proofs.Bytes.{length-point}
-use Rattle.sample_refusals.proofs.Points.{from, point, from-end, from-point}
+use Rattle.sample_writer.proofs.Asked.{from, point, from-end, from-point}
 use Rattle.sample_writer.specs.Write.{sample}
 
 pub size-put : (out z : List ℕ) (i : ℕ) → length z ≡ length (take (pointSize * i + pointSize - pointSize * i) (drop (pointSize * i) out)) → length (putMid (pointSize * i) (pointSize * i + pointSize - pointSize * i) out z) ≡ length out
@@ -32,9 +32,9 @@ module _ (cs : List ℕ) (ns es : List ℤ) (i : ℕ) (h : i < length cs) (p : l
   unfolding pointFields
   fields-next = rw (from-point cs ns es i h p q)
 
-  pub turn-fields : (out z : List ℕ) → z ≡ pointField (sample m (point cs ns es i)) → pointSize * i + pointSize ≤ length out
+  pub round-fields : (out z : List ℕ) → z ≡ pointField (sample m (point cs ns es i)) → pointSize * i + pointSize ≤ length out
       → take (pointSize * (i + 1)) (putMid (pointSize * i) (pointSize * i + pointSize - pointSize * i) out z) ++ fieldsFrom (i + 1) ≡ take (pointSize * i) out ++ fieldsFrom i
-  turn-fields out z e l =
+  round-fields out z e l =
       ap (λ (b : List ℕ). b ++ fieldsFrom (i + 1)) (put-next out z i l (ap length e ∙ length-point (sample m (point cs ns es i))))
       ∙ append-assoc (take (pointSize * i) out) z (fieldsFrom (i + 1))
       ∙ ap (λ (b : List ℕ). take (pointSize * i) out ++ b) (ap (λ (b : List ℕ). b ++ fieldsFrom (i + 1)) e ∙ sym fields-next)

@@ -9,8 +9,8 @@ use lib.ListN.{length}
 use Rattle.layout.specs.declared.Written.{Written}
 use Rattle.layout.specs.Layout.{answered, stored}
 use Rattle.sample_files.specs.File.{pointSize}
-use Rattle.sample_refusals.specs.Refusals.{Asked, askedOf, pointsRefusal}
-use Rattle.sample_refusals.proofs.Points.{length-askedOf, passed}
+use Rattle.sample_writer.specs.Refusals.{Asked, askedOf, pointsRefusal}
+use Rattle.sample_writer.proofs.Asked.{length-askedOf, passed}
 use Rattle.sample_writer.specs.Write.{sample, samplesFile, writeRefusal}
 use Rattle.sample_files.proofs.Bytes.{length-file}
 

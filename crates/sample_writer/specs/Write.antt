@@ -6,12 +6,12 @@ use lib.Dec.{ltb}
 use lib.ListN.{length}
 use lib.IntN.{ℤ}
 use Rattle.arith.specs.First.{first}
-use Rattle.sample_files.specs.declared.Point.{Point}
+use Rattle.sample_files.specs.declared.SamplePoint.{SamplePoint}
 use Rattle.sample_files.specs.File.{fileOf}
-use Rattle.sample_refusals.specs.Refusals.{Asked, askedOf, answerAt, given, pointsRefusal}
+use Rattle.sample_writer.specs.Refusals.{Asked, askedOf, answerAt, given, pointsRefusal}
 
 -- a point with the message's answer there as its claim
-unfoldable pub sample : List ℕ → Asked → Point
+unfoldable pub sample : List ℕ → Asked → SamplePoint
 sample m p = record { component = p .component; north = p .north; east = p .east; claim = answerAt m p .count }
 
 unfoldable pub samplesFile : List ℕ → List Asked → List ℕ

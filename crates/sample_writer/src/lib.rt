@@ -1,32 +1,83 @@
-// Writing a file of sample answers from a message and points. The functions with a requires are private.
-use layout::Written;
-use part::Kept;
+// Why no samples are made of a message and points. The functions with a requires are private.
+use arith::refusals::LENGTH;
+use arith::refusals::ROOM;
+use grid_component::Kept;
 ghost use mathlib.Core.Path.{_≡_};
+ghost use lib.ListN.{length};
+ghost use Rattle.grid_component.specs.Inner.{keptOf};
+ghost use Rattle.sample_writer.specs.Refusals.{askedOf, firstRefused, pointsRefusal};
+use layout::Written;
 ghost use mathlib.Core.List.{map};
 ghost use Prim.Native.Nat.{_+_, _*_};
-ghost use lib.ListN.{length};
 ghost use Rattle.layout.specs.Layout.{answered, stored};
-ghost use Rattle.part.specs.Part.{keptOf};
 ghost use Rattle.sample_files.specs.File.{pointSize, pointField, pointFields};
-ghost use Rattle.sample_refusals.specs.Refusals.{askedOf};
 ghost use Rattle.sample_writer.specs.Write.{sample, samplesFile, writeRefusal};
 
-const POINT_SIZE: usize = 28;
+const MOST_POINTS: usize = 1000;
 
-// Refusal number.
-const ROOM: u8 = 6;
+// The refusal of the first point that is refused, 0 where none is.
+fn first_refused(message: &[u8], kept: Kept, components: &[u8], north: &[i64], east: &[i64]) -> u8
+    requires { ⌜ (kept ≡ keptOf (now message)) × ((length (now components) ≡ length (now north)) × (length (now components) ≡ length (now east))) ⌝ }
+    ensures { λ r. ⌜ r ≡ firstRefused (now (message .entry)) (askedOf (now (components .entry)) (now (north .entry)) (now (east .entry))) ⌝ }
+{
+    let mut i: usize = 0;
+    while i < components.len() {
+        let refusal = grid_component::count_at(
+            message,
+            kept,
+            components[i],
+            north[i],
+            east[i],
+        ).refusal;
+        if refusal != 0 {
+            return refusal;
+        }
+        i += 1;
+    }
+    0
+}
+
+// The refusal of a message and the points of three slices: 1 to 5 and KIND, LENGTH where their counts differ, that of the first refused point, LENGTH
+// above 1,000 points.
+pub fn points_refusal(message: &[u8], components: &[u8], north: &[i64], east: &[i64]) -> u8
+    ensures { λ r. ⌜ r ≡ pointsRefusal (now (message .entry)) (now (components .entry)) (now (north .entry)) (now (east .entry)) ⌝ }
+{
+    let kept = grid_component::keep(message);
+    if kept.refusal != 0 {
+        return kept.refusal;
+    }
+    let n = components.len();
+    if n != north.len() {
+        return LENGTH;
+    }
+    if n != east.len() {
+        return LENGTH;
+    }
+    let point = first_refused(message, kept, components, north, east);
+    if point != 0 {
+        return point;
+    }
+    if MOST_POINTS < n {
+        return LENGTH;
+    }
+    0
+}
+
+// Writing a file of sample answers from a message and points. The functions with a requires are private.
+
+const POINT_SIZE: usize = 28;
 
 // Fills out with the field of a point.
 fn put_point(out: &mut [u8], component: u8, north: i64, east: i64, claim: i64)
     requires { ⌜ length (now out) ≡ pointSize ⌝ }
     ensures { λ _. ⌜ now (out .exit) ≡ pointField (record { component = component; north = north; east = east; claim = claim }) ⌝ }
 {
-    byte_numbers::put_at(out, 0, 1, 2);
-    byte_numbers::put_at(out, 1, 2, 25);
-    byte_numbers::put_at(out, 3, 1, component as u64);
-    byte_numbers::put_whole(out, 4, north);
-    byte_numbers::put_whole(out, 12, east);
-    byte_numbers::put_whole(out, 20, claim);
+    sample_numbers::put_at(out, 0, 1, 2);
+    sample_numbers::put_at(out, 1, 2, 25);
+    sample_numbers::put_at(out, 3, 1, component as u64);
+    sample_numbers::put_whole(out, 4, north);
+    sample_numbers::put_whole(out, 12, east);
+    sample_numbers::put_whole(out, 20, claim);
 }
 
 // Fills out with the field of a point whose claim is the message's answer there.
@@ -34,7 +85,7 @@ fn put_sample(out: &mut [u8], message: &[u8], kept: Kept, component: u8, north: 
     requires { ⌜ (kept ≡ keptOf (now message)) × (length (now out) ≡ pointSize) ⌝ }
     ensures { λ _. ⌜ now (out .exit) ≡ pointField (sample (now (message .entry)) (record { component = component; north = north; east = east })) ⌝ }
 {
-    let answer = part::count_at(message, kept, component, north, east);
+    let answer = grid_component::count_at(message, kept, component, north, east);
     put_point(out, component, north, east, answer.count);
 }
 
@@ -79,9 +130,9 @@ fn put_file(
     ensures { λ _. ⌜ now (out .exit) ≡ samplesFile (now (message .entry)) (askedOf (now (components .entry)) (now (north .entry)) (now (east .entry))) ⌝ }
 {
     let e = 3 + message.len();
-    byte_numbers::put_at(out, 0, 1, 1);
-    byte_numbers::put_at(out, 1, 2, message.len() as u64);
-    byte_numbers::put_bytes(out, 3, message);
+    sample_numbers::put_at(out, 0, 1, 1);
+    sample_numbers::put_at(out, 1, 2, message.len() as u64);
+    sample_numbers::put_bytes(out, 3, message);
     put_samples(&mut out[e..], message, kept, components, north, east);
 }
 
@@ -102,7 +153,7 @@ pub fn write_samples(
     ensures answer { λ r. ⌜ r ≡ answered (writeRefusal (now (message .entry)) (now (components .entry)) (now (north .entry)) (now (east .entry)) (length (now (out .entry)))) (samplesFile (now (message .entry)) (askedOf (now (components .entry)) (now (north .entry)) (now (east .entry)))) ⌝ }
     ensures output { λ r. ⌜ now (out .exit) ≡ stored (writeRefusal (now (message .entry)) (now (components .entry)) (now (north .entry)) (now (east .entry)) (length (now (out .entry)))) (samplesFile (now (message .entry)) (askedOf (now (components .entry)) (now (north .entry)) (now (east .entry)))) (now (out .entry)) ⌝ }
 {
-    let refusal = sample_refusals::points_refusal(message, components, north, east);
+    let refusal = points_refusal(message, components, north, east);
     if refusal != 0 {
         return refused(refusal);
     }
@@ -113,7 +164,7 @@ pub fn write_samples(
     put_file(
         &mut out[..length],
         message,
-        part::keep(message),
+        grid_component::keep(message),
         components,
         north,
         east,

@@ -12,13 +12,13 @@ use borrow.Author.Tests.{ltb-true, eq-eqb, ne-eqb, lt-ltb, le-ltb}
 use native.Mathlib.Decide.{decLt}
 use Rattle.arith.specs.First.{Test, first}
 use Rattle.arith.proofs.First.{passed, not-false}
-use Rattle.wire.specs.Message.{tests, refusal}
-use Rattle.table.specs.declared.Found.{Found}
-use Rattle.slots.specs.Slots.{slots, most, slotSize, isOwner, key, keyOf, joined, slot}
+use Rattle.message_rows.specs.Message.{tests, refusal}
+use Rattle.table.specs.declared.WalkFound.{WalkFound}
+use Rattle.table_slots.specs.Slots.{slots, most, slotSize, isOwner, key, keyOf, joined, slot}
 use Rattle.table.specs.Table.{foundOf, place, holding, wellFormed, put, storePlace, storeRefusal, storeTable, keyPlace, findRefusal, foundAt, foundLength, removeTable}
-use Rattle.wire.proofs.Limits.{first-behind}
+use Rattle.message_rows.proofs.Limits.{first-behind}
 use Rattle.table.proofs.Whole.{formed}
-use Rattle.slots.proofs.Slot.{size-byte}
+use Rattle.table_slots.proofs.Slot.{size-byte}
 
 -- a test that refuses where b does not hold
 turned : (b : Bool) (n x : ℕ) → cond (not b) n x ≡ cond b x n
@@ -84,7 +84,7 @@ module _ (t : List ℕ) (o s g : ℕ) where
 
   -- the three numbers that find answers
   pub found-is : {n a l n′ a′ l′ : ℕ} {t′ : List ℕ} → Find n a l t′ → n′ ≡ n → a′ ≡ a → l′ ≡ l
-      → _≡_ {A = Found} (record { refusal = n′; at = a′; length = l′ }) (foundOf t o s g)
+      → _≡_ {A = WalkFound} (record { refusal = n′; at = a′; length = l′ }) (foundOf t o s g)
   unfolding foundOf
   found-is f x y z = rw (f .number, f .start, f .size, x, y, z)
 
@@ -130,12 +130,12 @@ find-passed t o s g e =
     record { whole = not-false _ (a .0); owner = not-false _ (b .0); low = ltb-true (keyPlace t o s g) slots (not-false _ (d .0)) }
 
 -- what find's answer says
-pub record Says (t : List ℕ) (o s g : ℕ) (f : Found) : Type 0 where
+pub record Says (t : List ℕ) (o s g : ℕ) (f : WalkFound) : Type 0 where
   pub number : f .refusal ≡ findRefusal t o s g
   pub start : f .at ≡ foundAt t o s g
   pub size : f .length ≡ foundLength t o s g
 
-pub says : (t : List ℕ) (o s g : ℕ) (f : Found) → f ≡ foundOf t o s g → Says t o s g f
+pub says : (t : List ℕ) (o s g : ℕ) (f : WalkFound) → f ≡ foundOf t o s g → Says t o s g f
 unfolding foundOf
 says t o s g f e = record { number = ap (λ x. x .refusal) e; start = ap (λ x. x .at) e; size = ap (λ x. x .length) e }
 

@@ -7,7 +7,7 @@ use native.Mathlib.Omega.{arith}
 use native.Mathlib.Decide.{ℕ-discrete}
 use Rattle.table.specs.Table.{countOf}
 
--- a loop's turn
+-- a loop's round
 pub count-turn : (p : ℕ → Bool) (i : ℕ) → countOf p (i + 1) ≡ cond (p i) (suc (countOf p i)) (countOf p i)
 unfolding countOf
 count-turn p i = let e : i + 1 ≡ suc i = omega arith in rw e

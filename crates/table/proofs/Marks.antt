@@ -10,12 +10,11 @@ use lib.Dec.{eqb, leb}
 use lib.ListN.{length, getD}
 use borrow.Author.Tests.{eq-eqb, ne-eqb}
 use Rattle.arith.specs.Places.{firstOf}
-use Rattle.slots.specs.Slots.{slots, tableSize, groupOf, key, keyOf, joined, slot, held, wellSlot, tag}
+use Rattle.table_slots.specs.Slots.{slots, tableSize, groupOf, key, keyOf, joined, slot, held, wellSlot, tag}
 use Rattle.table.specs.Table.{hasTag, place, newKey, flawed, wellSlots, holding, wellFormed, storePlace}
-use Rattle.slots.specs.Marks.{noTag, mark, markAt, marks}
-use Rattle.marks.specs.Places.{hasMark, markPlace, flawedMark, soundMarks, markOrFree}
+use Rattle.table_slots.specs.Inner.{noTag, mark, markAt, marks, hasMark, markPlace, flawedMark, soundMarks, markOrFree}
 use Rattle.arith.proofs.Places.{agree}
-use Rattle.slots.proofs.Marks.{mark-well, mark-ill, tag-most, mark-in}
+use Rattle.table_slots.proofs.Marks.{mark-well, mark-ill, tag-most, mark-in}
 use Rattle.table.proofs.Whole.{unflawed, slots-first, formed}
 
 module _ (t : List ℕ) (size : length t ≡ tableSize) where

@@ -9,10 +9,10 @@ use lib.ListN.{length}
 use lib.Dec.{eqb, leb}
 use borrow.Author.Tests.{eqb-true, eq-eqb, leb-true, le-leb}
 use Rattle.arith.specs.Places.{firstOf}
-use Rattle.slots.specs.Slots.{slots, tableSize, most, isOwner, wellSlot, slot}
+use Rattle.table_slots.specs.Slots.{slots, tableSize, most, isOwner, wellSlot, slot}
 use Rattle.table.specs.Table.{newKey, flawed, wellSlots, holding, wellFormed}
 use Rattle.arith.proofs.Places.{First, first, first-is}
-use Rattle.slots.proofs.Owner.{by-owner}
+use Rattle.table_slots.proofs.Owner.{by-owner}
 use Rattle.arith.proofs.First.{or-false, not-false}
 use Rattle.arith.proofs.Tests.{both-first, both-second}
 

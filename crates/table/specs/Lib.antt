@@ -1,3 +1,2 @@
 pub mod Table
-pub mod Shown
-pub mod Checked
+pub mod Inner

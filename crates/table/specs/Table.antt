@@ -7,9 +7,9 @@ use lib.ListN.{length, getD, take, drop}
 use lib.Dec.{ltb, leb, eqb}
 use Rattle.arith.specs.Places.{firstOf}
 use Rattle.arith.specs.First.{first}
-use Rattle.wire.specs.Message.{tests}
-use Rattle.slots.specs.Slots.{slots, slotSize, tableSize, most, isOwner, key, keyOf, joined, slot, ownerAt, wellSlot, tag, slotOf}
-use Rattle.table.specs.declared.Found.{Found}
+use Rattle.message_rows.specs.Message.{tests}
+use Rattle.table_slots.specs.Slots.{slots, slotSize, tableSize, most, isOwner, key, keyOf, joined, slot, ownerAt, wellSlot, tag, slotOf}
+use Rattle.table.specs.declared.WalkFound.{WalkFound}
 
 -- ---- where a key stands, and the well-formed table
 
@@ -91,13 +91,9 @@ unfoldable pub foundLength : List ℕ → ℕ → ℕ → ℕ → ℕ
 foundLength t o sin group = cond (eqb (findRefusal t o sin group) 0) (getD (slot t (keyPlace t o sin group)) 1 0) 0
 
 -- what find answers
-unfoldable pub foundOf : List ℕ → ℕ → ℕ → ℕ → Found
+unfoldable pub foundOf : List ℕ → ℕ → ℕ → ℕ → WalkFound
 foundOf t o sin group =
     record { refusal = findRefusal t o sin group; at = foundAt t o sin group; length = foundLength t o sin group }
-
--- the bytes of the part, none with a refusal
-unfoldable pub found : List ℕ → ℕ → ℕ → ℕ → List ℕ
-found t o sin group = take (foundLength t o sin group) (drop (foundAt t o sin group) t)
 
 -- "Remove zeroes the slot"
 unfoldable pub removeTable : List ℕ → ℕ → ℕ → ℕ → List ℕ

@@ -1,16 +1,19 @@
 // Reads a message and points from standard input and writes the file of sample answers to standard output. The first line is the message in hexadecimal,
 // at most 400 bytes, `-` for none, each further line a point: COMPONENT NORTH EAST. On a refusal standard output stays empty, and standard error has `refused` and the
 // refusal number, or, where a line is no such line, `bad input: line` and its number from 1.
+mod input;
+mod points;
+
+use input::Got;
+use input::Place;
+use input::Window;
 use libc::STDERR_FILENO;
 use libc::STDOUT_FILENO;
-use lines::input;
-use lines::input::Chunk;
-use lines::input::Line;
-use lines::input::Place;
-use numerals::Bytes;
-use numerals::Count;
-use sample_texts::Components;
-use sample_texts::Positions;
+use points::Components;
+use points::Positions;
+use text_numerals::Count;
+
+type Message = [u8; 400];
 
 // 3 bytes, 127 of an accepted message and 28,000 of points.
 type Out = [u8; 28130];
@@ -22,16 +25,14 @@ const LINES: usize = 1099511627776;
 const LENGTH: u8 = 3;
 
 fn main() {
-    let mut chunk = [0u8; 4096];
-    let mut line = [0u8; 900];
+    let mut window = [0u8; 4096];
     let mut bytes = [0u8; 400];
     let mut components = [0u8; 1001];
     let mut north = [0i64; 1001];
     let mut east = [0i64; 1001];
     let mut out = [0u8; 28130];
     answer(
-        &mut chunk,
-        &mut line,
+        &mut window,
         &mut bytes,
         &mut components,
         &mut north,
@@ -42,25 +43,23 @@ fn main() {
 
 // The whole text.
 fn answer(
-    chunk: &mut Chunk,
-    line: &mut Line,
-    bytes: &mut Bytes,
+    window: &mut Window,
+    bytes: &mut Message,
     components: &mut Components,
     north: &mut Positions,
     east: &mut Positions,
     out: &mut Out,
 ) {
-    let got = input::read_line(chunk, line, input::start());
-    let Count::Is(n) = numerals::hex(words::before(line, got.length), bytes) else {
+    let got = input::next_line(window, input::start());
+    let Count::Is(n) = text_numerals::hex(text_of(window, got), bytes) else {
         bad_input(1);
         return;
     };
-    let message = words::before(bytes, n);
+    let message = text_words::before(bytes, n);
     let mut count: usize = 0;
     let mut later: u8 = 0;
     let bad = read_points(
-        chunk,
-        line,
+        window,
         message,
         components,
         north,
@@ -78,8 +77,7 @@ fn answer(
 
 // The points, up to the end of the text or a bad line: the number of the bad line, 0 where there is none.
 fn read_points(
-    chunk: &mut Chunk,
-    line: &mut Line,
+    window: &mut Window,
     message: &[u8],
     components: &mut Components,
     north: &mut Positions,
@@ -91,43 +89,37 @@ fn read_points(
     let mut place = first;
     let mut number: usize = 1;
     while number < LINES {
-        let got = input::read_line(chunk, line, place);
+        let got = input::next_line(window, place);
         if got.ended {
             return 0;
         }
         place = got.place;
         number += 1;
-        let s = text_of(line, got.length);
-        if !sample_texts::take_point(s, message, components, north, east, count, later) {
-            return bad_line(chunk, line, got.length, place, number);
+        let s = text_of(window, got);
+        if !points::take_point(s, message, components, north, east, count, later) {
+            return bad_line(window, got.length, place, number);
         }
     }
     0
 }
 
 // The number of a line that is no point; 0 where it is empty and so are all behind it.
-fn bad_line(
-    chunk: &mut Chunk,
-    line: &mut Line,
-    length: usize,
-    place: Place,
-    number: usize,
-) -> usize {
+fn bad_line(window: &mut Window, length: usize, place: Place, number: usize) -> usize {
     if length != 0 {
         return number;
     }
-    if only_empty(chunk, line, place) {
+    if only_empty(window, place) {
         return 0;
     }
     number
 }
 
 // Whether all lines from a place on are empty.
-fn only_empty(chunk: &mut Chunk, line: &mut Line, first: Place) -> bool {
+fn only_empty(window: &mut Window, first: Place) -> bool {
     let mut place = first;
     let mut number: usize = 0;
     while number < LINES {
-        let got = input::read_line(chunk, line, place);
+        let got = input::next_line(window, place);
         if got.ended {
             return true;
         }
@@ -140,12 +132,12 @@ fn only_empty(chunk: &mut Chunk, line: &mut Line, first: Place) -> bool {
     false
 }
 
-// The bytes of a line, none of one that is too long to be held.
-fn text_of(line: &Line, length: usize) -> &[u8] {
-    if 900 < length {
-        return words::before(line, 0);
+// The bytes of a line, none of one that is too long.
+fn text_of(window: &Window, got: Got) -> &[u8] {
+    if 900 < got.length {
+        return text_words::before(window, 0);
     }
-    words::before(line, length)
+    input::text_of(window, got)
 }
 
 // The file, or the refusal.
@@ -160,13 +152,13 @@ fn write(
 ) {
     let w = sample_writer::write_samples(
         message,
-        words::before(components, n),
-        numerals::first(north, n),
-        numerals::first(east, n),
+        text_words::before(components, n),
+        text_numerals::first(north, n),
+        text_numerals::first(east, n),
         out,
     );
     if w.refusal == 0 {
-        io::write_all(STDOUT_FILENO, words::before(out, w.length));
+        io::write_all(STDOUT_FILENO, text_words::before(out, w.length));
         return;
     }
     refused(refusal_of(w.refusal, later));

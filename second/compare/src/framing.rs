@@ -1,7 +1,7 @@
 //! Compares frames: finding one in a stream, and writing one.
 
 use crate::messages::{any_room, pick, sound};
-use crate::writing::compare_output;
+use crate::writing::{same_output, BEHIND};
 use crate::{same, Compared};
 use second::damage::Damage;
 use second::frame::{find_frame, frame_of, tail_of, write_frame, HEAD, LONGEST, PREAMBLE, TAIL};
@@ -135,10 +135,15 @@ fn any_start(random: &mut Random, length: usize) -> usize {
 pub fn compare_found(random: &mut Random, turn: u64) -> Compared {
     let bytes = any_bytes(random, turn).into_boxed_slice();
     let from = any_start(random, bytes.len());
-    let (refusal, at, length) = find_frame(&bytes, from).numbers();
+    same_found(&bytes, from)
+}
+
+/// Compares a search for a frame in bytes that are given.
+pub fn same_found(bytes: &[u8], from: usize) -> Compared {
+    let (refusal, at, length) = find_frame(bytes, from).numbers();
     // SAFETY: the pointer and the length are those of a slice.
     let library = unsafe { ffi::tarnoklej_find_frame(bytes.as_ptr(), bytes.len(), from) };
-    same(refusal, library, ffi::Frame { refusal, at, length }, || format!("{} from {from}", hex(&bytes)))
+    same(refusal, library, ffi::Frame { refusal, at, length }, || format!("{} from {from}", hex(bytes)))
 }
 
 /// A message of a length that is often near the longest or above it.
@@ -155,7 +160,12 @@ fn any_message(random: &mut Random, turn: u64) -> Vec<u8> {
 pub fn compare_framed(random: &mut Random, turn: u64) -> Compared {
     let message = any_message(random, turn).into_boxed_slice();
     let room = any_room(random, HEAD + message.len() + TAIL, MOST_ROOM);
+    same_framed(&message, room, random.bytes(room + BEHIND))
+}
+
+/// Compares the frame of a message that is given, in a buffer of some room, which may go on behind it.
+pub fn same_framed(message: &[u8], room: usize, before: Vec<u8>) -> Compared {
     // SAFETY: the pointers are those of slices that do not overlap, and the lengths are at most theirs.
     let call = |out| unsafe { ffi::tarnoklej_write_frame(message.as_ptr(), message.len(), out, room) };
-    compare_output(random, room, write_frame(&message, room), call, || format!("{} room {room}", hex(&message)))
+    same_output(before, write_frame(message, room), call, || format!("{} room {room}", hex(message)))
 }

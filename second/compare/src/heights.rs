@@ -1,7 +1,7 @@
 //! Compares the making of a height grid.
 
 use crate::messages::{any_room, outside_range, pick};
-use crate::writing::{any_integer, compare_output, other_presence};
+use crate::writing::{any_integer, other_presence, same_output, BEHIND};
 use crate::Compared;
 use second::gridsamples::Grid;
 use second::heights::{write_heights, NODES};
@@ -95,9 +95,14 @@ pub fn compare_written(random: &mut Random, turn: u64) -> Compared {
     if random.below(12) == 0 {
         other_counts(random, &mut row, &mut wanted);
     }
-    let (values, present) = (row.values.clone().into_boxed_slice(), row.present.clone().into_boxed_slice());
-    let heights = wanted.clone().into_boxed_slice();
     let room = any_room(random, LENGTH, MOST_ROOM);
+    same_written(&row, &wanted, room, random.bytes(room + BEHIND))
+}
+
+/// Compares the message of wanted heights that are given, in a buffer of some room, which may go on behind it.
+pub fn same_written(row: &Row, wanted: &[i64], room: usize, before: Vec<u8>) -> Compared {
+    let (values, present) = (row.values.clone().into_boxed_slice(), row.present.clone().into_boxed_slice());
+    let heights: Box<[i64]> = wanted.into();
     // SAFETY: the pointers are those of slices that do not overlap, and the lengths are at most theirs.
     let call = |out| unsafe {
         ffi::tarnoklej_write_heights(
@@ -111,6 +116,6 @@ pub fn compare_written(random: &mut Random, turn: u64) -> Compared {
             room,
         )
     };
-    let answer = write_heights(&row, &wanted, room);
-    compare_output(random, room, answer, call, || format!("{row:?} heights {wanted:?} room {room}"))
+    let answer = write_heights(row, wanted, room);
+    same_output(before, answer, call, || format!("{row:?} heights {wanted:?} room {room}"))
 }

@@ -1,6 +1,7 @@
 //! Compares the second program with the proved static library, call by call, on many inputs.
 
 mod datum;
+mod designed;
 mod framing;
 mod heights;
 mod messages;
@@ -19,7 +20,7 @@ use std::process::ExitCode;
 use tally::{Progress, Tally};
 
 /// How the program is called.
-const USAGE: &str = "compare [SEED [COUNT]]: COUNT inputs for each kind of call (default: seed 1, 15,000 inputs)";
+const USAGE: &str = "compare [SEED [COUNT]]: COUNT inputs for each kind of call (default: seed 1, 15,000 inputs)\ncompare designed [N]: the designed vectors, of those that keep nothing one in N (default: all)";
 /// The inputs for each kind of call where no count is given.
 const DEFAULT_COUNT: u64 = 15_000;
 
@@ -173,7 +174,34 @@ fn arguments() -> Option<(u64, u64)> {
     Some((number(0, 1)?, number(1, DEFAULT_COUNT)?))
 }
 
+/// Runs the designed vectors.
+fn run_designed(one_in: usize) -> ExitCode {
+    match designed::run(one_in) {
+        Ok(all_met) => {
+            println!("no mismatch");
+            ExitCode::from(u8::from(!all_met))
+        }
+        Err(difference) => {
+            println!("mismatch in {difference}");
+            ExitCode::FAILURE
+        }
+    }
+}
+
+/// One in how many designed vectors the arguments ask for, where they ask for designed vectors.
+fn designed_arguments() -> Option<usize> {
+    let words: Vec<String> = std::env::args().skip(1).collect();
+    match words.iter().map(String::as_str).collect::<Vec<&str>>()[..] {
+        ["designed"] => Some(1),
+        ["designed", one_in] => one_in.parse().ok().filter(|&one_in| one_in > 0),
+        _ => None,
+    }
+}
+
 fn main() -> ExitCode {
+    if let Some(one_in) = designed_arguments() {
+        return run_designed(one_in);
+    }
     let Some((seed, count)) = arguments() else {
         eprintln!("{USAGE}");
         return ExitCode::from(2);

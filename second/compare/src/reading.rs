@@ -14,14 +14,18 @@ const BEHIND: usize = 4;
 
 /// Compares the header of one message.
 pub fn compare_header(random: &mut Random, turn: u64) -> Compared {
-    let bytes = messages::of_kind(random, turn);
-    let second = match read(&bytes) {
+    same_header(&messages::of_kind(random, turn).into_boxed_slice())
+}
+
+/// Compares the header of a message that is given.
+pub fn same_header(bytes: &[u8]) -> Compared {
+    let second = match read(bytes) {
         Ok(message) => ffi::Header { refusal: 0, number: message.number, sin: message.sin(), length: message.length },
         Err(refusal) => ffi::Header { refusal: refusal.number(), number: 0, sin: 0, length: 0 },
     };
     // SAFETY: the pointer and the length are those of a slice.
     let library = unsafe { ffi::tarnoklej_read(bytes.as_ptr(), bytes.len()) };
-    same(second.refusal, library, second, || hex(&bytes))
+    same(second.refusal, library, second, || hex(bytes))
 }
 
 /// The second program's row of a message for rooms of places in the two buffers.
@@ -36,12 +40,16 @@ fn row_of(bytes: &[u8], rooms: [usize; 2]) -> Result<Row, Refusal> {
 
 /// Compares the row of one message, what was in both buffers before being random.
 pub fn compare_row(random: &mut Random, turn: u64) -> Compared {
-    let bytes = messages::of_kind(random, turn);
+    let bytes = messages::of_kind(random, turn).into_boxed_slice();
     let needed = read(&bytes).map_or(8, |message| message.fields.len());
     let rooms = any_rooms(random, needed);
     let values: Vec<i64> = (0..rooms[0] + BEHIND).map(|_| random.bits() as i64).collect();
-    let before = Row { values, present: random.bytes(rooms[1] + BEHIND) };
-    let answer = row_of(&bytes, rooms);
+    same_row(&bytes, rooms, Row { values, present: random.bytes(rooms[1] + BEHIND) })
+}
+
+/// Compares the row of a message that is given, for rooms of places in two buffers, which may go on behind them.
+pub fn same_row(bytes: &[u8], rooms: [usize; 2], before: Row) -> Compared {
+    let answer = row_of(bytes, rooms);
     let mut second = before.clone();
     if let Ok(row) = &answer {
         second.values[..row.values.len()].copy_from_slice(&row.values);
@@ -53,7 +61,7 @@ pub fn compare_row(random: &mut Random, turn: u64) -> Compared {
     let refusal =
         unsafe { ffi::tarnoklej_read_fields(bytes.as_ptr(), bytes.len(), values, rooms[0], present, rooms[1]) };
     let expected = number_of(&answer);
-    same(expected, (refusal, library), (expected, second), || format!("{} rooms {rooms:?}", hex(&bytes)))
+    same(expected, (refusal, library), (expected, second), || format!("{} rooms {rooms:?}", hex(bytes)))
 }
 
 /// The rooms of the two buffers, which are often the same or one of which is often just enough.

@@ -117,10 +117,14 @@ pub fn compare_row_across(random: &mut Random, turn: u64) -> Compared {
 
 /// Compares one row of a message, what was in the buffer before being random.
 fn compare(random: &mut Random, bytes: Vec<u8>, ask: Ask) -> Compared {
-    let bytes = bytes.into_boxed_slice();
     let needed = ask.count.clamp(1, MOST_PLACES);
     let room = messages::any_room(random, needed, needed + 40);
-    let before: Vec<i64> = (0..room + BEHIND).map(|_| random.bits() as i64).collect();
+    same_row(bytes, ask, room, (0..room + BEHIND).map(|_| random.bits() as i64).collect())
+}
+
+/// Compares a row that is given, in a buffer of some room, which may go on behind it.
+pub fn same_row(bytes: Vec<u8>, ask: Ask, room: usize, before: Vec<i64>) -> Compared {
+    let bytes = bytes.into_boxed_slice();
     let mut second = before.clone();
     let expected = fill(&bytes, &ask, &mut second[..room]);
     let mut library = before;

@@ -2,7 +2,7 @@
 
 use crate::messages::{any_room, of_kind, pick, place};
 use crate::shifting::{any_grid, any_grid_across, any_position, limits};
-use crate::writing::compare_output;
+use crate::writing::{same_output, BEHIND};
 use crate::{same, Compared};
 use second::answers::{check, claim_field, field, file_of, right_claims, write};
 use second::answers::{Claim, Point, Points, HEAD, MESSAGE_TAG, MOST_POINTS, POINT_LENGTH, POINT_TAG};
@@ -145,7 +145,8 @@ pub fn compare_written(random: &mut Random, turn: u64) -> Compared {
         )
     };
     let answer = write(&message, &points, room);
-    compare_output(random, room, answer, call, || format!("{} {points:?} room {room}", hex(&message)))
+    let before = random.bytes(room + BEHIND);
+    same_output(before, answer, call, || format!("{} {points:?} room {room}", hex(&message)))
 }
 
 /// A grid with the right claims at points that it answers.

@@ -2,7 +2,7 @@
 
 use crate::{messages, same_parts, Compared};
 use second::fields::by_df;
-use second::grid::{shifts, COMPONENTS};
+use second::grid::{shifts, Answer, COMPONENTS};
 use second::gridsamples::{Grid, HALF_TURN};
 use second::hex::hex;
 use second::random::Random;
@@ -169,31 +169,42 @@ fn compare_across(random: &mut Random, turn: u64, side: i64) -> Compared {
     compare_at(grid.bytes(), position)
 }
 
-/// One part of an answer: refusal number, count, and the bits of the float.
+/// One part of an answer: refusal number, count, the bits of the float, and its unit.
 #[derive(PartialEq, Debug)]
 struct Part {
     refusal: u8,
     count: i64,
     bits: u64,
+    unit: u8,
+}
+
+/// The header's number of the unit of a second answer.
+fn unit_of(answer: &Answer) -> u8 {
+    match answer {
+        Answer::Refused(_) => 0,
+        Answer::Seconds(_) => 1,
+        Answer::Metres(_) => 2,
+    }
 }
 
 /// The parts of the library's answer.
 fn parts_of(at: ffi::Shifts) -> [Part; COMPONENTS] {
-    let part = |refusal: u8, count: i64, float: f64| Part { refusal, count, bits: float.to_bits() };
+    let part = |refusal: u8, count: i64, float: f64, unit: u8| Part { refusal, count, bits: float.to_bits(), unit };
     [
-        part(at.north_refusal, at.north_count, at.north),
-        part(at.east_refusal, at.east_count, at.east),
-        part(at.height_refusal, at.height_count, at.height),
+        part(at.north_refusal, at.north_count, at.north, at.north_unit),
+        part(at.east_refusal, at.east_count, at.east, at.east_unit),
+        part(at.height_refusal, at.height_count, at.height, at.height_unit),
     ]
 }
 
 /// Compares the shifts of one message at one position.
-fn compare_at(bytes: Vec<u8>, [north, east]: [i64; 2]) -> Compared {
+pub fn compare_at(bytes: Vec<u8>, [north, east]: [i64; 2]) -> Compared {
     let bytes = bytes.into_boxed_slice();
     let second = shifts(&bytes, north, east).map(|part| Part {
         refusal: number_of(&part.count),
         count: part.count.unwrap_or(0),
         bits: part.float().to_bits(),
+        unit: unit_of(&part.answer),
     });
     // SAFETY: the pointer and the length are those of a slice.
     let library = parts_of(unsafe { ffi::tarnoklej_shifts_at(bytes.as_ptr(), bytes.len(), north, east) });

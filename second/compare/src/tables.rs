@@ -26,10 +26,15 @@ struct Pair {
     index: Box<[u8]>,
 }
 
-/// A table with its index on which calls are made, one pair for each program.
-pub struct History {
+/// A table with its index on which calls are made, once for each program.
+pub struct Both {
     library: Pair,
     second: Pair,
+}
+
+/// A table with its index and the turns that its history had.
+pub struct History {
+    on: Both,
     sins: u64,
     turns: u64,
 }
@@ -201,8 +206,7 @@ impl History {
         };
         let mut index = vec![0; INDEX_SIZE];
         write_index(&table, &mut index).expect("a well-formed table");
-        let pair = Pair { table: table.into(), index: index.into() };
-        History { library: pair.clone(), second: pair, sins, turns: 0 }
+        History { on: Both::new(table.into(), index.into()), sins, turns: 0 }
     }
 
     /// Whether the history has had its turns.
@@ -216,30 +220,31 @@ impl History {
         if !self.turns.is_multiple_of(3) {
             return self.calls(random, turn, met);
         }
-        let kept = self.second.clone();
+        let kept = self.on.second.clone();
         let damage = random.below(8);
-        if damage < 4 {
-            self.second.table = damaged(random, &kept.table).into();
-        }
-        if damage > 2 {
-            self.second.index = damaged_index(random, &kept.index, turn / 3).into();
-        }
-        self.library = self.second.clone();
+        let table = if damage < 4 { damaged(random, &kept.table).into() } else { kept.table.clone() };
+        let index = if damage > 2 { damaged_index(random, &kept.index, turn / 3).into() } else { kept.index.clone() };
+        self.on = Both::new(table, index);
         let compared = self.calls(random, turn, met);
-        self.library = kept.clone();
-        self.second = kept;
+        self.on = Both::new(kept.table, kept.index);
         compared
     }
 
     /// Compares one call of each kind.
     fn calls(&mut self, random: &mut Random, turn: u64, met: &mut Met) -> Result<[Vec<u8>; 5], String> {
-        Ok([
-            self.store(random, turn, met)?,
-            self.find(random, met)?,
-            self.remove(random)?,
-            self.agrees()?,
-            self.write_index(random)?,
-        ])
+        let owner = any_owner(random);
+        let message = any_message(random, turn, self.sins);
+        let stored = self.on.store(owner, &message)?;
+        if stored == [Refusal::Full.number()] {
+            met.add_full(&self.on.second.table, owner);
+        }
+        let (owner, sin, group) = self.key_to_find(random);
+        let (found, probes) = self.on.find(owner, sin, group)?;
+        met.probes[usize::from(probes)] += 1;
+        let (owner, sin, group) = self.any_key(random);
+        let removed = self.on.remove(owner, sin, group)?;
+        let agrees = self.on.agrees()?;
+        Ok([stored, found, removed, agrees, self.on.write_any_index(random)?])
     }
 
     /// An owner, or a number that is none, and a key, one in ten of a group not 0 to 2.
@@ -250,7 +255,7 @@ impl History {
 
     /// The key of an entry in use, of any, of the last or of one that is not of groups 0 to 2, or any key.
     fn key_to_find(&self, random: &mut Random) -> (u8, u8, u8) {
-        let entries: Vec<&[u8]> = self.second.index.chunks_exact(ENTRY).filter(|entry| entry[0] != 0).collect();
+        let entries: Vec<&[u8]> = self.on.second.index.chunks_exact(ENTRY).filter(|entry| entry[0] != 0).collect();
         if entries.is_empty() || random.below(2) == 0 {
             return self.any_key(random);
         }
@@ -261,6 +266,43 @@ impl History {
             _ => messages::pick(random, &entries),
         };
         (entry[0], entry[1], entry[2])
+    }
+}
+
+impl Both {
+    /// The same table and index for both programs.
+    pub fn new(table: Box<[u8]>, index: Box<[u8]>) -> Self {
+        let pair = Pair { table, index };
+        Both { library: pair.clone(), second: pair }
+    }
+
+    /// Takes another table for both.
+    pub fn set_table(&mut self, table: Box<[u8]>) {
+        self.library.table = table.clone();
+        self.second.table = table;
+    }
+
+    /// Takes another index for both.
+    pub fn set_index(&mut self, index: Box<[u8]>) {
+        self.library.index = index.clone();
+        self.second.index = index;
+    }
+
+    /// Puts a byte into both tables.
+    pub fn poke(&mut self, at: usize, value: u8) {
+        self.library.table[at] = value;
+        self.second.table[at] = value;
+    }
+
+    /// Puts a byte into both indexes.
+    pub fn poke_index(&mut self, at: usize, value: u8) {
+        self.library.index[at] = value;
+        self.second.index[at] = value;
+    }
+
+    /// Compares all bytes of the tables and of the indexes.
+    pub fn same_bytes(&self) -> Compared {
+        self.same(0, (), (), || "looked at".to_string())
     }
 
     /// The refusal where the library's answer, table and index are the second program's.
@@ -277,14 +319,9 @@ impl History {
     }
 
     /// Compares one store.
-    fn store(&mut self, random: &mut Random, turn: u64, met: &mut Met) -> Compared {
-        let owner = any_owner(random);
-        let message = any_message(random, turn, self.sins).into_boxed_slice();
-        let answer = store(&mut self.second.table, &mut self.second.index, owner, &message);
-        if answer == Err(Refusal::Full) {
-            met.add_full(&self.second.table, owner);
-        }
-        let expected = number_of(&answer);
+    pub fn store(&mut self, owner: u8, message: &[u8]) -> Compared {
+        let message: Box<[u8]> = message.into();
+        let expected = number_of(&store(&mut self.second.table, &mut self.second.index, owner, &message));
         let Pair { table, index } = &mut self.library;
         let (start, size, entries, index_size) = (table.as_mut_ptr(), table.len(), index.as_mut_ptr(), index.len());
         // SAFETY: the pointers and lengths are those of slices that do not overlap.
@@ -293,24 +330,22 @@ impl History {
         self.same(expected, refusal, expected, || format!("store {owner} {}", hex(&message)))
     }
 
-    /// Compares one find, the message's bytes being those of equal tables.
-    fn find(&mut self, random: &mut Random, met: &mut Met) -> Compared {
-        let (owner, sin, group) = self.key_to_find(random);
+    /// Compares one find, the message's bytes being those of equal tables, and gives the number of probes too.
+    pub fn find(&mut self, owner: u8, sin: u8, group: u8) -> Result<(Vec<u8>, u8), String> {
         let answer = find(&self.second.table, &self.second.index, owner, sin, group);
         let refusal = number_of(&answer);
         let (at, length, probes) = answer.map_or((0, 0, 0), |found| (found.at, found.length, found.probes));
-        met.probes[probes as usize] += 1;
         let Pair { table, index } = &self.library;
         // SAFETY: the pointers and lengths are those of slices.
         let library =
             unsafe { ffi::tarnoklej_find(table.as_ptr(), table.len(), index.as_ptr(), index.len(), owner, sin, group) };
         let expected = ffi::Found { refusal, at, length, probes };
-        self.same(refusal, library, expected, || format!("find {owner} {sin} {group}"))
+        let refusals = self.same(refusal, library, expected, || format!("find {owner} {sin} {group}"))?;
+        Ok((refusals, probes))
     }
 
     /// Compares one remove.
-    fn remove(&mut self, random: &mut Random) -> Compared {
-        let (owner, sin, group) = self.any_key(random);
+    pub fn remove(&mut self, owner: u8, sin: u8, group: u8) -> Compared {
         let expected = number_of(&remove(&mut self.second.table, &mut self.second.index, owner, sin, group));
         let Pair { table, index } = &mut self.library;
         let (start, size, entries, index_size) = (table.as_mut_ptr(), table.len(), index.as_mut_ptr(), index.len());
@@ -320,7 +355,7 @@ impl History {
     }
 
     /// Compares whether table and index agree.
-    fn agrees(&mut self) -> Compared {
+    pub fn agrees(&mut self) -> Compared {
         let expected = number_of(&agrees(&self.second.table, &self.second.index));
         let Pair { table, index } = &self.library;
         // SAFETY: the pointers and lengths are those of slices.
@@ -328,15 +363,22 @@ impl History {
         self.same(expected, refusal, expected, || "agrees".to_string())
     }
 
-    /// Compares an index that is written anew over any bytes, of which both programs then have the same.
-    fn write_index(&mut self, random: &mut Random) -> Compared {
-        let mut second = random.bytes(self.second.index.len()).into_boxed_slice();
-        let mut library = second.clone();
-        let expected = number_of(&write_index(&self.second.table, &mut second));
-        let table = &self.library.table;
+    /// Compares an index that is written anew.
+    pub fn write_index(&mut self) -> Compared {
+        let expected = number_of(&write_index(&self.second.table, &mut self.second.index));
+        let Pair { table, index } = &mut self.library;
         // SAFETY: the pointers and lengths are those of slices that do not overlap.
         let refusal =
-            unsafe { ffi::tarnoklej_index_write(table.as_ptr(), table.len(), library.as_mut_ptr(), library.len()) };
-        self.same(expected, (refusal, library), (expected, second), || "write the index anew".to_string())
+            unsafe { ffi::tarnoklej_index_write(table.as_ptr(), table.len(), index.as_mut_ptr(), index.len()) };
+        self.same(expected, refusal, expected, || "write the index anew".to_string())
+    }
+
+    /// Compares an index that is written anew over any bytes; the index that was there is then back.
+    fn write_any_index(&mut self, random: &mut Random) -> Compared {
+        let kept = self.second.index.clone();
+        self.set_index(random.bytes(kept.len()).into());
+        let compared = self.write_index();
+        self.set_index(kept);
+        compared
     }
 }

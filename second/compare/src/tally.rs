@@ -31,8 +31,8 @@ impl Tally {
 }
 
 /// The name of a refusal number.
-fn name_of(number: u8) -> String {
-    Refusal::try_from(number).map_or("done".to_string(), |refusal| refusal.to_string())
+fn name_of(number: u8) -> &'static str {
+    Refusal::from_number(number).map_or("done", Refusal::name)
 }
 
 /// The cell of a call and a refusal number, a dash where the call cannot give it.
@@ -49,7 +49,7 @@ pub fn table(tallies: &[Tally]) -> String {
     let heads: String = tallies.iter().map(|tally| format!(" {:>14} |", tally.name)).collect();
     let rules = " ---: |".repeat(tallies.len());
     let mut text = format!("| No. | Name      |{heads}\n| ---: | --- |{rules}\n");
-    for number in (0..NUMBERS as u8).filter(|&number| number == 0 || Refusal::try_from(number).is_ok()) {
+    for number in (0..NUMBERS as u8).filter(|&number| number == 0 || Refusal::from_number(number).is_some()) {
         let cells: String = tallies.iter().map(|tally| format!(" {:>14} |", cell(tally, number))).collect();
         text += &format!("| {number:>3} | {:<9} |{cells}\n", name_of(number));
     }

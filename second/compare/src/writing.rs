@@ -12,7 +12,7 @@ use tarnoklej::ffi;
 /// The most bytes of an output, some more than the longest message has.
 const MOST_ROOM: usize = 140;
 /// The bytes behind an output that must stay as they were.
-const BEHIND: usize = 8;
+pub const BEHIND: usize = 8;
 /// How many kinds of rows there are.
 const KINDS: u64 = 16;
 
@@ -158,25 +158,28 @@ fn other_number(random: &mut Random, sample: &Sample) -> Sample {
 /// Compares the bytes of one row.
 pub fn compare_written(random: &mut Random, turn: u64) -> Compared {
     let row = any_row(random, turn);
-    let (values, present) = (row.values.clone().into_boxed_slice(), row.present.clone().into_boxed_slice());
     let needed = write_row(&row, usize::MAX).map_or(25, |bytes| bytes.len());
     let room = any_room(random, needed, MOST_ROOM);
+    same_written(&row, room, random.bytes(room + BEHIND))
+}
+
+/// Compares the bytes of a row that is given, in a buffer of some room, which may go on behind it.
+pub fn same_written(row: &Row, room: usize, before: Vec<u8>) -> Compared {
+    let (values, present) = (row.values.clone().into_boxed_slice(), row.present.clone().into_boxed_slice());
     // SAFETY: the pointers are those of slices that do not overlap, and the lengths are at most theirs.
     let call = |out| unsafe {
         ffi::tarnoklej_write_fields(values.as_ptr(), values.len(), present.as_ptr(), present.len(), out, room)
     };
-    compare_output(random, room, write_row(&row, room), call, || format!("{row:?} room {room}"))
+    same_output(before, write_row(row, room), call, || format!("{row:?} room {room}"))
 }
 
-/// Compares what a call writes into an output of some room, what was in it before being random.
-pub fn compare_output(
-    random: &mut Random,
-    room: usize,
+/// Compares what a call writes into a buffer that held some bytes before.
+pub fn same_output(
+    before: Vec<u8>,
     answer: Result<Vec<u8>, Refusal>,
     call: impl FnOnce(*mut u8) -> ffi::Written,
     input: impl Fn() -> String,
 ) -> Compared {
-    let before = random.bytes(room + BEHIND);
     let refusal = number_of(&answer);
     let bytes = answer.unwrap_or_default();
     let mut second = before.clone();

@@ -1,7 +1,7 @@
 //! Cases of grids across 180 degrees, where longitudes change their sign (document 02, A2).
 
 use super::shifts::{case, lines_and_corners, middles, nodes, random_grid, random_position, refusal_cases, word, Call};
-use super::Case;
+use super::Vector;
 use crate::gridsamples::{Grid, HALF_TURN};
 use crate::random::Random;
 
@@ -9,7 +9,7 @@ use crate::random::Random;
 const RAW_HALF_TURN: i64 = 1_296_000;
 
 /// All cases of grids across 180 degrees, and of plane grids with coordinates as large.
-pub fn cases() -> Vec<Case> {
+pub fn cases() -> Vec<Vector> {
     let mut cases = Vec::new();
     for (name, grid) in grids() {
         let name = format!("antimeridian-{name}");
@@ -64,7 +64,7 @@ pub(super) fn touching() -> Vec<(&'static str, Grid)> {
 }
 
 /// The meridian by both of its names, one step on either side, and one step past each limit.
-fn on_the_meridian(name: &str, grid: &Grid) -> Vec<Case> {
+fn on_the_meridian(name: &str, grid: &Grid) -> Vec<Vector> {
     let longitudes = [
         ("plus", HALF_TURN),
         ("minus", -HALF_TURN),
@@ -84,7 +84,7 @@ fn on_the_meridian(name: &str, grid: &Grid) -> Vec<Case> {
 }
 
 /// The western and the eastern edge and one step on either side of each.
-fn at_the_edges(name: &str, grid: &Grid) -> Vec<Case> {
+fn at_the_edges(name: &str, grid: &Grid) -> Vec<Vector> {
     let edge = 3 * grid.spacing()[1] / 2;
     let mut cases = Vec::new();
     for (side, steps) in [("west", -edge), ("east", edge)] {
@@ -97,7 +97,7 @@ fn at_the_edges(name: &str, grid: &Grid) -> Vec<Case> {
 }
 
 /// The longitude half a turn from the origin and that of Greenwich, with one step on either side.
-fn opposite(name: &str, grid: &Grid) -> Vec<Case> {
+fn opposite(name: &str, grid: &Grid) -> Vec<Vector> {
     let [north, east] = grid.origin();
     let mut cases = Vec::new();
     for step in -1..=1 {
@@ -114,7 +114,7 @@ fn opposite(name: &str, grid: &Grid) -> Vec<Case> {
 }
 
 /// Each node of a column on the meridian not available, asked for by both names, beside it, and at its neighbours.
-fn absent_nodes() -> Vec<Case> {
+fn absent_nodes() -> Vec<Vector> {
     let grid = grid_at(RAW_HALF_TURN - 360, 720);
     let wide = grid.spacing()[1];
     let mut cases = Vec::new();
@@ -139,7 +139,7 @@ fn absent_nodes() -> Vec<Case> {
 }
 
 /// Positions whose exact mean ends in a half, one of them on the meridian, and one step on either side of each.
-fn halves() -> Vec<Case> {
+fn halves() -> Vec<Vector> {
     let mut cases = Vec::new();
     for (sign_word, sign) in [("plus", 1), ("minus", -1)] {
         for (longitude, wide, parts) in [(RAW_HALF_TURN, 12, 6), (RAW_HALF_TURN - 1, 20, 20)] {
@@ -163,7 +163,7 @@ fn halves() -> Vec<Case> {
 }
 
 /// Random grids across the meridian at random positions, and on the meridian by both names.
-fn random_grids() -> Vec<Case> {
+fn random_grids() -> Vec<Vector> {
     let mut random = Random::new(15);
     let mut cases = Vec::new();
     for i in 0..40 {
@@ -190,7 +190,7 @@ pub fn random_grid_across(random: &mut Random) -> Grid {
 }
 
 /// Plane grids whose eastings are half a turn, a whole turn and more of 1023's steps, which are never turned.
-fn plane() -> Vec<Case> {
+fn plane() -> Vec<Vector> {
     let mut cases = Vec::new();
     for (origin, raw) in [("zero", 0), ("half", 648_000), ("turn", 1_296_000), ("far", 67_108_863)] {
         let grid = Grid::of(1024, [-5_000, raw], [700, 900], [1, 2, 3], |component, node| {

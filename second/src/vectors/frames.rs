@@ -1,23 +1,22 @@
 //! Cases of transport frames: finding a frame in bytes, and writing one.
 
-use super::{buffer_after, sums, Case, BEFORE};
-use crate::frame::{crc24q, find_frame, frame_of, tail_of, write_frame, HEAD, LONGEST, PREAMBLE, TAIL};
+use super::{Call, Vector};
+use crate::frame::{crc24q, frame_of, tail_of, HEAD, LONGEST, PREAMBLE, TAIL};
 use crate::hex::hex;
 use crate::layouts::NUMBERS;
 use crate::random::Random;
-use crate::refusal::number_of;
 use crate::samples::Sample;
 use crate::streams::{any_noise, any_stream, EXAMPLE_1005};
 
 /// The greatest start of a search in the cases.
 const GREATEST_START: usize = i64::MAX as usize;
-/// The most bytes of a buffer that is printed whole.
+/// The most bytes of most buffers.
 const MOST_ROOM: usize = 160;
-/// The most bytes of a buffer of which the sums are printed.
+/// The most bytes of a buffer for a long message.
 const MOST_LONG_ROOM: usize = 1_100;
 
 /// All cases of frames.
-pub fn cases() -> Vec<Case> {
+pub fn cases() -> Vec<Vector> {
     let lists = [
         starts(),
         sound(),
@@ -40,38 +39,19 @@ pub fn cases() -> Vec<Case> {
     lists.into_iter().flatten().collect()
 }
 
-/// A case of finding a frame.
-fn find(name: String, from: usize, bytes: &[u8]) -> Case {
-    let (refusal, at, length) = find_frame(bytes, from).numbers();
-    Case {
-        name: format!("frame-{name}"),
-        call: format!("frame {from} {}", hex(bytes)),
-        answer: format!("{refusal} {at} {length}"),
-    }
+/// A vector of finding a frame.
+fn find(name: String, from: usize, bytes: &[u8]) -> Vector {
+    Vector { name: format!("frame-{name}"), call: Call::Frame { from, bytes: bytes.to_vec() } }
 }
 
-/// A case of writing the frame of a message.
-fn write(name: String, room: usize, message: &[u8]) -> Case {
-    Case {
-        name: format!("enframe-{name}"),
-        call: format!("enframe {room} {}", hex(message)),
-        answer: buffer_after(write_frame(message, room), room),
-    }
+/// A vector of writing the frame of a message.
+fn write(name: String, room: usize, message: &[u8]) -> Vector {
+    Vector { name: format!("enframe-{name}"), call: Call::Enframe { message: message.to_vec(), room } }
 }
 
-/// A case of writing the frame of a message whose bytes go by a rule, of which sums are printed.
-fn write_long(count: usize, room: usize) -> Case {
-    let written = write_frame(&ruled_message(count), room);
-    let refusal = number_of(&written);
-    let frame = written.unwrap_or_default();
-    let mut buffer = vec![BEFORE; room];
-    buffer[..frame.len()].copy_from_slice(&frame);
-    let (a, b) = sums(&buffer);
-    Case {
-        name: format!("longframe-{count}-into-{room}"),
-        call: format!("longframe {count} {room}"),
-        answer: format!("{refusal} {} {a} {b}", frame.len()),
-    }
+/// A vector of writing the frame of a message whose bytes go by a rule.
+fn write_long(count: usize, room: usize) -> Vector {
+    write(format!("long-{count}-into-{room}"), room, &ruled_message(count))
 }
 
 /// A message whose byte i is 7i + 3 modulo 256.
@@ -95,11 +75,11 @@ fn plain() -> Vec<u8> {
 }
 
 /// Searches in the published frame from every place, and from places past the end.
-fn starts() -> Vec<Case> {
+fn starts() -> Vec<Vector> {
     let bytes = example();
     let past = [1, 2, 7, 1_000, 65_536, 4_294_967_296].map(|more| bytes.len() + more);
     let froms = (0..=bytes.len()).chain(past).chain([GREATEST_START]);
-    let mut cases: Vec<Case> = froms.map(|from| find(format!("start-{from}"), from, &bytes)).collect();
+    let mut cases: Vec<Vector> = froms.map(|from| find(format!("start-{from}"), from, &bytes)).collect();
     for from in [0, 1, GREATEST_START] {
         cases.push(find(format!("nothing-from-{from}"), from, &[]));
     }
@@ -107,7 +87,7 @@ fn starts() -> Vec<Case> {
 }
 
 /// Frames of all seven numbers: alone, behind other bytes and before other bytes.
-fn sound() -> Vec<Case> {
+fn sound() -> Vec<Vector> {
     let mut cases = Vec::new();
     for number in NUMBERS {
         let frame = usual(number);
@@ -120,7 +100,7 @@ fn sound() -> Vec<Case> {
 }
 
 /// Messages of many lengths, whose ten-bit length needs both of its bytes.
-fn message_lengths() -> Vec<Case> {
+fn message_lengths() -> Vec<Vector> {
     let mut cases = Vec::new();
     for length in [0, 1, 2, 3, 4, 127, 128, 254, 255, 256, 257, 261, 300, 380, 390] {
         let frame = frame_of(&ruled_message(length));
@@ -136,7 +116,7 @@ fn message_lengths() -> Vec<Case> {
 }
 
 /// Frames of which only the first bytes have arrived, alone and behind a whole frame.
-fn cut() -> Vec<Case> {
+fn cut() -> Vec<Vector> {
     let mut cases = Vec::new();
     for (name, frame) in [("1005", example()), ("1023", usual(1023))] {
         for length in 0..=frame.len() {
@@ -151,7 +131,7 @@ fn cut() -> Vec<Case> {
 }
 
 /// Frames with each of their bits wrong, alone and with a sound frame behind.
-fn damaged() -> Vec<Case> {
+fn damaged() -> Vec<Vector> {
     let mut cases = Vec::new();
     for (name, frame, behind) in
         [("alone", frame_of(&EXAMPLE_1005[..3]), Vec::new()), ("and-another", plain(), example())]
@@ -166,7 +146,7 @@ fn damaged() -> Vec<Case> {
 }
 
 /// Bytes that are frames with a right CRC but for bits behind the D3 that are set.
-fn second_bytes() -> Vec<Case> {
+fn second_bytes() -> Vec<Vector> {
     let mut cases = Vec::new();
     for second in (0..=0xff).step_by(4).chain([0xff, 0x07]) {
         let mut bytes = [&[PREAMBLE, second, 4][..], &[0x3e, 0xd0, 0, 0]].concat();
@@ -182,7 +162,7 @@ fn second_bytes() -> Vec<Case> {
 }
 
 /// A D3 as the last byte, and with one byte or two behind it at the end.
-fn preambles_at_the_end() -> Vec<Case> {
+fn preambles_at_the_end() -> Vec<Vector> {
     let endings: [&[u8]; 16] = [
         &[0xd3],
         &[0xd3, 0],
@@ -214,7 +194,7 @@ fn preambles_at_the_end() -> Vec<Case> {
 }
 
 /// False D3 before and inside a frame, all of whose bytes have arrived.
-fn false_preambles() -> Vec<Case> {
+fn false_preambles() -> Vec<Vector> {
     let mut cases = Vec::new();
     let frame = example();
     for (name, before) in [
@@ -245,7 +225,7 @@ fn false_preambles() -> Vec<Case> {
 }
 
 /// Frames whose CRC is another one: of the message alone, with its bytes turned round, from ones, of another polynomial.
-fn wrong_tails() -> Vec<Case> {
+fn wrong_tails() -> Vec<Vector> {
     let frame = plain();
     let (body, right) = frame.split_at(frame.len() - TAIL);
     let turned = [right[2], right[1], right[0]];
@@ -269,7 +249,7 @@ fn wrong_tails() -> Vec<Case> {
 }
 
 /// Frames of no message.
-fn no_message() -> Vec<Case> {
+fn no_message() -> Vec<Vector> {
     let empty = frame_of(&[]);
     let mut cases = Vec::new();
     for length in 0..=empty.len() {
@@ -283,7 +263,7 @@ fn no_message() -> Vec<Case> {
 }
 
 /// Two and more frames, read from the start, from each one's end and from between.
-fn two_frames() -> Vec<Case> {
+fn two_frames() -> Vec<Vector> {
     let frames = [usual(1025), example(), frame_of(&[]), frame_of(&[0x3f]), usual(1026)];
     let bytes = frames.concat();
     let mut cases = Vec::new();
@@ -299,7 +279,7 @@ fn two_frames() -> Vec<Case> {
 }
 
 /// Unfinished candidates before a whole frame.
-fn unfinished_before() -> Vec<Case> {
+fn unfinished_before() -> Vec<Vector> {
     let frame = example();
     let mut cases = Vec::new();
     for (name, before) in [
@@ -320,7 +300,7 @@ fn unfinished_before() -> Vec<Case> {
 }
 
 /// Unfinished candidates inside and behind a whole frame.
-fn unfinished_inside() -> Vec<Case> {
+fn unfinished_inside() -> Vec<Vector> {
     let frame = frame_of(&[0x3e, 0xd0, 0xd3, 3, 0xff, 0, 0xd3, 0, 9, 0xd3]);
     let mut cases = Vec::new();
     for from in 0..=frame.len() {
@@ -334,7 +314,7 @@ fn unfinished_inside() -> Vec<Case> {
 }
 
 /// Random streams, searched from the start or from a random place.
-fn random_streams() -> Vec<Case> {
+fn random_streams() -> Vec<Vector> {
     let mut random = Random::new(51);
     let mut cases = Vec::new();
     for i in 0..140 {
@@ -350,7 +330,7 @@ fn random_streams() -> Vec<Case> {
 }
 
 /// Frames that are written into buffers that are long enough, just so, and not.
-fn written() -> Vec<Case> {
+fn written() -> Vec<Vector> {
     let mut messages: Vec<(String, Vec<u8>)> =
         NUMBERS.iter().map(|&number| (number.to_string(), Sample::usual(number).bytes())).collect();
     messages.push(("1005".to_string(), EXAMPLE_1005.to_vec()));
@@ -375,12 +355,12 @@ fn written() -> Vec<Case> {
 }
 
 /// Messages of three bytes with one bit set each, which show the CRC of every place.
-fn single_bits() -> Vec<Case> {
+fn single_bits() -> Vec<Vector> {
     (0..24).map(|bit| write(format!("bit-{bit}"), 10, &(0x80_0000u32 >> bit).to_be_bytes()[1..])).collect()
 }
 
 /// Long messages around the longest one, with buffers that are long enough, just so, and not.
-fn long_written() -> Vec<Case> {
+fn long_written() -> Vec<Vector> {
     let mut cases = Vec::new();
     for count in [0, 25, 255, 256, 511, 512, 767, 768, 1_000, 1_022, LONGEST] {
         let needed = HEAD + count + TAIL;

@@ -1,9 +1,9 @@
 //! Cases of making a height grid from sixteen wanted heights.
 
-use super::{buffer_after, row_words, Case};
+use super::{Call, Vector};
 use crate::fields::by_df;
 use crate::gridsamples::Grid;
-use crate::heights::{write_heights, GREATEST_MEAN, NODES};
+use crate::heights::{GREATEST_MEAN, NODES};
 use crate::heightsamples::{any_heights, height_places, row_of, spread, with_any_heights, FARTHEST, WIDEST};
 use crate::message::Row;
 use crate::random::Random;
@@ -17,21 +17,16 @@ const LENGTH: usize = 73;
 const TESTED_FIRST: [u16; 6] = [191, 213, 192, 193, 194, 195];
 
 /// All cases of making a height grid.
-pub fn cases() -> Vec<Case> {
+pub fn cases() -> Vec<Vector> {
     let lists = [levels(), spans(), one_apart(), rooms(), refusal_order(), counts(), heights_ignored()];
     let more = [other_fields(), tested_first(), no_places(), random_heights()];
     lists.into_iter().chain(more).flatten().collect()
 }
 
-/// A case of a row, wanted heights and a room.
-fn case(name: String, row: &Row, wanted: &[i64], room: usize) -> Case {
-    let numbers: Vec<i64> = wanted.iter().chain(&row.values).copied().collect();
-    let words = row_words(&Row { values: numbers, present: row.present.clone() });
-    Case {
-        name: format!("heights-{name}"),
-        call: format!("heights {room} {} {words}", wanted.len()),
-        answer: buffer_after(write_heights(row, wanted, room), room),
-    }
+/// A vector of a row, wanted heights and a room.
+fn case(name: String, row: &Row, wanted: &[i64], room: usize) -> Vector {
+    let call = Call::Heights { row: row.clone(), wanted: wanted.to_vec(), room };
+    Vector { name: format!("heights-{name}"), call }
 }
 
 /// The row of grid K.
@@ -52,14 +47,14 @@ fn heights_of_k() -> [i64; NODES] {
 }
 
 /// Grids of one height, near 0, near every step of a mean and at the ends.
-fn levels() -> Vec<Case> {
+fn levels() -> Vec<Vector> {
     let word = |height: i64| if height < 0 { format!("minus-{}", height.unsigned_abs()) } else { height.to_string() };
     let near_zero = (-3..=3).chain([-266, -265, -256, -255, -6, -5, 5, 6, 255, 256, 265, 266]);
     let ends = [FARTHEST - 511, FARTHEST - 510, FARTHEST - 1, FARTHEST, FARTHEST + 1, FARTHEST + 10, i64::MAX];
     let mut heights: Vec<i64> = near_zero.collect();
     heights.extend(ends.into_iter().flat_map(|height| [height, -height]));
     heights.push(i64::MIN);
-    let mut cases: Vec<Case> = heights
+    let mut cases: Vec<Vector> = heights
         .into_iter()
         .map(|height| case(format!("level-{}", word(height)), &k(), &[height; NODES], LENGTH))
         .collect();
@@ -68,7 +63,7 @@ fn levels() -> Vec<Case> {
 }
 
 /// Greatest differences of heights about the greatest that a message can say, at all ends of a step of the mean.
-fn spans() -> Vec<Case> {
+fn spans() -> Vec<Vector> {
     let mut random = Random::new(114);
     let mut cases = Vec::new();
     for span in [WIDEST - 10, WIDEST - 5, WIDEST - 1, WIDEST, WIDEST + 1] {
@@ -88,7 +83,7 @@ fn spans() -> Vec<Case> {
 }
 
 /// One node apart from the others by as much as a message can say, by more, and by very much.
-fn one_apart() -> Vec<Case> {
+fn one_apart() -> Vec<Vector> {
     let mut cases = Vec::new();
     for node in 0..NODES {
         let words = if node % 2 == 0 { [("up", 510), ("under", -511)] } else { [("over", 511), ("down", -510)] };
@@ -102,13 +97,13 @@ fn one_apart() -> Vec<Case> {
 }
 
 /// One grid at every kind of room.
-fn rooms() -> Vec<Case> {
+fn rooms() -> Vec<Vector> {
     let rooms = [0, 1, LENGTH - 1, LENGTH, LENGTH + 1, LENGTH + 17, 160];
     rooms.into_iter().map(|room| case(format!("room-{room}"), &k(), &heights_of_k(), room)).collect()
 }
 
 /// Every pair of reasons to be refused.
-fn refusal_order() -> Vec<Case> {
+fn refusal_order() -> Vec<Vector> {
     let steep = spread(&mut Random::new(115), 0, WIDEST + 1);
     let reasons: [(&str, usize, i64, u8); 8] = [
         ("off", 3, 0, 1),
@@ -136,7 +131,7 @@ fn refusal_order() -> Vec<Case> {
 }
 
 /// Other counts of heights, values and presence bytes than 16, 64 and 64, with DF191 1 and 0.
-fn counts() -> Vec<Case> {
+fn counts() -> Vec<Vector> {
     let mut cases = Vec::new();
     for (word, row) in [("on", k()), ("off", changed(&k(), 3, 0, 1))] {
         for count in [0, 1, 15, 17] {
@@ -159,7 +154,7 @@ fn counts() -> Vec<Case> {
 }
 
 /// Height fields of the row that hold anything.
-fn heights_ignored() -> Vec<Case> {
+fn heights_ignored() -> Vec<Vector> {
     let mut random = Random::new(116);
     let mut cases = Vec::new();
     for (i, place) in height_places().into_iter().enumerate() {
@@ -188,7 +183,7 @@ fn plain_fields() -> Vec<(usize, u16)> {
 }
 
 /// Every other field at values that it does not take and without a value, the nodes by turns.
-fn other_fields() -> Vec<Case> {
+fn other_fields() -> Vec<Vector> {
     let mut cases = Vec::new();
     for (place, df) in plain_fields().into_iter().filter(|(_, df)| !TESTED_FIRST.contains(df)) {
         for (i, (word, value)) in not_taken(by_df(df)).into_iter().enumerate() {
@@ -205,7 +200,7 @@ fn other_fields() -> Vec<Case> {
 }
 
 /// The fields that are tested first at all that they take and at much that they do not.
-fn tested_first() -> Vec<Case> {
+fn tested_first() -> Vec<Vector> {
     let mut cases = Vec::new();
     for (place, df) in plain_fields().into_iter().filter(|(_, df)| TESTED_FIRST.contains(df)) {
         let field = by_df(df);
@@ -221,7 +216,7 @@ fn tested_first() -> Vec<Case> {
 }
 
 /// Numbers that are no place of a row: a presence byte other than 0 and 1, and a none with a value.
-fn no_places() -> Vec<Case> {
+fn no_places() -> Vec<Vector> {
     let steep = spread(&mut Random::new(117), 0, WIDEST + 1);
     let mut cases = Vec::new();
     for place in [1, 3, 4, 5, 6, 7, 11, 60] {
@@ -236,7 +231,7 @@ fn no_places() -> Vec<Case> {
 }
 
 /// Random grids, by turns across 180 degrees, with random heights.
-fn random_heights() -> Vec<Case> {
+fn random_heights() -> Vec<Vector> {
     let mut random = Random::new(118);
     let any = |i: usize| {
         let grid = if i.is_multiple_of(2) { random_grid(&mut random, 1023) } else { random_grid_across(&mut random) };

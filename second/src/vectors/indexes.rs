@@ -1,7 +1,7 @@
 //! Cases of the index beside a table: what it holds, how it is searched, and what is wrong with it.
 
 use super::tables::{poke_slot, History};
-use super::Case;
+use super::Vector;
 use crate::index::{ENTRIES, ENTRY, INDEX_SIZE};
 use crate::index_damage::WRONG_SIZES;
 use crate::samples::Sample;
@@ -13,7 +13,7 @@ const SIX: [(u8, u16, u8, u8); 6] =
     [(1, 1027, 2, 2), (2, 1023, 2, 1), (1, 1026, 9, 2), (1, 1021, 2, 0), (2, 1025, 7, 2), (2, 1022, 2, 0)];
 
 /// All cases of the index.
-pub fn cases() -> Vec<Case> {
+pub fn cases() -> Vec<Vector> {
     let histories = [
         wrong_sizes(),
         growing(),
@@ -31,15 +31,15 @@ pub fn cases() -> Vec<Case> {
 fn six_messages(name: &str) -> History {
     let mut history = History::new(name, SIZE);
     SIX.into_iter().for_each(|(owner, number, sin, _)| history.store_any(owner, number, sin));
-    history.index_sum();
+    history.look_at_index();
     history
 }
 
-/// Every kind of call, and both sums.
+/// Every kind of call, and both buffers.
 fn every_call(history: &mut History, owner: u8, sin: u8, group: u8) {
     history.agrees();
     history.all_calls(owner, sin, group);
-    history.index_sum();
+    history.look_at_index();
 }
 
 /// Indexes of wrong sizes beside a table that is in use, empty or of a wrong size itself.
@@ -52,7 +52,7 @@ fn wrong_sizes() -> History {
         history.store(3, &[]);
         history.remove(0, 2, 9);
         history.rebuild();
-        history.index_sum();
+        history.look_at_index();
     }
     for (table, index) in [(SIZE, 127), (SIZE, 129), (SIZE - 1, 127), (SIZE + 1, INDEX_SIZE)] {
         history.fresh(table);
@@ -72,17 +72,17 @@ fn growing() -> History {
     for turn in 0..SLOTS as u8 {
         let (owner, sin) = key(turn);
         history.store_any(owner, 1025 + u16::from(turn) % 3, sin);
-        history.index_sum();
+        history.look_at_index();
     }
     history.agrees();
     for turn in (0..SLOTS as u8).map(|turn| turn.wrapping_mul(13) % 32) {
         let (owner, sin) = key(turn);
         history.find(owner, sin, 2);
         history.remove(owner, sin, 2);
-        history.index_sum();
+        history.look_at_index();
     }
     history.agrees();
-    history.sum();
+    history.look();
     history
 }
 
@@ -122,10 +122,10 @@ fn with_index(history: &mut History, index: &[u8]) {
     find_six(history);
     history.store_any(2, 1025, 7);
     history.remove(1, 2, 2);
-    history.sum();
-    history.index_sum();
+    history.look();
+    history.look_at_index();
     history.rebuild();
-    history.index_sum();
+    history.look_at_index();
 }
 
 /// The four bytes of an entry.
@@ -227,21 +227,21 @@ fn written_anew() -> History {
         history.poke_index(at, value);
         history.agrees();
         history.rebuild();
-        history.index_sum();
+        history.look_at_index();
     }
     history.poke_index(5, 200);
     history.poke(20 * SLOT, 2);
     history.rebuild();
     history.agrees();
-    history.index_sum();
+    history.look_at_index();
     history.poke(20 * SLOT, 1);
     history.rebuild();
     history.agrees();
-    history.index_sum();
+    history.look_at_index();
     history.fresh(SIZE);
     (0..INDEX_SIZE).step_by(9).for_each(|at| history.poke_index(at, 1));
     history.agrees();
     history.rebuild();
-    history.index_sum();
+    history.look_at_index();
     history
 }

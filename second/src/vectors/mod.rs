@@ -1,10 +1,13 @@
-//! Cases for the proved program: lines for its standard input, and the lines it must print.
+//! Designed vectors: calls of the exported interface, and cases for the proved program `cases`, which runs what those calls
+//! do not reach: lines for its standard input, and the lines it must print.
 
 pub mod antimeridian;
+mod call;
 mod frames;
 mod heights;
 mod indexes;
 mod parts;
+mod points;
 mod reads;
 mod record_shifts;
 mod records;
@@ -12,7 +15,10 @@ mod row_limits;
 mod rows;
 pub mod shifts;
 mod tables;
+mod tallies;
 mod writes;
+
+pub use call::{Call, OnTable, Vector};
 
 use crate::hex::hex;
 use crate::message::Row;
@@ -24,14 +30,14 @@ use std::path::Path;
 const LONGEST_LINE: usize = 900;
 /// The most cases.
 const MOST_CASES: usize = 40_000;
-/// The longest name of a case.
+/// The longest name of a vector, and of a case.
 const LONGEST_NAME: usize = 40;
 
-/// One case.
+/// One case of the proved program.
 pub struct Case {
     /// What the case shows.
     pub name: String,
-    /// The call and its arguments.
+    /// The command and its arguments.
     pub call: String,
     /// What the program prints behind the name.
     pub answer: String,
@@ -49,22 +55,7 @@ impl Case {
     }
 }
 
-/// Which cases are made.
-#[derive(Clone, Copy, Default)]
-pub struct Wanted {
-    /// Cases of the shifts at a position.
-    pub shift: bool,
-    /// Cases of the table.
-    pub table: bool,
-    /// Cases of transport frames.
-    pub frame: bool,
-    /// Cases of rows of shifts.
-    pub row: bool,
-    /// Cases of making a height grid.
-    pub heights: bool,
-}
-
-/// What every byte of a buffer holds before a call.
+/// What every byte of a buffer holds before a case's call.
 const BEFORE: u8 = 0xa5;
 
 /// The presence bytes of a row and then its values, as they stand behind a command.
@@ -82,60 +73,56 @@ fn buffer_after(written: Result<Vec<u8>, Refusal>, room: usize) -> String {
     format!("{refusal} {} : {}", bytes.len(), hex(&buffer))
 }
 
-/// The two sums of bytes that the cases print.
-fn sums(bytes: &[u8]) -> (u32, u32) {
-    sums_of(bytes.iter().map(|&byte| u32::from(byte)))
+/// All vectors for the exported calls, in order; the calls on a table follow one another.
+pub fn vectors() -> Vec<Vector> {
+    let lists = [reads::cases(), writes::cases(), shifts::cases(), tables::cases(), indexes::cases()];
+    let more = [frames::cases(), rows::cases(), heights::cases()];
+    let vectors: Vec<Vector> = lists.into_iter().chain(more).flatten().collect();
+    check_names(vectors.iter().map(|vector| &vector.name));
+    vectors
 }
 
-/// The two sums of numbers from 0 to 65,520.
-fn sums_of(numbers: impl Iterator<Item = u32>) -> (u32, u32) {
-    numbers.fold((0, 0), |(a, b), number| {
-        let a = (a + number) % 65_521;
-        (a, (b + a) % 65_521)
-    })
+/// The case of what the exported call of a vector does not reach, where there is such a part.
+fn beyond_the_call(vector: &Vector) -> Option<Case> {
+    match &vector.call {
+        Call::Read(bytes) => Some(reads::kinds_case(&vector.name, bytes)),
+        Call::Shift { bytes, position } => Some(shifts::answer_case(&vector.name, bytes, *position)),
+        _ => None,
+    }
 }
 
-/// All cases wanted, in order.
-pub fn cases(wanted: Wanted) -> Vec<Case> {
-    let mut cases = reads::cases();
-    cases.extend(writes::cases());
-    cases.extend(records::cases());
-    if wanted.shift {
-        cases.extend(shifts::cases());
-        cases.extend(record_shifts::cases());
+/// All cases of the proved program, in order.
+pub fn cases() -> Vec<Case> {
+    let mut cases: Vec<Case> = vectors().iter().filter_map(beyond_the_call).collect();
+    for more in [records::cases(), record_shifts::cases(), points::cases(), tallies::cases()] {
+        cases.extend(more);
     }
-    if wanted.table {
-        cases.extend(tables::cases());
-        cases.extend(indexes::cases());
-    }
-    if wanted.frame {
-        cases.extend(frames::cases());
-    }
-    if wanted.row {
-        cases.extend(rows::cases());
-    }
-    if wanted.heights {
-        cases.extend(heights::cases());
-    }
-    check(&cases);
+    check_names(cases.iter().map(|case| &case.name));
+    check_lines(&cases);
     cases
 }
 
-/// Stops where a name is used twice, a line is too long or the cases are too many.
-fn check(cases: &[Case]) {
-    assert!(cases.len() <= MOST_CASES, "there are {} cases", cases.len());
+/// Stops where a name is used twice, is too long or has another character.
+fn check_names<'a>(all: impl Iterator<Item = &'a String>) {
     let mut names = HashSet::new();
+    for name in all {
+        assert!(names.insert(name), "{name} is used twice");
+        assert!(name.len() <= LONGEST_NAME, "the name {name} is too long");
+        assert!(name.bytes().all(|b| b.is_ascii_lowercase() || b.is_ascii_digit() || b"-_".contains(&b)));
+    }
+}
+
+/// Stops where a line is too long or the cases are too many.
+fn check_lines(cases: &[Case]) {
+    assert!(cases.len() <= MOST_CASES, "there are {} cases", cases.len());
     for case in cases {
-        assert!(names.insert(&case.name), "two cases are called {}", case.name);
-        assert!(case.name.len() <= LONGEST_NAME, "the name {} is too long", case.name);
-        assert!(case.name.bytes().all(|b| b.is_ascii_lowercase() || b.is_ascii_digit() || b"-_".contains(&b)));
         assert!(case.input().len() <= LONGEST_LINE, "the line of {} is too long", case.name);
     }
 }
 
 /// Writes the cases as the files stdin and stdout of a folder.
-pub fn write(dir: &Path, wanted: Wanted) -> std::io::Result<usize> {
-    let cases = cases(wanted);
+pub fn write(dir: &Path) -> std::io::Result<usize> {
+    let cases = cases();
     std::fs::create_dir_all(dir)?;
     std::fs::write(dir.join("stdin"), cases.iter().map(Case::input).collect::<String>())?;
     std::fs::write(dir.join("stdout"), cases.iter().map(Case::output).collect::<String>())?;

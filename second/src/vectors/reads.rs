@@ -1,11 +1,10 @@
 //! Cases of reading: sound messages, damaged messages, and the order of the refusals.
 
-use super::Case;
+use super::{Call, Case, Vector};
 use crate::fields::by_df;
 use crate::hex::hex;
 use crate::layouts::NUMBERS;
 use crate::message::{read, read_kind, KINDS};
-use crate::message::{write_row, Message};
 use crate::random::Random;
 use crate::record::{record_of, write_record};
 use crate::refusal::number_of;
@@ -16,7 +15,7 @@ use crate::services::services;
 const ROOM: usize = 160;
 
 /// All cases of reading.
-pub fn cases() -> Vec<Case> {
+pub fn cases() -> Vec<Vector> {
     let mut cases = Vec::new();
     cases.extend(worked());
     cases.extend(short_and_unknown());
@@ -41,38 +40,26 @@ pub fn cases() -> Vec<Case> {
     cases
 }
 
-/// A case of reading bytes.
-fn case(name: String, bytes: &[u8]) -> Case {
-    Case { name, call: format!("read {}", hex(bytes)), answer: answer(bytes) }
+/// A vector of reading bytes.
+fn case(name: String, bytes: &[u8]) -> Vector {
+    Vector { name, call: Call::Read(bytes.to_vec()) }
 }
 
-/// What is printed of a message that is read.
+/// The case of what only records show of a message.
+pub fn kinds_case(name: &str, bytes: &[u8]) -> Case {
+    Case { name: name.to_string(), call: format!("kinds {}", hex(bytes)), answer: answer(bytes) }
+}
+
+/// The refusals of the record readers of the six kinds, and the bytes written from the record.
 fn answer(bytes: &[u8]) -> String {
-    let message = read(bytes);
-    let kinds: Vec<String> = (0..KINDS.len()).map(|k| number_of(&read_kind(bytes, k)).to_string()).collect();
-    let refusal = number_of(&message);
-    match message {
-        Ok(m) => format!("{} {} : {}", header(refusal, &m), kinds.join(" "), parts(&m)),
-        Err(_) => format!("{refusal} 0 0 0 {} : - : - : - : -", kinds.join(" ")),
-    }
-}
-
-/// Refusal, number, length and system identification number.
-fn header(refusal: u8, message: &Message) -> String {
-    format!("{} {} {} {}", refusal, message.number, message.length, message.sin())
-}
-
-/// The values and presence bytes of the row, the bytes written from the row, and the bytes written from the record.
-fn parts(message: &Message) -> String {
-    let row = message.row();
-    let values: Vec<String> = row.values.iter().map(i64::to_string).collect();
-    let from_row = write_row(&row, ROOM).expect("an accepted row is written");
-    let from_record = write_record(&record_of(message), ROOM).expect("an accepted record is written");
-    format!("{} : {} : {} : {}", values.join(" "), hex(&row.present), hex(&from_row), hex(&from_record))
+    let kinds: Vec<String> = (0..KINDS.len()).map(|kind| number_of(&read_kind(bytes, kind)).to_string()).collect();
+    let written = read(bytes)
+        .map_or(Vec::new(), |message| write_record(&record_of(&message), ROOM).expect("an accepted record is written"));
+    format!("{} : {}", kinds.join(" "), hex(&written))
 }
 
 /// The cases that document 01 works out or names.
-fn worked() -> Vec<Case> {
+fn worked() -> Vec<Vector> {
     let p12 = Sample::zeros(1021);
     let bytes = p12.bytes();
     let with_fill: Vec<u8> = [&bytes[..51], &[bytes[51] | 1]].concat();
@@ -93,7 +80,7 @@ fn worked() -> Vec<Case> {
 }
 
 /// Messages of 0 to 3 bytes and of numbers that are not 1021 to 1027.
-fn short_and_unknown() -> Vec<Case> {
+fn short_and_unknown() -> Vec<Vector> {
     let mut cases = Vec::new();
     for length in 0..4 {
         let word = if length < 2 { "short" } else { "zeros" };
@@ -120,7 +107,7 @@ fn short_and_unknown() -> Vec<Case> {
 }
 
 /// Messages all of whose fields are at one end, zero, minus one or not available.
-fn whole_rows(number: u16) -> Vec<Case> {
+fn whole_rows(number: u16) -> Vec<Vector> {
     let all = |name: &str, number_of: fn(&crate::fields::Field) -> i64| {
         case(format!("{number}-all-{name}"), &Sample::new(number, [b"\xff", b"\x00"], number_of).bytes())
     };
@@ -153,7 +140,7 @@ pub fn plain_places(sample: &Sample) -> Vec<usize> {
 }
 
 /// Every field at its ends, at zero, at minus one, not available, and outside its range where the width allows it.
-fn field_ends(number: u16) -> Vec<Case> {
+fn field_ends(number: u16) -> Vec<Vector> {
     let usual = Sample::usual(number);
     let mut cases = Vec::new();
     for place in plain_places(&usual) {
@@ -168,13 +155,13 @@ fn field_ends(number: u16) -> Vec<Case> {
 }
 
 /// Sound messages of random names and fields.
-fn random_rows(number: u16) -> Vec<Case> {
+fn random_rows(number: u16) -> Vec<Vector> {
     let mut random = Random::new(2_000 + number as u64);
     (0..25).map(|i| case(format!("{number}-random-{i}"), &Sample::any(&mut random, number).bytes())).collect()
 }
 
 /// Random bits behind a right number, at the right length with the fill bits zero and at any length.
-fn random_bits(number: u16) -> Vec<Case> {
+fn random_bits(number: u16) -> Vec<Vector> {
     let mut random = Random::new(3_000 + number as u64);
     let mut cases = Vec::new();
     for i in 0..10 {
@@ -194,9 +181,9 @@ fn random_bits(number: u16) -> Vec<Case> {
 }
 
 /// One message cut at every length, and one and two bytes too long, the added bytes being zero or not.
-fn other_lengths(number: u16) -> Vec<Case> {
+fn other_lengths(number: u16) -> Vec<Vector> {
     let bytes = Sample::usual(number).bytes();
-    let mut cases: Vec<Case> =
+    let mut cases: Vec<Vector> =
         (0..bytes.len()).map(|length| case(format!("{number}-cut-{length}"), &bytes[..length])).collect();
     for (name, added) in [("1", &[0u8][..]), ("2", &[0, 0]), ("1-ones", &[255]), ("2-ones", &[255, 255])] {
         cases.push(case(format!("{number}-long-{name}"), &[&bytes[..], added].concat()));
@@ -224,7 +211,7 @@ fn fill_width(number: u16) -> u32 {
 }
 
 /// Every fill bit set alone, and all together.
-fn fill_bits(number: u16) -> Vec<Case> {
+fn fill_bits(number: u16) -> Vec<Vector> {
     let bytes = Sample::usual(number).bytes();
     let set = |mask: u8| {
         let mut other = bytes.clone();
@@ -232,7 +219,7 @@ fn fill_bits(number: u16) -> Vec<Case> {
         other
     };
     let all = ((1u16 << fill_width(number)) - 1) as u8;
-    let mut cases: Vec<Case> =
+    let mut cases: Vec<Vector> =
         (0..fill_width(number)).map(|bit| case(format!("{number}-fill-bit-{bit}"), &set(1 << bit))).collect();
     cases.push(case(format!("{number}-fill-all"), &set(all)));
     cases
@@ -251,7 +238,7 @@ pub fn narrow_field(number: u16) -> Option<(u16, i64)> {
 }
 
 /// Messages that would be refused for two reasons, so that the order shows.
-fn order_of_refusals(number: u16) -> Vec<Case> {
+fn order_of_refusals(number: u16) -> Vec<Vector> {
     let usual = Sample::usual(number);
     let mut cases = Vec::new();
     let filled = |sample: &Sample| {
@@ -274,7 +261,7 @@ fn order_of_refusals(number: u16) -> Vec<Case> {
 }
 
 /// Names of 0, 1, 30 and 31 characters.
-fn name_lengths(number: u16) -> Vec<Case> {
+fn name_lengths(number: u16) -> Vec<Vector> {
     let mut random = Random::new(4_000 + number as u64);
     let mut cases = Vec::new();
     for source in [0, 1, 30, 31] {
@@ -293,7 +280,7 @@ fn name_lengths(number: u16) -> Vec<Case> {
 }
 
 /// Names in which every byte value stands once as a source character and once as a target character.
-fn all_characters() -> Vec<Case> {
+fn all_characters() -> Vec<Vector> {
     let values: Vec<u8> = (0..=255).collect();
     let pieces: Vec<&[u8]> = values.chunks(31).collect();
     let count = pieces.len();
@@ -307,7 +294,7 @@ fn all_characters() -> Vec<Case> {
 }
 
 /// Every counter value in a message of fixed length, for both counters.
-fn wrong_counters(number: u16) -> Vec<Case> {
+fn wrong_counters(number: u16) -> Vec<Vector> {
     let mut random = Random::new(5_000 + number as u64);
     let names = [random.bytes(9), random.bytes(14)];
     let sample = Sample::new(number, [&names[0], &names[1]], |f| random.within(f.least(), f.greatest()));
@@ -326,7 +313,7 @@ fn wrong_counters(number: u16) -> Vec<Case> {
 }
 
 /// One message with every single bit flipped.
-fn flipped_bits(number: u16) -> Vec<Case> {
+fn flipped_bits(number: u16) -> Vec<Vector> {
     let mut random = Random::new(6_000 + number as u64);
     let bytes = Sample::new(number, [b"A", b"Z9"], |f| random.within(f.least(), f.greatest())).bytes();
     (0..8 * bytes.len())
@@ -339,7 +326,7 @@ fn flipped_bits(number: u16) -> Vec<Case> {
 }
 
 /// Every file of the made-up services.
-fn service_files() -> Vec<Case> {
+fn service_files() -> Vec<Vector> {
     let mut cases = Vec::new();
     for service in services() {
         let letter = &service.folder[..1];

@@ -2,13 +2,13 @@
 
 use super::rows::{case, long_case, MOST_ROOM};
 use super::shifts::{steep, word};
-use super::Case;
+use super::Vector;
 use crate::gridsamples::Grid;
 use crate::rows::{Ask, MOST_PLACES};
 use crate::samples::Sample;
 
 /// All cases of a message number.
-pub(super) fn cases(number: u16) -> Vec<Case> {
+pub(super) fn cases(number: u16) -> Vec<Vector> {
     let mut cases = lengths(number);
     cases.extend(rooms(number));
     cases.extend(steps(number));
@@ -34,7 +34,7 @@ fn named(number: i64) -> String {
 }
 
 /// Lengths of a row that are good and bad, with rooms that are long enough for the good ones and too short.
-fn lengths(number: u16) -> Vec<Case> {
+fn lengths(number: u16) -> Vec<Vector> {
     let grid = steep(number);
     let counts = [0, 1, 2, 39, 40, 41, 4_095, 4_096, 4_097, 4_098, 65_535, 65_536, 65_537];
     let more = [1 << 31, (1 << 31) + 1, 1 << 32, (1 << 32) + 1, 1 << 53, i64::MAX as usize - 1, i64::MAX as usize];
@@ -49,7 +49,7 @@ fn lengths(number: u16) -> Vec<Case> {
 }
 
 /// Rooms around the count of places, all places behind it keeping their numbers.
-fn rooms(number: u16) -> Vec<Case> {
+fn rooms(number: u16) -> Vec<Vector> {
     let grid = steep(number);
     let mut cases = Vec::new();
     for count in [1, 2, 5, 39, 40] {
@@ -69,7 +69,7 @@ fn rooms(number: u16) -> Vec<Case> {
 }
 
 /// Steps that are negative, none, past all limits, or come back to the start where 64 bits overflow.
-fn steps(number: u16) -> Vec<Case> {
+fn steps(number: u16) -> Vec<Vector> {
     let grid = steep(number);
     let mut cases = Vec::new();
     for step in [i64::MIN, i64::MIN + 1, -12_960_000_000, -2, -1, 0, 1, i64::MAX - 1, i64::MAX] {
@@ -88,7 +88,7 @@ fn steps(number: u16) -> Vec<Case> {
 }
 
 /// First and last places at the limits, one step past them, and at the ends of 64 bits.
-fn limits(number: u16) -> Vec<Case> {
+fn limits(number: u16) -> Vec<Vector> {
     let [far_north, far_east] = if number == 1023 { [3_240_000_000i64, 6_480_000_000] } else { [1_000_000_000_000; 2] };
     let grid = steep(number);
     let [north, east] = grid.origin();
@@ -182,12 +182,12 @@ const REASONS: [Reason; 19] = [
 ];
 
 /// The case of a call.
-fn case_of(name: String, call: &Call) -> Case {
+fn case_of(name: String, call: &Call) -> Vector {
     case(name, &(call.bytes)(&call.grid), call.ask, call.room)
 }
 
 /// Each reason alone and every two of them, the later one being put in first, on a row that is answered.
-fn refusals(number: u16, component: u8) -> Vec<Case> {
+fn refusals(number: u16, component: u8) -> Vec<Vector> {
     let grid = steep(number);
     let ask = good(&grid, component);
     let good = Call { grid, bytes: Grid::bytes, ask, room: 8 };

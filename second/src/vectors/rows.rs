@@ -2,23 +2,20 @@
 
 use super::antimeridian::{self, random_grid_across};
 use super::shifts::{named_grids, random_grid, random_position, steep, word};
-use super::{row_limits, sums_of, Case};
+use super::{row_limits, Call, Vector};
 use crate::gridsamples::{Grid, HALF_TURN};
-use crate::hex::hex;
 use crate::random::Random;
-use crate::rows::{fill, Ask, MOST_PLACES};
+use crate::rows::{Ask, MOST_PLACES};
 
-/// The most places of the buffer of a `row`.
+/// The most places of a short buffer.
 pub(super) const MOST_ROOM: usize = 40;
-/// The most places of the buffer of a `longrow`.
+/// The most places of a long buffer.
 const MOST_LONG_ROOM: usize = 4_200;
-/// What every place of a buffer holds before a call.
-const BEFORE: i64 = -7_777_777;
 /// A whole turn in steps of 1023.
 pub(super) const TURN: i64 = 2 * HALF_TURN;
 
 /// All cases of rows.
-pub fn cases() -> Vec<Case> {
+pub fn cases() -> Vec<Vector> {
     let mut cases = worked();
     for (name, grid) in named_grids().into_iter().chain([("k".to_string(), Grid::k())]) {
         cases.extend(across(&name, &grid));
@@ -39,46 +36,20 @@ pub fn cases() -> Vec<Case> {
     cases
 }
 
-/// The buffer and the refusal number after a call.
-fn after(bytes: &[u8], ask: &Ask, room: usize) -> (u8, Vec<i64>) {
-    let mut row = vec![BEFORE; room];
-    let refusal = fill(bytes, ask, &mut row);
-    (refusal, row)
-}
-
-/// The words of a call behind its command.
-fn words(bytes: &[u8], ask: &Ask, room: usize) -> String {
-    let Ask { component, start: [north, east], step, count } = ask;
-    format!("{room} {component} {north} {east} {step} {count} {}", hex(bytes))
-}
-
-/// A case whose whole buffer is printed.
-pub(super) fn case(name: String, bytes: &[u8], ask: Ask, room: usize) -> Case {
+/// A vector of a row in a short buffer.
+pub(super) fn case(name: String, bytes: &[u8], ask: Ask, room: usize) -> Vector {
     assert!(room <= MOST_ROOM);
-    let (refusal, row) = after(bytes, &ask, room);
-    let numbers: Vec<String> = row.iter().map(i64::to_string).collect();
-    let printed = if room == 0 { "-".to_string() } else { numbers.join(" ") };
-    Case {
-        name: format!("row-{name}"),
-        call: format!("row {}", words(bytes, &ask, room)),
-        answer: format!("{refusal} : {printed}"),
-    }
+    Vector { name: format!("row-{name}"), call: Call::Row { bytes: bytes.to_vec(), ask, room } }
 }
 
-/// A case of which two sums over the buffer are printed.
-pub(super) fn long_case(name: String, bytes: &[u8], ask: Ask, room: usize) -> Case {
+/// A vector of a row in a long buffer.
+pub(super) fn long_case(name: String, bytes: &[u8], ask: Ask, room: usize) -> Vector {
     assert!(room <= MOST_LONG_ROOM);
-    let (refusal, row) = after(bytes, &ask, room);
-    let (a, b) = sums_of(row.iter().map(|number| number.rem_euclid(65_521) as u32));
-    Case {
-        name: format!("longrow-{name}"),
-        call: format!("longrow {}", words(bytes, &ask, room)),
-        answer: format!("{refusal} {a} {b}"),
-    }
+    Vector { name: format!("longrow-{name}"), call: Call::Row { bytes: bytes.to_vec(), ask, room } }
 }
 
 /// Rows through document 01's worked positions of grid K, and from node 6 to node 7 by halves of a count.
-fn worked() -> Vec<Case> {
+fn worked() -> Vec<Vector> {
     let k = Grid::k();
     let six = k.at_node(6);
     let absent = k.set_node(2, 7, None);
@@ -104,7 +75,7 @@ fn worked() -> Vec<Case> {
 }
 
 /// Rows from the western to the eastern edge through all cells, on the lines of nodes and between them.
-fn across(name: &str, grid: &Grid) -> Vec<Case> {
+fn across(name: &str, grid: &Grid) -> Vec<Vector> {
     let [high, wide] = grid.spacing();
     let [north, east] = grid.at_node(13);
     let mut cases = Vec::new();
@@ -119,7 +90,7 @@ fn across(name: &str, grid: &Grid) -> Vec<Case> {
 }
 
 /// Rows of small steps over each column of nodes, the outer ones included.
-fn around_lines(number: u16) -> Vec<Case> {
+fn around_lines(number: u16) -> Vec<Vector> {
     let grid = steep(number);
     let high = grid.spacing()[0];
     let mut cases = Vec::new();
@@ -140,7 +111,7 @@ fn around_lines(number: u16) -> Vec<Case> {
 }
 
 /// Rows whose places fall on halves of a count or one step beside them, with nodes of both signs.
-fn halves(number: u16) -> Vec<Case> {
+fn halves(number: u16) -> Vec<Vector> {
     let mut cases = Vec::new();
     for (sign_word, sign) in [("plus", 1), ("minus", -1)] {
         let grid = Grid::of(number, [100, 200], [12, 12], [0, 0, 0], |_, node| {
@@ -168,7 +139,7 @@ fn halves(number: u16) -> Vec<Case> {
 }
 
 /// Rows between negative and positive nodes, whose exact mean passes zero, with means of both signs.
-fn changes_of_sign(number: u16) -> Vec<Case> {
+fn changes_of_sign(number: u16) -> Vec<Vector> {
     let mut cases = Vec::new();
     for (size, mean) in [(1, 0), (1, 1), (2, -1), (255, 0), (255, 3)] {
         let grid =
@@ -188,7 +159,7 @@ fn changes_of_sign(number: u16) -> Vec<Case> {
 }
 
 /// Each node of one component not available, with rows that give it weight and rows that do not.
-fn absent_nodes(number: u16) -> Vec<Case> {
+fn absent_nodes(number: u16) -> Vec<Vector> {
     let grid = Grid::of(number, [100, 200], [6, 8], [1, 2, 3], |component, node| 10 * component as i64 - node as i64);
     let [high, wide] = grid.spacing();
     let mut cases = Vec::new();
@@ -221,7 +192,7 @@ fn absent_nodes(number: u16) -> Vec<Case> {
 }
 
 /// Each mean not available, asked for in every component.
-fn absent_means(number: u16) -> Vec<Case> {
+fn absent_means(number: u16) -> Vec<Vector> {
     let grid = steep(number);
     let mut cases = Vec::new();
     for mean in 0..3 {
@@ -235,7 +206,7 @@ fn absent_means(number: u16) -> Vec<Case> {
 }
 
 /// Rows that begin or end on the outer rectangle or one step beside it, and rows of one place over and over at its corners.
-fn edges(number: u16) -> Vec<Case> {
+fn edges(number: u16) -> Vec<Vector> {
     let grid = steep(number);
     let wide = grid.spacing()[1];
     let mut cases = Vec::new();
@@ -278,7 +249,7 @@ fn random_step(random: &mut Random, wide: i64) -> i64 {
 }
 
 /// Random rows on random grids, some with nodes not available.
-fn random_rows(number: u16) -> Vec<Case> {
+fn random_rows(number: u16) -> Vec<Vector> {
     let mut random = Random::new(31 + number as u64);
     let mut cases = Vec::new();
     for i in 0..240 {
@@ -295,7 +266,7 @@ fn random_rows(number: u16) -> Vec<Case> {
 }
 
 /// Rows of 4,096 places and near it on random grids: over all cells, over one column of nodes, at one place, and past the edge.
-fn long_rows(number: u16) -> Vec<Case> {
+fn long_rows(number: u16) -> Vec<Vector> {
     let mut random = Random::new(33 + number as u64);
     let mut cases = Vec::new();
     for i in 0..12 {
@@ -323,7 +294,7 @@ fn long_rows(number: u16) -> Vec<Case> {
 }
 
 /// Rows whose last place is at an eastern edge or the last before an absent node's cell, and those of one place more.
-fn long_rows_to_an_absent_node(number: u16) -> Vec<Case> {
+fn long_rows_to_an_absent_node(number: u16) -> Vec<Vector> {
     let grid = Grid::of(number, [-40, 3_000], [300, 273], [4, -5, 6], |component, node| {
         (node as i64 * 31 + component as i64 * 77) % 256 - 128
     });
@@ -352,7 +323,7 @@ fn long_rows_to_an_absent_node(number: u16) -> Vec<Case> {
 }
 
 /// Rows of grids across 180 degrees, and of plane grids with coordinates as large.
-fn across_180_degrees() -> Vec<Case> {
+fn across_180_degrees() -> Vec<Vector> {
     let mut cases = Vec::new();
     for (name, grid) in antimeridian::grids().into_iter().chain(antimeridian::touching()) {
         cases.extend(at_the_meridian(name, &grid));
@@ -368,7 +339,7 @@ fn across_180_degrees() -> Vec<Case> {
 }
 
 /// Rows that end at +180 degrees, before it or past it, and rows that begin at -180 degrees or beside it.
-fn at_the_meridian(name: &str, grid: &Grid) -> Vec<Case> {
+fn at_the_meridian(name: &str, grid: &Grid) -> Vec<Vector> {
     let [north, origin] = grid.origin();
     let wide = grid.spacing()[1];
     let mut cases = Vec::new();
@@ -392,7 +363,7 @@ fn at_the_meridian(name: &str, grid: &Grid) -> Vec<Case> {
 }
 
 /// Rows whose step is a whole turn, nearly one, or half of one.
-fn by_whole_turns(name: &str, grid: &Grid) -> Vec<Case> {
+fn by_whole_turns(name: &str, grid: &Grid) -> Vec<Vector> {
     let [north, east] = grid.origin();
     let wide = grid.spacing()[1];
     let mut cases = Vec::new();
@@ -417,7 +388,7 @@ fn by_whole_turns(name: &str, grid: &Grid) -> Vec<Case> {
 }
 
 /// Rows of 4,096 places on grids across 180 degrees, on either side of it.
-fn long_rows_across() -> Vec<Case> {
+fn long_rows_across() -> Vec<Vector> {
     let mut random = Random::new(35);
     let mut cases = Vec::new();
     for i in 0..12 {

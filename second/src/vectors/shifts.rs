@@ -1,6 +1,6 @@
 //! Cases of the shifts at a position.
 
-use super::{antimeridian, parts, Case};
+use super::{antimeridian, parts, Call as Exported, Case, Vector};
 use crate::grid::{shifts, Answer, Part, HEIGHT};
 use crate::gridsamples::Grid;
 use crate::hex::hex;
@@ -12,7 +12,7 @@ use crate::services::services;
 use std::collections::HashSet;
 
 /// All cases of the shifts from a message.
-pub fn cases() -> Vec<Case> {
+pub fn cases() -> Vec<Vector> {
     let mut cases = on_messages(worked());
     cases.extend(nodes("k", &Grid::k()));
     cases.extend(middles("k", &Grid::k()));
@@ -40,9 +40,25 @@ pub fn cases() -> Vec<Case> {
     cases
 }
 
-/// A case of the shifts on any bytes.
-pub(super) fn case(name: String, bytes: &[u8], [north, east]: [i64; 2]) -> Case {
-    Case { name, call: format!("shift {} {north} {east}", hex(bytes)), answer: parts_text(&shifts(bytes, north, east)) }
+/// A vector of the shifts on any bytes.
+pub(super) fn case(name: String, bytes: &[u8], position: [i64; 2]) -> Vector {
+    Vector { name, call: Exported::Shift { bytes: bytes.to_vec(), position } }
+}
+
+/// The case of what only the second answer shows of the shifts: its kind and value.
+pub fn answer_case(name: &str, bytes: &[u8], [north, east]: [i64; 2]) -> Case {
+    let answers = shifts(bytes, north, east).map(|part| answer_text(part.answer));
+    let call = format!("answer {} {north} {east}", hex(bytes));
+    Case { name: name.to_string(), call, answer: answers.join(" ") }
+}
+
+/// The kind of an answer and its value, the bits of the f64 or the refusal number.
+fn answer_text(answer: Answer) -> String {
+    match answer {
+        Answer::Seconds(value) => format!("seconds {}", value.to_bits()),
+        Answer::Metres(value) => format!("metres {}", value.to_bits()),
+        Answer::Refused(number) => format!("refused {number}"),
+    }
 }
 
 /// What is printed of three parts.
@@ -52,12 +68,8 @@ pub(super) fn parts_text(parts: &[Part]) -> String {
 
 /// What is printed of a part: refusal and count, the answer as the add-on receives it, and the bits of the float.
 fn part_text(part: &Part) -> String {
-    let (kind, value) = match part.answer {
-        Answer::Seconds(value) => ("seconds", value.to_bits()),
-        Answer::Metres(value) => ("metres", value.to_bits()),
-        Answer::Refused(number) => ("refused", u64::from(number)),
-    };
-    format!("{} {} {kind} {value} {}", number_of(&part.count), part.count.unwrap_or(0), part.float().to_bits())
+    let answer = answer_text(part.answer);
+    format!("{} {} {answer} {}", number_of(&part.count), part.count.unwrap_or(0), part.float().to_bits())
 }
 
 /// A signed number as a word for a name.
@@ -75,7 +87,7 @@ pub(super) struct Call {
 }
 
 /// The cases of named calls on messages.
-fn on_messages(calls: Vec<(String, Call)>) -> Vec<Case> {
+fn on_messages(calls: Vec<(String, Call)>) -> Vec<Vector> {
     calls.into_iter().map(|(name, call)| case(name, &call.grid.bytes(), call.position)).collect()
 }
 
@@ -131,19 +143,19 @@ pub(super) fn named_grids() -> Vec<(String, Grid)> {
 }
 
 /// The sixteen nodes, whose shift is mean and node alone.
-pub(super) fn nodes(name: &str, grid: &Grid) -> Vec<Case> {
+pub(super) fn nodes(name: &str, grid: &Grid) -> Vec<Vector> {
     (1..=16).map(|node| case(format!("{name}-node-{node}"), &grid.bytes(), grid.at_node(node))).collect()
 }
 
 /// The middles of the nine cells, row by row from the north.
-pub(super) fn middles(name: &str, grid: &Grid) -> Vec<Case> {
+pub(super) fn middles(name: &str, grid: &Grid) -> Vec<Vector> {
     let [high, wide] = grid.spacing();
     let middle = |cell: usize| grid.moved(grid.at_node(cell / 3 * 4 + cell % 3 + 1), [-high / 2, wide / 2]);
     (0..9).map(|cell| case(format!("{name}-cell-{}", cell + 1), &grid.bytes(), middle(cell))).collect()
 }
 
 /// Every crossing of a row and a column by one step on either side, and the middles of the edges.
-pub(super) fn lines_and_corners(name: &str, grid: &Grid) -> Vec<Case> {
+pub(super) fn lines_and_corners(name: &str, grid: &Grid) -> Vec<Vector> {
     let [high, wide] = grid.spacing();
     let mut cases = Vec::new();
     for node in 1..=16 {
@@ -162,7 +174,7 @@ pub(super) fn lines_and_corners(name: &str, grid: &Grid) -> Vec<Case> {
 }
 
 /// Positions whose exact mean ends in a half, and one step on either side, with nodes of both signs.
-fn halves(number: u16) -> Vec<Case> {
+fn halves(number: u16) -> Vec<Vector> {
     let mut cases = Vec::new();
     for (word, sign) in [("plus", 1), ("minus", -1)] {
         let grid = Grid::of(number, [100, 200], [12, 12], [0, 0, 0], |_, node| sign * (node as i64 % 4));
@@ -184,7 +196,7 @@ fn halves(number: u16) -> Vec<Case> {
 }
 
 /// Positions between a negative and a positive node, where the exact mean passes zero.
-fn halves_across_zero(number: u16) -> Vec<Case> {
+fn halves_across_zero(number: u16) -> Vec<Vector> {
     let grid = Grid::of(number, [0, 1_000], [12, 12], [0, 0, 0], |_, node| if node % 2 == 0 { 1 } else { -1 });
     let wide = grid.spacing()[1];
     let mut cases = Vec::new();
@@ -237,7 +249,7 @@ pub(super) fn absent_means(number: u16) -> Vec<(String, Call)> {
 }
 
 /// Each mean at its ends and at plus and minus one, nodes being zero, and all nodes so, so that the factors show.
-fn mean_factors(number: u16) -> Vec<Case> {
+fn mean_factors(number: u16) -> Vec<Vector> {
     let grid = Grid::of(number, [0, 500], [10, 10], [0, 0, 0], |_, _| 0);
     let mut cases = Vec::new();
     for component in 0..3 {
@@ -308,7 +320,7 @@ fn without_repeats(calls: Vec<(String, Call)>) -> Vec<(String, Call)> {
 }
 
 /// The cases of a message's refusals 9 to 15, alone and in pairs.
-pub(super) fn refusal_cases(name: &str, good: &Call) -> Vec<Case> {
+pub(super) fn refusal_cases(name: &str, good: &Call) -> Vec<Vector> {
     on_messages(refusals(name, good))
 }
 
@@ -345,7 +357,7 @@ fn single_fields(number: u16, good: &Call) -> Vec<(String, Call)> {
 }
 
 /// Positions at the limits and at the ends of 64 bits, and grids that reach a limit.
-fn limits(number: u16) -> Vec<Case> {
+fn limits(number: u16) -> Vec<Vector> {
     let bytes = steep(number).bytes();
     let [far_north, far_east] = if number == 1023 { [3_240_000_000i64, 6_480_000_000] } else { [1_000_000_000_000; 2] };
     let mut cases = Vec::new();
@@ -368,7 +380,7 @@ fn limits(number: u16) -> Vec<Case> {
 }
 
 /// Grids whose origin is at the end of its range, asked for at the limits and around.
-fn grids_at_limits(number: u16, far_north: i64, far_east: i64) -> Vec<Case> {
+fn grids_at_limits(number: u16, far_north: i64, far_east: i64) -> Vec<Vector> {
     let origins: [[i64; 2]; 4] = if number == 1023 {
         [[648_000, 1_296_000], [-648_000, -1_296_000], [648_000, -1_296_000], [0, 0]]
     } else {
@@ -399,7 +411,7 @@ fn grids_at_limits(number: u16, far_north: i64, far_east: i64) -> Vec<Case> {
 }
 
 /// The widest spacings with nodes at the ends of their range, where the sums are greatest.
-fn widest(number: u16) -> Vec<Case> {
+fn widest(number: u16) -> Vec<Vector> {
     let mut random = Random::new(12 + number as u64);
     let mut cases = Vec::new();
     for (word, node) in [("max", 255), ("min", -255)] {
@@ -430,7 +442,7 @@ pub fn random_position(random: &mut Random, grid: &Grid) -> [i64; 2] {
 }
 
 /// Random grids, some with nodes not available, at random positions.
-fn random_grids(number: u16) -> Vec<Case> {
+fn random_grids(number: u16) -> Vec<Vector> {
     let mut random = Random::new(13 + number as u64);
     let mut cases = Vec::new();
     for i in 0..70 {
@@ -465,7 +477,7 @@ pub fn random_grid(random: &mut Random, number: u16) -> Grid {
 }
 
 /// Messages of other numbers, refused messages, and both together with bad positions.
-fn other_messages() -> Vec<Case> {
+fn other_messages() -> Vec<Vector> {
     let mut cases = Vec::new();
     for number in [1021, 1022, 1025, 1026, 1027] {
         let bytes = Sample::usual(number).bytes();
@@ -492,7 +504,7 @@ fn other_messages() -> Vec<Case> {
 }
 
 /// The grids of the made-up services, sound and damaged, at sixteen nodes, the middle and random positions.
-fn service_grids() -> Vec<Case> {
+fn service_grids() -> Vec<Vector> {
     let mut random = Random::new(14);
     let mut cases = Vec::new();
     for service in services() {
@@ -519,7 +531,7 @@ fn grid_of(bytes: &[u8]) -> Grid {
 }
 
 /// Sixteen nodes and random positions of one service's grid.
-fn service_positions(letter: &str, grid: &Grid, random: &mut Random) -> Vec<Case> {
+fn service_positions(letter: &str, grid: &Grid, random: &mut Random) -> Vec<Vector> {
     let mut cases = nodes(&format!("service-{letter}"), grid);
     for i in 0..20 {
         let position = random_position(random, grid);

@@ -1,11 +1,9 @@
 //! Cases of the table with two owners: histories of calls, each beginning with a fresh table and a fresh index.
 
-use super::{sums, Case};
-use crate::hex::hex;
-use crate::index::{agrees, find, remove, store, write_index, INDEX_SIZE};
+use super::{Call, OnTable, Vector};
+use crate::index::{remove, store, write_index, INDEX_SIZE};
 use crate::layouts::NUMBERS;
 use crate::random::Random;
-use crate::refusal::number_of;
 use crate::samples::Sample;
 use crate::table::{group_of, other_than, MOST_HELD, OWNERS, SIZE, SLOT, SLOTS, SLOT_HEAD, SLOT_ROOM};
 
@@ -24,7 +22,7 @@ pub struct History {
     /// The index as it stands.
     pub index: Vec<u8>,
     /// The cases so far.
-    pub cases: Vec<Case>,
+    pub cases: Vec<Vector>,
     /// Where its messages come from.
     pub random: Random,
 }
@@ -48,9 +46,9 @@ impl History {
     }
 
     /// Adds a case, numbered in its history.
-    fn add(&mut self, what: &str, call: String, answer: String) {
-        let name = format!("table-{}-{}-{what}", self.name, self.cases.len());
-        self.cases.push(Case { name, call, answer });
+    fn add(&mut self, call: OnTable) {
+        let name = format!("table-{}-{}-{}", self.name, self.cases.len(), call.kind());
+        self.cases.push(Vector { name, call: Call::OnTable(call) });
     }
 
     /// Gives the last case the name that the papers have for it.
@@ -61,50 +59,48 @@ impl History {
     /// Takes a fresh table of zeros and a fresh index.
     pub fn fresh(&mut self, size: usize) {
         self.table = vec![0; size];
-        self.add("fresh", format!("table {size}"), "ok".to_string());
+        self.add(OnTable::Fresh { size });
         self.fresh_index(INDEX_SIZE);
     }
 
     /// Takes a fresh index of zeros.
     pub fn fresh_index(&mut self, size: usize) {
         self.index = vec![0; size];
-        self.add("index", format!("index {size}"), "ok".to_string());
+        self.add(OnTable::FreshIndex { size });
     }
 
     /// Puts a byte into the index.
     pub fn poke_index(&mut self, at: usize, value: u8) {
         self.index[at] = value;
-        self.add("pokeindex", format!("pokeindex {at} {value}"), "ok".to_string());
+        self.add(OnTable::PokeIndex { at, value });
     }
 
     /// Asks whether table and index agree.
     pub fn agrees(&mut self) {
-        let refusal = number_of(&agrees(&self.table, &self.index));
-        self.add("agrees", "agrees".to_string(), refusal.to_string());
+        self.add(OnTable::Agrees);
     }
 
     /// Writes the index anew.
     pub fn rebuild(&mut self) {
-        let refusal = number_of(&write_index(&self.table, &mut self.index));
-        self.add("rebuild", "rebuild".to_string(), refusal.to_string());
+        let _ = write_index(&self.table, &mut self.index);
+        self.add(OnTable::Rebuild);
     }
 
-    /// Sums all bytes of the index.
-    pub fn index_sum(&mut self) {
-        let (a, b) = sums(&self.index);
-        self.add("indexsum", "indexsum".to_string(), format!("{a} {b}"));
+    /// Looks at all bytes of the index.
+    pub fn look_at_index(&mut self) {
+        self.add(OnTable::IndexBytes);
     }
 
     /// Puts a byte into the table.
     pub fn poke(&mut self, at: usize, value: u8) {
         self.table[at] = value;
-        self.add("poke", format!("poke {at} {value}"), "ok".to_string());
+        self.add(OnTable::Poke { at, value });
     }
 
     /// Stores a message.
     pub fn store(&mut self, owner: u8, message: &[u8]) {
-        let refusal = number_of(&store(&mut self.table, &mut self.index, owner, message));
-        self.add("store", format!("store {owner} {}", hex(message)), refusal.to_string());
+        let _ = store(&mut self.table, &mut self.index, owner, message);
+        self.add(OnTable::Store { owner, message: message.to_vec() });
     }
 
     /// Stores a random message of a number and a system identification number.
@@ -129,17 +125,13 @@ impl History {
 
     /// Removes a key.
     pub fn remove(&mut self, owner: u8, sin: u8, group: u8) {
-        let refusal = number_of(&remove(&mut self.table, &mut self.index, owner, sin, group));
-        self.add("remove", format!("remove {owner} {sin} {group}"), refusal.to_string());
+        let _ = remove(&mut self.table, &mut self.index, owner, sin, group);
+        self.add(OnTable::Remove { owner, sin, group });
     }
 
     /// Finds a key.
     pub fn find(&mut self, owner: u8, sin: u8, group: u8) {
-        let found = find(&self.table, &self.index, owner, sin, group);
-        let refusal = number_of(&found);
-        let (at, length, probes) = found.map_or((0, 0, 0), |found| (found.at, found.length, found.probes));
-        let shown = hex(&self.table[at..at + length]);
-        self.add("find", format!("find {owner} {sin} {group}"), format!("{refusal} {at} {length} {probes} {shown}"));
+        self.add(OnTable::Find { owner, sin, group });
     }
 
     /// Finds a key for both owners.
@@ -147,23 +139,22 @@ impl History {
         OWNERS.into_iter().for_each(|owner| self.find(owner, sin, group));
     }
 
-    /// Sums all bytes of the table.
-    pub fn sum(&mut self) {
-        let (a, b) = sums(&self.table);
-        self.add("sum", "sum".to_string(), format!("{a} {b}"));
+    /// Looks at all bytes of the table.
+    pub fn look(&mut self) {
+        self.add(OnTable::Bytes);
     }
 
-    /// Makes every kind of call on a table that should be refused, and sums it.
+    /// Makes every kind of call on a table that should be refused, and looks at it.
     pub fn all_calls(&mut self, owner: u8, sin: u8, group: u8) {
         self.find(owner, sin, group);
         self.store_any(owner, 1025, sin);
         self.remove(owner, sin, group);
-        self.sum();
+        self.look();
     }
 }
 
 /// All cases of the table.
-pub fn cases() -> Vec<Case> {
+pub fn cases() -> Vec<Vector> {
     let histories = [
         filling("fill", 1),
         filling("fill-2", 2),
@@ -200,10 +191,10 @@ pub fn cases() -> Vec<Case> {
 fn filling(name: &str, owner: u8) -> History {
     let other = other_than(owner);
     let mut history = History::new(name, SIZE);
-    history.sum();
+    history.look();
     for sin in 0..SINS_OF_ONE {
         history.store_any(owner, 1025, sin);
-        history.sum();
+        history.look();
     }
     history.store_any(owner, 1025, SINS_OF_ONE);
     if owner == 1 {
@@ -211,15 +202,15 @@ fn filling(name: &str, owner: u8) -> History {
     }
     history.store_any(owner, 1021, 0);
     history.store_any(owner, 1023, SINS_OF_ONE - 1);
-    history.sum();
+    history.look();
     for sin in 0..SINS_OF_OTHER {
         history.store_any(other, 1025, sin);
-        history.sum();
+        history.look();
     }
     history.store_any(other, 1025, SINS_OF_OTHER);
     history.store_any(other, 1024, 0);
     history.store_any(owner, 1025, SINS_OF_ONE);
-    history.sum();
+    history.look();
     (0..=SINS_OF_ONE).for_each(|sin| history.find_for_both(sin, 2));
     history
 }
@@ -231,14 +222,14 @@ fn no_free_slot() -> History {
         history.fresh(SIZE);
         history.fill(1, first);
         history.fill(2, SLOTS as u8 - first);
-        history.sum();
+        history.look();
         for owner in OWNERS {
             history.store_any(owner, 1025, 99);
             history.store_any(owner, 1021, 0);
             history.store_any(owner, 1027, 5);
             history.find_for_both(5, 2);
         }
-        history.sum();
+        history.look();
         history.remove(1, 3, 2);
         history.store_any(2, 1026, 99);
         history.find_for_both(99, 2);
@@ -246,7 +237,7 @@ fn no_free_slot() -> History {
         history.remove(2, 4, 2);
         history.store_any(1, 1026, 99);
         history.find_for_both(99, 2);
-        history.sum();
+        history.look();
     }
     history
 }
@@ -254,17 +245,17 @@ fn no_free_slot() -> History {
 /// Replaces the message in every slot of a full table by one of another length.
 fn replacing() -> History {
     let mut history = History::full("replace", 2);
-    history.sum();
+    history.look();
     for slot in 0..SLOTS as u8 {
         let (owner, sin) = if slot < SINS_OF_ONE { (2, slot) } else { (1, slot - SINS_OF_ONE) };
         let number = if sin % 2 == 0 { 1026 } else { 1027 };
         history.store_any(owner, number, sin);
         history.find_for_both(sin, 2);
-        history.sum();
+        history.look();
     }
     history.store_any(1, 1026, 201);
     history.store_any(2, 1026, 201);
-    history.sum();
+    history.look();
     history
 }
 
@@ -275,12 +266,12 @@ fn freeing() -> History {
         history.remove(owner, sin, 2);
         history.find_for_both(sin, 2);
         history.remove(owner, sin, 2);
-        history.sum();
+        history.look();
     }
     for (owner, sin) in [(2, 100), (1, 101), (1, 102), (2, 103), (1, 104), (2, 105), (1, 106)] {
         history.store_any(owner, 1026, sin);
         history.find_for_both(sin, 2);
-        history.sum();
+        history.look();
     }
     for sin in 1..17 {
         history.remove(1, sin, 2);
@@ -289,7 +280,7 @@ fn freeing() -> History {
     history.find_for_both(1, 1);
     history.store_any(1, 1025, 17);
     history.find_for_both(17, 2);
-    history.sum();
+    history.look();
     history
 }
 
@@ -300,18 +291,18 @@ fn equal_sins() -> History {
         for number in NUMBERS {
             history.store_any(owner, number, sin);
             (0..3).for_each(|group| history.find_for_both(sin, group));
-            history.sum();
+            history.look();
         }
         for number in NUMBERS.into_iter().rev() {
             history.store_any(owner, number, sin);
             history.find(owner, sin, group_of(number));
         }
-        history.sum();
+        history.look();
     }
     history.remove(1, 0, 1);
     (0..3).for_each(|group| history.find_for_both(0, group));
     history.find_for_both(255, 1);
-    history.sum();
+    history.look();
     history
 }
 
@@ -324,18 +315,18 @@ fn both_owners() -> History {
         history.store_any(owner, number, 7);
         history.find_for_both(7, group);
         history.remove(other, 7, group);
-        history.sum();
+        history.look();
         history.store_any(other, number, 7);
         history.find_for_both(7, group);
-        history.sum();
+        history.look();
         history.store_any(owner, number, 7);
         history.find_for_both(7, group);
         history.remove(other, 7, group);
         history.find_for_both(7, group);
-        history.sum();
+        history.look();
         history.remove(owner, 7, group);
         history.find_for_both(7, group);
-        history.sum();
+        history.look();
     }
     history
 }
@@ -369,7 +360,7 @@ fn no_owner_calls(mut history: History) -> History {
             history.find(owner, sin, group);
             history.remove(owner, sin, group);
         }
-        history.sum();
+        history.look();
     }
     history
 }
@@ -392,7 +383,7 @@ fn groups() -> History {
             history.find_for_both(sin, 2);
             history.remove(owner, sin, 2);
         }
-        history.sum();
+        history.look();
         history.find_for_both(7, 2);
     }
     history
@@ -406,7 +397,7 @@ fn refused_messages() -> History {
         for owner in OWNERS {
             refused.iter().for_each(|message| history.store(owner, message));
         }
-        history.sum();
+        history.look();
     };
     store_all(&mut history);
     history.store_any(1, 1025, 5);
@@ -418,7 +409,7 @@ fn refused_messages() -> History {
     history.fill(2, SINS_OF_OTHER);
     store_all(&mut history);
     history.store_any(2, 1025, 99);
-    history.sum();
+    history.look();
     history
 }
 
@@ -490,7 +481,7 @@ fn wrong_owner_bytes() -> History {
         damage(&mut history, 3 * SLOT, owner);
         damage(&mut history, 31 * SLOT, owner);
     }
-    history.sum();
+    history.look();
     for owner in [1, 2] {
         history.poke(SLOT, owner);
         history.find_for_both(2, 2);
@@ -499,8 +490,8 @@ fn wrong_owner_bytes() -> History {
         history.find_for_both(2, 2);
         history.store_any(1, 1026, 2);
         history.find_for_both(2, 2);
-        history.sum();
-        history.index_sum();
+        history.look();
+        history.look_at_index();
     }
     history
 }
@@ -516,7 +507,7 @@ fn wrong_lengths() -> History {
         damage(&mut history, 31 * SLOT + 1, length);
     }
     history.find_for_both(2, 2);
-    history.sum();
+    history.look();
     history
 }
 
@@ -544,7 +535,7 @@ fn last_zeros() -> History {
     let mut history = three_messages("zeros");
     history.store(2, &longest(1022, 4));
     history.find(2, 4, 0);
-    history.sum();
+    history.look();
     for slot in [0, 1, 3, 4, 31] {
         for zero in 0..3 {
             let at = slot * SLOT + SLOT_HEAD + SLOT_ROOM + zero;
@@ -552,7 +543,7 @@ fn last_zeros() -> History {
         }
     }
     history.find(2, 4, 0);
-    history.sum();
+    history.look();
     history
 }
 
@@ -591,7 +582,7 @@ fn same_key_twice() -> History {
         history.all_calls(owner, 77, group);
         history.rebuild();
         history.all_calls(owner, 77, group);
-        history.index_sum();
+        history.look_at_index();
     }
     history
 }
@@ -610,7 +601,7 @@ fn crowded() -> History {
             history.all_calls(0, 3, 2);
             history.poke(slot * SLOT, other);
         }
-        history.sum();
+        history.look();
         (20..SLOTS).for_each(|slot| history.poke(slot * SLOT, owner));
         history.all_calls(owner, 3, 2);
         (12..SLOTS).for_each(|slot| history.poke(slot * SLOT, other));
@@ -620,7 +611,7 @@ fn crowded() -> History {
         history.store_any(other, 1025, 200);
         history.store_any(other, 1025, 201);
         history.store_any(owner, 1025, 201);
-        history.sum();
+        history.look();
         history.fresh(SIZE);
         history.fill(owner, SINS_OF_ONE);
         poke_slot(&mut history, 25, owner, &Sample::zeros(1025).with(147, 99).bytes());
@@ -673,15 +664,15 @@ fn held_from_start() -> History {
     }
     history.store_any(1, 1026, 5);
     history.find_for_both(5, 2);
-    history.sum();
+    history.look();
     history.remove(1, 5, 0);
     history.remove(2, 5, 0);
     history.remove(2, 5, 2);
     history.remove(1, 5, 2);
-    history.sum();
+    history.look();
     history.store_any(2, 1025, 5);
     history.find_for_both(5, 2);
-    history.sum();
+    history.look();
     history
 }
 
@@ -697,7 +688,7 @@ fn longest_messages() -> History {
     for (owner, number, sin) in [(1, 1022, 0), (2, 1021, 1), (2, 1022, 0)] {
         history.store(owner, &longest(number, sin));
         history.find_for_both(sin as u8, 0);
-        history.sum();
+        history.look();
     }
     for length in [126, 128, 130] {
         history.poke(1, length);
@@ -707,7 +698,7 @@ fn longest_messages() -> History {
     for (owner, sin) in [(2, 0), (1, 0), (2, 1)] {
         history.store(owner, &Sample::zeros(1021).with(147, sin).bytes());
         history.find_for_both(sin as u8, 0);
-        history.sum();
+        history.look();
     }
     history
 }
@@ -726,7 +717,7 @@ fn behind_the_other(name: &str, keys: u8, others: u8) -> History {
     history.find(1, keys - 1, 2);
     history.store(1, &Sample::usual(1026).with(147, 50).bytes());
     history.find(1, 50, 2);
-    history.sum();
+    history.look();
     history
 }
 
@@ -755,10 +746,10 @@ fn random_calls(name: &str, sins: u64, calls: usize) -> History {
             _ => history.find(owner, sin, group),
         }
         if call % 3 == 2 {
-            history.sum();
+            history.look();
         }
         if call % 9 == 8 {
-            history.index_sum();
+            history.look_at_index();
         }
     }
     history.agrees();

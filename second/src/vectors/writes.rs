@@ -1,15 +1,15 @@
 //! Cases of writing a row: sound rows, rooms, values outside their field, and buffers that are no row of a message.
 
 use super::reads::{label, plain_places};
-use super::{buffer_after, row_words, Case};
+use super::{Call, Vector};
 use crate::fields::by_df;
 use crate::layouts::NUMBERS;
-use crate::message::{write_row, Row};
+use crate::message::Row;
 use crate::random::Random;
 use crate::samples::{end_by_turns, not_taken, taken, Sample};
 
 /// All cases of writing.
-pub fn cases() -> Vec<Case> {
+pub fn cases() -> Vec<Vector> {
     let mut cases = Vec::new();
     cases.extend(no_message());
     for number in NUMBERS {
@@ -30,8 +30,8 @@ pub fn cases() -> Vec<Case> {
 }
 
 /// A case of writing a row into a buffer.
-fn case(name: String, row: &Row, room: usize) -> Case {
-    Case { name, call: format!("write {room} {}", row_words(row)), answer: buffer_after(write_row(row, room), room) }
+fn case(name: String, row: &Row, room: usize) -> Vector {
+    Vector { name, call: Call::Write { row: row.clone(), room } }
 }
 
 /// A row of values that are all present.
@@ -49,7 +49,7 @@ fn word(number: i64) -> String {
 }
 
 /// Rows that begin no message.
-fn no_message() -> Vec<Case> {
+fn no_message() -> Vec<Vector> {
     let empty = present(&[]);
     let mut cases = vec![case("write-empty".into(), &empty, 0), case("write-empty-room".into(), &empty, 8)];
     for number in [0, 1, -1, -1025, 1020, 1028, 4095, 4096, 4096 + 1025, 65536 + 1025, i64::MIN, i64::MAX] {
@@ -65,7 +65,7 @@ fn no_message() -> Vec<Case> {
 }
 
 /// One row at every kind of room.
-fn rooms(number: u16) -> Vec<Case> {
+fn rooms(number: u16) -> Vec<Vector> {
     let sample = Sample::usual(number);
     let length = sample.bytes().len();
     let rooms = [0, 1, 2, length / 2, length - 2, length - 1, length, length + 1, length + 2, length + 17, 160];
@@ -73,7 +73,7 @@ fn rooms(number: u16) -> Vec<Case> {
 }
 
 /// Every field at readings it can have, at exact room, and by turns one byte short or with room to spare.
-fn taken_readings(number: u16) -> Vec<Case> {
+fn taken_readings(number: u16) -> Vec<Vector> {
     let usual = Sample::usual(number);
     let length = usual.bytes().len();
     let mut cases = Vec::new();
@@ -95,7 +95,7 @@ fn taken_readings(number: u16) -> Vec<Case> {
 }
 
 /// Every field at values outside its range or its width, which would fit if cut to the width, and at its pattern.
-fn refused_values(number: u16) -> Vec<Case> {
+fn refused_values(number: u16) -> Vec<Vector> {
     let usual = Sample::usual(number);
     let length = usual.bytes().len();
     let mut cases = Vec::new();
@@ -109,7 +109,7 @@ fn refused_values(number: u16) -> Vec<Case> {
 }
 
 /// Rows of one field fewer, one more, the first field alone, and without it.
-fn wrong_counts(number: u16) -> Vec<Case> {
+fn wrong_counts(number: u16) -> Vec<Vector> {
     let values = Sample::usual(number).row().values;
     let more = [&values[..], &[0]].concat();
     let counted = |word: &str, values: &[i64]| case(format!("write-{number}-{word}"), &present(values), 160);
@@ -126,7 +126,7 @@ fn wrong_counts(number: u16) -> Vec<Case> {
 }
 
 /// Buffers of different counts, of which one has the message's count of fields or both have another.
-fn different_counts(number: u16) -> Vec<Case> {
+fn different_counts(number: u16) -> Vec<Vector> {
     let values = Sample::usual(number).row().values;
     let count = values.len();
     let mut cases = Vec::new();
@@ -148,7 +148,7 @@ fn different_counts(number: u16) -> Vec<Case> {
 
 /// Every place with two numbers that it cannot have: a none with a value, a none in an unsigned field, a presence byte
 /// other than 0 and 1.
-fn no_places(number: u16) -> Vec<Case> {
+fn no_places(number: u16) -> Vec<Vector> {
     let usual = Sample::usual(number);
     let length = usual.bytes().len();
     let mut random = Random::new(9_000 + number as u64);
@@ -176,7 +176,7 @@ fn no_places(number: u16) -> Vec<Case> {
 }
 
 /// The ends of 64-bit numbers at every place, by turns.
-fn extremes(number: u16) -> Vec<Case> {
+fn extremes(number: u16) -> Vec<Vector> {
     let usual = Sample::usual(number);
     let mut cases = Vec::new();
     for place in 1..usual.readings.len() {
@@ -187,7 +187,7 @@ fn extremes(number: u16) -> Vec<Case> {
 }
 
 /// Random sound rows at exact room and at any room, and all that can be none being none.
-fn random_rows(number: u16) -> Vec<Case> {
+fn random_rows(number: u16) -> Vec<Vector> {
     let mut random = Random::new(7_000 + number as u64);
     let mut cases = Vec::new();
     for i in 0..12 {
@@ -202,7 +202,7 @@ fn random_rows(number: u16) -> Vec<Case> {
 }
 
 /// Rows that are out of range and too long for the room.
-fn range_before_room(number: u16) -> Vec<Case> {
+fn range_before_room(number: u16) -> Vec<Vector> {
     let usual = Sample::usual(number);
     let length = usual.bytes().len();
     let bad = usual.with(147, 256).row();
@@ -219,7 +219,7 @@ fn range_before_room(number: u16) -> Vec<Case> {
 }
 
 /// Names of several lengths, characters outside a byte, and counters that do not match.
-fn names(number: u16) -> Vec<Case> {
+fn names(number: u16) -> Vec<Vector> {
     let mut random = Random::new(8_000 + number as u64);
     let mut cases = Vec::new();
     for source in [0, 1, 30, 31] {
@@ -240,7 +240,7 @@ fn names(number: u16) -> Vec<Case> {
 }
 
 /// The first and the last character of both names at and beyond the ends of a byte.
-fn characters(number: u16) -> Vec<Case> {
+fn characters(number: u16) -> Vec<Vector> {
     let sample = Sample::new(number, [b"ab", b"cd"], |_| 0);
     let length = sample.bytes().len();
     let mut cases = Vec::new();
@@ -254,7 +254,7 @@ fn characters(number: u16) -> Vec<Case> {
 }
 
 /// Counters from minus one to 33 and at the ends of 64 bits, in rows whose characters stay the same.
-fn counters(number: u16) -> Vec<Case> {
+fn counters(number: u16) -> Vec<Vector> {
     let sample = Sample::new(number, [b"abc", b"defg"], |_| 0);
     let mut cases = Vec::new();
     for (df, which) in [(143, "source"), (145, "target")] {

@@ -1,10 +1,10 @@
--- `capi::tarnoklej_shift_row` meets its contract, which is that of `rows::shift_row`.
+-- `capi::tarnoklej_shift_row` meets its contract, which is that of `grid_rows::shift_row`.
 -- Assumes nothing.
 use mathlib.Core.Path.{_≡_, _∙_}
 use borrow.Author.Needs.{needs}
 use lib.ListN.{length}
 use Rattle.arith.proofs.Machine.{is-back}
-use Rattle.shift_row_refusals.specs.Row.{shiftRowRefusal, shiftRowFilled}
+use Rattle.grid_row_refusals.specs.ShiftRow.{shiftRowRefusal, shiftRowFilled}
 use Rattle.capi.proofs.tarnoklej_shift_row.Statement.{statement}
 use Rattle.capi.proofs.tarnoklej_shift_row.Tie as tie
 

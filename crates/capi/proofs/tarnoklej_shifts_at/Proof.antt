@@ -1,25 +1,25 @@
--- `capi::tarnoklej_shifts_at` meets its contract: floats, counts and refusals of `grid::shifts_at`.
+-- `capi::tarnoklej_shifts_at` meets its contract: floats, counts, refusals and units of `grid_shifts::shifts_at`.
 -- Assumes nothing.
 use mathlib.Core.Path.{_≡_, ap, _∙_}
 use borrow.Author.Needs.{needs}
 use Rattle.arith.proofs.Back.{held}
 use Rattle.arith.proofs.Machine.{is-back}
-use Rattle.grid.specs.Shift.{messageShifts}
-use Rattle.grid.specs.declared.ThreeShifts.{ThreeShifts}
+use Rattle.grid_shifts.specs.Shift.{messageShifts}
+use Rattle.grid_shifts.specs.declared.ThreeShifts.{ThreeShifts}
 use Rattle.capi.specs.Exported.{exported, exportedShifts}
 use Rattle.capi.proofs.tarnoklej_shifts_at.Statement.{statement}
 use Rattle.capi.proofs.tarnoklej_shifts_at.Tie as tie
 
 module _ (c : tie.After-struct-told3) where
   abbrev s : tie.Start
-  s = c .before .before .before .before .before .before .before .before .before
+  s = c .before .before .before .before .before .before .before .before .before .before .before .before
 
   abbrev r : ThreeShifts
-  r = c .before .before .before .before .before .before .before .shifts-at .result
+  r = c .before .before .before .before .before .before .before .before .before .before .shifts-at .result
 
   answer : r ≡ messageShifts (s .args .s .now) (s .args .north) (s .args .east)
   answer =
-      c .before .before .before .before .before .before .before .shifts-at .ensures
+      c .before .before .before .before .before .before .before .before .before .before .shifts-at .ensures
       ∙ (λ i. messageShifts (s .args .s .now) (is-back (s .fits .north) i) (is-back (s .fits .east) i))
 
 returns : tie.Need-returns
@@ -35,8 +35,11 @@ returns c =
       «north_refusal» = r c .parts .north .refusal;
       «east_refusal» = r c .parts .east .refusal;
       «height_refusal» = r c .parts .height .refusal;
+      «north_unit» = c .before .before .before .before .before .unit-of .ensures i;
+      «east_unit» = c .before .before .before .before .unit-of2 .ensures i;
+      «height_unit» = c .before .before .before .unit-of3 .ensures i;
     })
     ∙ ap exported (answer c)
 
 pub tarnoklej-shifts-at-spec : {M : Type 1} → statement M
-tarnoklej-shifts-at-spec = tie.close (tie.spec (λ c κs. search needs) returns)
+tarnoklej-shifts-at-spec = tie.close (tie.spec (λ c κs. search needs) (λ c κs. search needs) (λ c κs. search needs) (λ c κs. search needs) returns)

@@ -14,23 +14,23 @@ use Rattle.arith.proofs.Back.{held}
 use Rattle.arith.proofs.Machine.{is-back}
 use Rattle.field.specs.declared.Reading.{Reading}
 use Rattle.field.specs.declared.Reading.the-variants.{Value}
-use Rattle.layout.specs.Layout.{valueIn}
-use Rattle.transformation_records.specs.declared.Parameters.{Parameters}
-use Rattle.seven_parameters.specs.declared.Values.{Values}
-use Rattle.seven_parameters.specs.Formula.{formulaTests, Answered}
-use Rattle.seven_parameters.proofs.Refusals.{refuses, numbered}
-use Rattle.datum.specs.Step.{lacks, valuesIn}
+use Rattle.layout.specs.Layout.{valueIn, isAbsent}
+use Rattle.record_transformations.specs.declared.Parameters.{Parameters}
+use Rattle.datum_formula.specs.declared.Values.{Values}
+use Rattle.datum_formula.specs.Formula.{formulaTests, Answered}
+use Rattle.datum_formula.proofs.Refusals.{refuses, numbered}
+use Rattle.datum.specs.Step.{valuesIn}
 use Rattle.datum.proofs.by_values.Statement.{statement}
 use Rattle.datum.proofs.by_values.Tie as tie
 
 -- ---- what is known behind each parameter: it has a value, and a local holds it
 
 record Has (r : Reading) (z : ℤ) : Type 0 where
-  value : lacks r ≡ false
+  value : isAbsent r ≡ false
   is : toZ w64 (ofZ w64 z) ≡ valueIn r
 
 has : {r : Reading} {z : ℤ} → r ≡ Value z → mag z < 2 ^ 63 → Has r z
-has {z = z} e f = record { value = ap lacks e; is = held z f ∙ sym (ap valueIn e) }
+has {z = z} e f = record { value = ap isAbsent e; is = held z f ∙ sym (ap valueIn e) }
 
 module _ (t : tie.After-known-told) where
   abbrev p1 : Parameters
@@ -102,37 +102,37 @@ module _ (t : tie.After-known-told7) where
 -- ---- ABSENT for each of them
 
 returns : tie.Need-returns
-returns c = refuses (c .refused .ensures) (λ e. omega arith) (rw (ap lacks (c .before .enum-told .given .1)))
+returns c = refuses (c .refused .ensures) (λ e. omega arith) (rw (ap isAbsent (c .before .enum-told .given .1)))
 
 returns-2 : tie.Need-returns-2
 returns-2 c =
     let t = c .before .before .before in
-    refuses (c .refused2 .ensures) (λ e. omega arith) (rw (dx t .value, ap lacks (c .before .enum-told2 .given .1)))
+    refuses (c .refused2 .ensures) (λ e. omega arith) (rw (dx t .value, ap isAbsent (c .before .enum-told2 .given .1)))
 
 returns-3 : tie.Need-returns-3
 returns-3 c =
     let t = c .before .before .before in
-    refuses (c .refused3 .ensures) (λ e. omega arith) (rw (dx (k1 t) .value, dy t .value, ap lacks (c .before .enum-told3 .given .1)))
+    refuses (c .refused3 .ensures) (λ e. omega arith) (rw (dx (k1 t) .value, dy t .value, ap isAbsent (c .before .enum-told3 .given .1)))
 
 returns-4 : tie.Need-returns-4
 returns-4 c =
     let t = c .before .before .before in
-    refuses (c .refused4 .ensures) (λ e. omega arith) (rw (dx (k1 (k2 t)) .value, dy (k2 t) .value, dz t .value, ap lacks (c .before .enum-told4 .given .1)))
+    refuses (c .refused4 .ensures) (λ e. omega arith) (rw (dx (k1 (k2 t)) .value, dy (k2 t) .value, dz t .value, ap isAbsent (c .before .enum-told4 .given .1)))
 
 returns-5 : tie.Need-returns-5
 returns-5 c =
     let t = c .before .before .before in
-    refuses (c .refused5 .ensures) (λ e. omega arith) (rw (dx (k1 (k2 (k3 t))) .value, dy (k2 (k3 t)) .value, dz (k3 t) .value, rx t .value, ap lacks (c .before .enum-told5 .given .1)))
+    refuses (c .refused5 .ensures) (λ e. omega arith) (rw (dx (k1 (k2 (k3 t))) .value, dy (k2 (k3 t)) .value, dz (k3 t) .value, rx t .value, ap isAbsent (c .before .enum-told5 .given .1)))
 
 returns-6 : tie.Need-returns-6
 returns-6 c =
     let t = c .before .before .before in
-    refuses (c .refused6 .ensures) (λ e. omega arith) (rw (dx (k1 (k2 (k3 (k4 t)))) .value, dy (k2 (k3 (k4 t))) .value, dz (k3 (k4 t)) .value, rx (k4 t) .value, ry t .value, ap lacks (c .before .enum-told6 .given .1)))
+    refuses (c .refused6 .ensures) (λ e. omega arith) (rw (dx (k1 (k2 (k3 (k4 t)))) .value, dy (k2 (k3 (k4 t))) .value, dz (k3 (k4 t)) .value, rx (k4 t) .value, ry t .value, ap isAbsent (c .before .enum-told6 .given .1)))
 
 returns-7 : tie.Need-returns-7
 returns-7 c =
     let t = c .before .before .before in
-    refuses (c .refused7 .ensures) (λ e. omega arith) (rw (dx (k1 (k2 (k3 (k4 (k5 t))))) .value, dy (k2 (k3 (k4 (k5 t)))) .value, dz (k3 (k4 (k5 t))) .value, rx (k4 (k5 t)) .value, ry (k5 t) .value, rz t .value, ap lacks (c .before .enum-told7 .given .1)))
+    refuses (c .refused7 .ensures) (λ e. omega arith) (rw (dx (k1 (k2 (k3 (k4 (k5 t))))) .value, dy (k2 (k3 (k4 (k5 t)))) .value, dz (k3 (k4 (k5 t))) .value, rx (k4 (k5 t)) .value, ry (k5 t) .value, rz t .value, ap isAbsent (c .before .enum-told7 .given .1)))
 
 -- ---- the formula
 

@@ -8,10 +8,10 @@ use mir.Syntax.{w64}
 use mir.Val.{ofZ, toZ}
 use Rattle.arith.proofs.Back.{held}
 use Rattle.arith.proofs.Machine.{is-back}
-use Rattle.message.specs.declared.HelmertRead.{HelmertRead}
-use Rattle.message.specs.Kinds.{readHelmert}
-use Rattle.seven_parameters.specs.Formula.{Answered}
-use Rattle.seven_parameters.proofs.Refusals.{refuses, numbered, answered-wider}
+use Rattle.message_records.specs.declared.HelmertRead.{HelmertRead}
+use Rattle.message_records.specs.Kinds.{readHelmert}
+use Rattle.datum_formula.specs.Formula.{Answered}
+use Rattle.datum_formula.proofs.Refusals.{refuses, numbered, answered-wider}
 use Rattle.datum.specs.Step.{valuesIn}
 use Rattle.datum.specs.Private.{stepBy}
 use Rattle.datum.proofs.Refusals.{reading-stops, reading-passed}

@@ -8,8 +8,8 @@ use lib.IntN.{pos}
 use Rattle.arith.specs.First.{first}
 use Rattle.arith.proofs.Machine.{is-back}
 use Rattle.arith.proofs.Order.{same-yes, same-no, fits-literal}
-use Rattle.seven_parameters.specs.Formula.{beyondAny, formulaTests, Answered}
-use Rattle.seven_parameters.proofs.Refusals.{refuses, numbered}
+use Rattle.datum_formula.specs.Formula.{beyondAny, formulaTests, Answered}
+use Rattle.datum_formula.proofs.Refusals.{refuses, numbered}
 use Rattle.datum.specs.Step.{absent, valuesIn}
 use Rattle.datum.proofs.step_by.Statement.{statement}
 use Rattle.datum.proofs.step_by.Tie as tie

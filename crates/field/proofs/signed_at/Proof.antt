@@ -2,7 +2,8 @@
 -- Assumes nothing.
 use mathlib.Core.Path.{sym, ap, _∙_}
 use native.Mathlib.Omega.{arith}
-use Rattle.field.specs.Field.{signedAt, signedOf}
+use Rattle.field.specs.Inner.{signedAt}
+use Rattle.field.specs.Field.{signedOf}
 use Rattle.field.proofs.Place.{wide-says, fieldAt-lt}
 use borrow.Author.Needs.{needs}
 use Rattle.field.proofs.signed_at.Statement.{statement}

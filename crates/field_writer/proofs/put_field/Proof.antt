@@ -4,7 +4,7 @@ use mathlib.Core.Path.{sym, _∙_}
 use native.Mathlib.Omega.{arith}
 use borrow.Author.Tests.{lt-ltb, le-ltb}
 use Prim.Native.Nat.{_^_}
-use Rattle.field.specs.Field.{putField}
+use Rattle.field.specs.Inner.{putField}
 use Rattle.field.proofs.Place.{contained}
 use borrow.Author.Needs.{needs}
 use Rattle.field_writer.proofs.put_field.Statement.{statement}

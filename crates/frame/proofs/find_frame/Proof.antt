@@ -4,7 +4,8 @@ use Prim.Native.Nat.{_-_}
 use mathlib.Core.Path.{_≡_, refl, sym, ap, _∙_}
 use native.Mathlib.Omega.{arith}
 use lib.ListN.{length}
-use Rattle.frame.specs.Frames.{findFrame, frameAt}
+use Rattle.frame.specs.Frames.{findFrame}
+use Rattle.frame.specs.Private.{frameAt}
 use Rattle.frame.proofs.At.{rest, over, stops, goes-on}
 use Rattle.frame.proofs.find_frame.Statement.{statement}
 use Rattle.frame.proofs.find_frame.Tie as tie

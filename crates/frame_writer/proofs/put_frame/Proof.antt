@@ -3,7 +3,7 @@
 use mathlib.Core.Path.{sym, ap, _∙_}
 use lib.ListN.{length}
 use borrow.Author.Needs.{needs}
-use Rattle.crc.proofs.Linear.{crc-lt}
+use Rattle.frame_crc.proofs.Linear.{crc-lt}
 use Rattle.frame.proofs.Lengths.{length-headed}
 use Rattle.frame_writer.proofs.Put.{taken, crc-place, frame-put}
 use Rattle.frame_writer.proofs.put_frame.Statement.{statement}

@@ -1,4 +1,4 @@
--- `frames::list_frames` is safe and ends. The invariant: the length of the window stays. The measure is the number of turns that are left.
+-- `frames::list_frames` is safe and ends. The invariant: the length of the window stays. The measure is the number of rounds that are left.
 -- Assumes nothing.
 use borrow.Author.Needs.{needs}
 use mathlib.Core.Path.{_≡_}
@@ -7,10 +7,10 @@ use Rattle.frames.proofs.list_frames.Statement.{statement}
 use Rattle.frames.proofs.list_frames.Tie as tie
 
 abbrev Inv-loop : tie.InvT-loop
-Inv-loop window₀ out₀ state₀ turns₀ window out state turns = length window ≡ length window₀
+Inv-loop window₀ out₀ state₀ rounds₀ window out state rounds = length window ≡ length window₀
 
 abbrev μ-loop : tie.MeasureT-loop
-μ-loop window₀ out₀ state₀ turns₀ window out state turns = turns
+μ-loop window₀ out₀ state₀ rounds₀ window out state rounds = rounds
 
 pub list-frames-spec : {M : Type 1} → statement M
 list-frames-spec =

@@ -3,7 +3,7 @@
 use mathlib.Core.Path.{sym, _∙_}
 use Prim.Native.Nat.{_+_, min}
 use borrow.Author.Needs.{needs}
-use Rattle.grid_fields.specs.Fields.{meanSays}
+use Rattle.grid_fields.specs.Inner.{meanSays}
 use Rattle.grid_fields.proofs.Table.{grid-1023, grid-1024}
 use Rattle.grid_fields.proofs.mean_at.Statement.{statement}
 use Rattle.grid_fields.proofs.mean_at.Tie as tie

@@ -1,10 +1,10 @@
 -- `grid_fields::means_1023` meets its contract.
 -- Assumes nothing.
 use borrow.Author.Needs.{needs}
-use Rattle.field.specs.Field.{signedAt}
+use Rattle.field.specs.Inner.{signedAt}
 use Rattle.layout.specs.Layout.{total}
-use Rattle.layouts.specs.Layouts.{layout1023}
-use Rattle.grid_records.specs.Grids.{shiftsAt}
+use Rattle.layout_tables.specs.Layouts.{layout1023}
+use Rattle.record_grids.specs.Grids.{shiftsAt}
 use Rattle.grid_fields.specs.Private.{fieldSays}
 use Rattle.grid_fields.proofs.means_1023.Statement.{statement}
 use Rattle.grid_fields.proofs.means_1023.Tie as tie

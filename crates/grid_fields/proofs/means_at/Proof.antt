@@ -2,7 +2,7 @@
 -- Assumes nothing.
 use mathlib.Core.Path.{sym, _∙_}
 use borrow.Author.Needs.{needs}
-use Rattle.grid_records.specs.Grids.{shiftsAt}
+use Rattle.record_grids.specs.Grids.{shiftsAt}
 use Rattle.grid_fields.proofs.Table.{grid-1023, grid-1024}
 use Rattle.grid_fields.proofs.means_at.Statement.{statement}
 use Rattle.grid_fields.proofs.means_at.Tie as tie

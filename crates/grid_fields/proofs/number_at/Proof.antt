@@ -6,7 +6,7 @@ use Prim.Native.Nat.{ℕ, _<_, _^_}
 use mir.Syntax.{w64}
 use mir.ValLaws.{toZ-pos}
 use lib.IntN.{pos}
-use Rattle.field.specs.Field.{fieldAt}
+use Rattle.field.specs.Inner.{fieldAt}
 use Rattle.field.proofs.Place.{wide, fieldAt-lt}
 use Rattle.field.proofs.Sign.{half-word}
 use borrow.Author.Needs.{needs}

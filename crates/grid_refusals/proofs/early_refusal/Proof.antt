@@ -34,13 +34,13 @@ module _ (k : tie.After-position-refusal) where
       ∷ (13, sameZ (s .args .f .spacing .north) (pos 0) || sameZ (s .args .f .spacing .east) (pos 0))
       ∷ []
 
-  told : k .position-refusal .result ≡ first before
-  told =
+  known : k .position-refusal .result ≡ first before
+  known =
       k .position-refusal .ensures
       ∙ (λ i. first ((8, ltb 2 (s .args .component)) ∷ (9, beyond (number i) (is-back (s .fits .north) i) (is-back (s .fits .east) i)) ∷ []))
 
 returns : tie.Need-returns
-returns c = let k = c .before in stops (before k) (behind k) tt (told k) (c .if1 .taken)
+returns c = let k = c .before in stops (before k) (behind k) tt (known k) (c .if1 .taken)
 
 module _ (c : tie.After-field-refusal) where
   abbrev l : tie.Else1
@@ -65,7 +65,7 @@ module _ (c : tie.After-field-refusal) where
       ∷ []))
 
 returns-2 : tie.Need-returns-2
-returns-2 c = fields c ∙ goes-on (before (k c)) (behind (k c)) tt (sym (told (k c)) ∙ l c .if1 .left)
+returns-2 c = fields c ∙ goes-on (before (k c)) (behind (k c)) tt (sym (known (k c)) ∙ l c .if1 .left)
 
 pub early-refusal-spec : {M : Type 1} → statement M
 early-refusal-spec = tie.close (tie.spec (λ c κs. tt) returns (λ c κs. tt) (λ c κs. tt) (λ c κs. tt) returns-2)

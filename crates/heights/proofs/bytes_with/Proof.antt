@@ -5,8 +5,8 @@ use mathlib.Core.Path.{_≡_, refl}
 use mathlib.Core.List.{_++_}
 use native.Mathlib.Omega.{arith}
 use lib.ListN.{drop}
-use Rattle.arith.specs.Row.{upTo}
-use Rattle.arith.proofs.Rows.{fill-turn, fill-done}
+use Rattle.arith.specs.Lists.{upTo}
+use Rattle.arith.proofs.Lists.{fill-turn, fill-done}
 use Rattle.heights.specs.Heights.{presentWith, heightPresent}
 use Rattle.heights.proofs.bytes_with.Statement.{statement}
 use Rattle.heights.proofs.bytes_with.Tie as tie

@@ -1,8 +1,8 @@
 -- `heights::height_less` meets its contract.
 -- Assumes nothing.
 use Rattle.arith.proofs.Machine.{Num, any, arg, lit, mul, sub-within, fits}
-use Rattle.height_mean.specs.Means.{less}
-use Rattle.height_mean.proofs.Near.{less-most}
+use Rattle.heights_mean.specs.Means.{less}
+use Rattle.heights_mean.proofs.Near.{less-most}
 use Rattle.heights.proofs.height_less.Statement.{statement}
 use Rattle.heights.proofs.height_less.Tie as tie
 

@@ -9,11 +9,11 @@ use borrow.Author.Tests.{le-leb, lt-leb, eq-eqb, ne-eqb}
 use lib.IntN.{ℤ}
 use mir.Syntax.{w64}
 use mir.Val.{toZ, ofZ}
-use Rattle.arith.specs.Row.{at}
+use Rattle.arith.specs.Lists.{at}
 use Rattle.arith.proofs.Back.{held}
 use Rattle.arith.proofs.Machine.{is-back}
 use Rattle.arith.proofs.Tests.{all-at}
-use Rattle.height_mean.specs.Means.{less, near, nearAt, fits}
+use Rattle.heights_mean.specs.Means.{less, near, nearAt, fits}
 use Rattle.heights.specs.Heights.{valueWith}
 use Rattle.heights.proofs.value_with.Statement.{statement}
 use Rattle.heights.proofs.value_with.Tie as tie
@@ -55,22 +55,22 @@ module _ (c : tie.After-height-at) where
   small : i < 16
   small = omega arith
 
-  told : toZ w64 (ofZ w64 (c .height-at .result)) ≡ at (s .args .wanted .now) i
-  told = held (c .height-at .result) (c .height-at .ok) ∙ c .height-at .ensures
+  known : toZ w64 (ofZ w64 (c .height-at .result)) ≡ at (s .args .wanted .now) i
+  known = held (c .height-at .result) (c .height-at .ok) ∙ c .height-at .ensures
 
   near-at : near (s .args .mean) (at (s .args .wanted .now) i) ≡ true
   unfolding fits
   near-at = all-at (nearAt (s .args .wanted .now) (s .args .mean)) 16 (s .pre .1 .1) i small
 
 height-less-requires : tie.Need-height-less-requires
-height-less-requires c κs = rw (is-back (s c .fits .mean), told c) (s c .pre .1 .0, near-at c)
+height-less-requires c κs = rw (is-back (s c .fits .mean), known c) (s c .pre .1 .0, near-at c)
 
 returns-5 : tie.Need-returns-5
 unfolding valueWith
 returns-5 c =
     let h = c .before in
     held (c .height-less .result) (c .height-less .ok) ∙ c .height-less .ensures
-    ∙ (λ x. less (told h x) (is-back (s h .fits .mean) x))
+    ∙ (λ x. less (known h x) (is-back (s h .fits .mean) x))
     ∙ rw (le-leb 10 _ (c .before .before .before .before .before .if1 .left), le-leb _ 58 (c .before .before .before .before .if2 .left), eq-eqb _ 1 (c .before .before .before .if3 .left), ne-eqb _ 10 (c .before .before .if4 .left))
 
 pub value-with-spec : {M : Type 1} → statement M

@@ -8,10 +8,10 @@ use lib.IntN.{ℤ, pos}
 use lib.ListN.{drop}
 use mir.Syntax.{w64}
 use mir.Val.{toZ, ofZ}
-use Rattle.arith.specs.Row.{upTo}
+use Rattle.arith.specs.Lists.{upTo}
 use Rattle.arith.proofs.Back.{held}
 use Rattle.arith.proofs.Machine.{is-back}
-use Rattle.arith.proofs.Rows.{fill-turn, fill-done}
+use Rattle.arith.proofs.Lists.{fill-turn, fill-done}
 use Rattle.heights.specs.Heights.{valueWith, heightValues}
 use Rattle.heights.proofs.values_with.Statement.{statement}
 use Rattle.heights.proofs.values_with.Tie as tie

@@ -12,10 +12,10 @@ use mir.Syntax.{w64}
 use mir.Val.{toZ, ofZ}
 use Rattle.arith.specs.First.{first}
 use Rattle.arith.proofs.Back.{held}
-use Rattle.wire.specs.Message.{kindWriteRefusal}
-use Rattle.height_mean.specs.Means.{smallestMean}
-use Rattle.height_mean.specs.declared.Mean.the-variants.{Found, Missing}
-use Rattle.height_mean.proofs.Choice.{smallest}
+use Rattle.message_rows.specs.Message.{kindWriteRefusal}
+use Rattle.heights_mean.specs.Means.{smallestMean}
+use Rattle.heights_mean.specs.declared.Mean.the-variants.{Is, Missing}
+use Rattle.heights_mean.proofs.Choice.{smallest}
 use Rattle.heights.specs.Heights.{heightValues, heightPresent, recordTests, heightsRefusal, heightsMessage}
 use Rattle.heights.proofs.Calls.{refused, values-out, present-out, wanted-out, record-out, mean-out, written-out, message-is}
 use Rattle.heights.proofs.write_heights.Statement.{statement}
@@ -69,7 +69,7 @@ module _ (k : tie.After-smallest-mean) where
   missing f =
       mean-out (z s) (b s) (w s) (length (out s)) (k .before .before .before .before .before .if1 .left) (k .before .before .before .before .if2 .left) (k .before .before .before .if3 .left) record-passed f
 
-  written : (m : ℤ) → smallestMean (w s) ≡ Found m
+  written : (m : ℤ) → smallestMean (w s) ≡ Is m
       → kindWriteRefusal 1023 1023 true (heightValues (z s) (w s) m) (heightPresent (b s)) (length (out s)) ≡ heightsRefusal (z s) (b s) (w s) (length (out s))
   written m f =
       written-out (z s) (b s) (w s) (length (out s)) (k .before .before .before .before .before .if1 .left) (k .before .before .before .before .if2 .left) (k .before .before .before .if3 .left) record-passed m f
@@ -87,7 +87,7 @@ module _ (c : tie.After-known-told) where
   abbrev mean : ℤ
   mean = c .before .chosen .given .0 .0
 
-  found : smallestMean (w (s k)) ≡ Found mean
+  found : smallestMean (w (s k)) ≡ Is mean
   found = sym (k .smallest-mean .ensures) ∙ c .before .chosen .given .1
 
   mean-back : toZ w64 (ofZ w64 mean) ≡ mean

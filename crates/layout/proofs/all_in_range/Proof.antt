@@ -6,7 +6,7 @@ use mathlib.Core.List.{List}
 use Prim.Native.Nat.{ℕ, _+_, _-_, _*_, _≤_, _<_}
 use native.Mathlib.Omega.{arith}
 use lib.ListN.{length, getD, drop}
-use Rattle.field.specs.Field.{fieldAt}
+use Rattle.field.specs.Inner.{fieldAt}
 use Rattle.layout.specs.Layout.{width, readingOf, takes, allTake, total, decodeAll}
 use Rattle.layout.proofs.Loop.{At, at-starts, at-goes-on, at-fits, total-most, head-taken, none-left}
 use borrow.Author.Needs.{needs}

@@ -3,7 +3,7 @@
 use borrow.Author.Tests.{lt-ltb, le-ltb}
 use lib.ListN.{length}
 use borrow.Author.Needs.{needs}
-use Rattle.layout.specs.Layout.{bitsOf}
+use Rattle.layout.specs.Inner.{bitsOf}
 use Rattle.layout.proofs.bits_of.Statement.{statement}
 use Rattle.layout.proofs.bits_of.Tie as tie
 

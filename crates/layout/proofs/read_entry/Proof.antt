@@ -6,7 +6,7 @@ use borrow.Author.Tests.{eq-eqb, ne-eqb}
 use mir.Syntax.{w64}
 use mir.ValLaws.{toZ-pos}
 use Prim.Native.Nat.{_<_, _^_}
-use Rattle.field.specs.Field.{signedAt}
+use Rattle.field.specs.Inner.{signedAt}
 use Rattle.field.proofs.Sign.{half-word}
 use Rattle.field.proofs.Place.{fieldAt-lt}
 use Rattle.layout.specs.Layout.{width}

@@ -3,7 +3,7 @@
 use mathlib.Core.Path.{sym, _∙_}
 use Rattle.field.proofs.Place.{fieldAt-lt}
 use Rattle.field.proofs.Sign.{bits-z}
-use Rattle.field.specs.Field.{fieldAt}
+use Rattle.field.specs.Inner.{fieldAt}
 use Rattle.layout.specs.Layout.{width}
 use Rattle.layout.proofs.Says.{plain-takes}
 use borrow.Author.Needs.{needs}

@@ -5,10 +5,10 @@ use Rattle.report.proofs.add_points.Statement.{statement}
 use Rattle.report.proofs.add_points.Tie as tie
 
 abbrev Inv-loop : tie.InvT-loop
-Inv-loop chunk₀ line₀ message component state₀ place₀ turns₀ chunk line state place turns = Unit {0}
+Inv-loop window₀ message component state₀ place₀ rounds₀ window state place rounds = Unit {0}
 
 abbrev μ-loop : tie.MeasureT-loop
-μ-loop chunk₀ line₀ message component state₀ place₀ turns₀ chunk line state place turns = turns
+μ-loop window₀ message component state₀ place₀ rounds₀ window state place rounds = rounds
 
 pub add-points-spec : {M : Type 1} → statement M
 add-points-spec =

@@ -6,8 +6,8 @@ use mathlib.Core.List.{List}
 use Prim.Native.Nat.{ℕ}
 use borrow.Author.Needs.{needs}
 use borrow.Author.Tests.{not-true, not-false}
-use Rattle.part.specs.declared.Kept.{Kept}
-use Rattle.part.specs.Part.{keptOf}
+use Rattle.grid_component.specs.declared.Kept.{Kept}
+use Rattle.grid_component.specs.Inner.{keptOf}
 use Rattle.sample_files.specs.File.{messageOf, pointsOf, shape}
 use Rattle.sample_checks.specs.Check.{messageRefusal, firstBad}
 use Rattle.sample_checks.proofs.Checks.{Ends, ends, other-shape, message-refused, claim-fails, claims-hold}

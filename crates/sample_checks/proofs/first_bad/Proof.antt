@@ -5,9 +5,10 @@ use mathlib.Core.Path.{_≡_, refl, sym, ap, _∙_}
 use native.Mathlib.Omega.{arith}
 use borrow.Author.Tests.{not-true, not-false}
 use lib.ListN.{length}
-use Rattle.sample_files.specs.File.{pointsOf, pointAt}
+use Rattle.sample_files.specs.File.{pointsOf}
+use Rattle.sample_files.specs.Inner.{pointAt}
 use Rattle.sample_checks.specs.Check.{right}
-use Rattle.sample_checks.proofs.Checks.{badFrom, turn-bad, turn-right, none-bad}
+use Rattle.sample_checks.proofs.Checks.{badFrom, round-bad, round-right, none-bad}
 use Rattle.sample_checks.proofs.first_bad.Statement.{statement}
 use Rattle.sample_checks.proofs.first_bad.Tie as tie
 
@@ -36,14 +37,14 @@ module _ (c : tie.After-right-point Inv-loop μ-loop) where
 returns : tie.Need-returns Inv-loop μ-loop
 returns c =
     let k = c .before in
-    turn-bad (s k .args .message .now) (s k .args .file .now) (l k .loop .i) (omega (arith, k .before .before .loop-test .taken, l k .loop .inv .0))
+    round-bad (s k .args .message .now) (s k .args .file .now) (l k .loop .i) (omega (arith, k .before .before .loop-test .taken, l k .loop .inv .0))
     (sym (tested k) ∙ not-true _ (c .if1 .taken)) (l k .loop .inv .1 .1)
 
 loop-again : tie.Need-loop-again Inv-loop μ-loop
 loop-again c =
     let k = c .before in
     let v = l k .loop .inv in
-    (v .0, (omega arith, v .1 .1 ∙ turn-right (s k .args .message .now) (s k .args .file .now) (l k .loop .i) (omega (arith, k .before .before .loop-test .taken, v .0)) (sym (tested k) ∙ not-false _ (c .if1 .left))))
+    (v .0, (omega arith, v .1 .1 ∙ round-right (s k .args .message .now) (s k .args .file .now) (l k .loop .i) (omega (arith, k .before .before .loop-test .taken, v .0)) (sym (tested k) ∙ not-false _ (c .if1 .left))))
 
 returns-2 : tie.Need-returns-2 Inv-loop μ-loop
 returns-2 c =

@@ -7,9 +7,10 @@ use borrow.Author.Needs.{needs}
 use borrow.Author.Tests.{eq-eqb, ne-eqb}
 use Rattle.arith.specs.Whole.{sameZ}
 use Rattle.arith.proofs.Back.{held}
-use Rattle.grid.specs.Shift.{messageShift}
-use Rattle.part.specs.Part.{counted, countedBy}
-use Rattle.part.proofs.Counts.{counted-is}
+use Rattle.grid_shifts.specs.Shift.{messageShift}
+use Rattle.grid_component.specs.Component.{counted}
+use Rattle.grid_component.specs.Inner.{countedBy}
+use Rattle.grid_component.proofs.Counts.{counted-is}
 use Rattle.sample_checks.specs.Check.{right}
 use Rattle.sample_checks.proofs.Checks.{same-test}
 use Rattle.sample_checks.proofs.right_point.Statement.{statement}

@@ -5,8 +5,8 @@ use Prim.Native.Nat.{ℕ, _+_}
 use native.Mathlib.Omega.{arith}
 use lib.ListN.{drop}
 use borrow.Author.Needs.{needs}
-use Rattle.byte_numbers.specs.Number.{number}
-use Rattle.byte_numbers.proofs.Number.{number-within}
+use Rattle.sample_numbers.specs.Number.{number}
+use Rattle.sample_numbers.proofs.Number.{number-within}
 use Rattle.sample_files.proofs.Fields.{end-cut, end-whole}
 use Rattle.sample_files.proofs.message_end.Statement.{statement}
 use Rattle.sample_files.proofs.message_end.Tie as tie

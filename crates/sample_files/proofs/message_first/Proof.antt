@@ -6,8 +6,8 @@ use native.Mathlib.Omega.{arith}
 use lib.ListN.{length, drop}
 use borrow.Author.Needs.{needs}
 use borrow.Author.Tests.{le-leb, lt-leb, eq-eqb, ne-eqb}
-use Rattle.byte_numbers.specs.Number.{number}
-use Rattle.byte_numbers.proofs.Number.{number-within}
+use Rattle.sample_numbers.specs.Number.{number}
+use Rattle.sample_numbers.proofs.Number.{number-within}
 use Rattle.sample_files.specs.Private.{messageFirst}
 use Rattle.sample_files.proofs.message_first.Statement.{statement}
 use Rattle.sample_files.proofs.message_first.Tie as tie

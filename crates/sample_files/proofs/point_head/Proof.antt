@@ -3,7 +3,7 @@
 use native.Mathlib.Omega.{arith}
 use borrow.Author.Needs.{needs}
 use borrow.Author.Tests.{eq-eqb, ne-eqb}
-use Rattle.byte_numbers.proofs.Number.{number-within}
+use Rattle.sample_numbers.proofs.Number.{number-within}
 use Rattle.sample_files.specs.Private.{pointHead}
 use Rattle.sample_files.proofs.point_head.Statement.{statement}
 use Rattle.sample_files.proofs.point_head.Tie as tie

@@ -12,8 +12,9 @@ use mir.Syntax.{w64}
 use mir.Val.{toZ, ofZ}
 use borrow.Author.Needs.{needs}
 use Rattle.arith.proofs.Back.{held}
-use Rattle.byte_numbers.specs.Number.{whole, wholeAt}
-use Rattle.byte_numbers.proofs.Number.{whole-within}
+use Rattle.sample_numbers.specs.Number.{whole}
+use Rattle.sample_numbers.specs.Inner.{wholeAt}
+use Rattle.sample_numbers.proofs.Number.{whole-within}
 use Rattle.sample_files.specs.File.{pointOf}
 use Rattle.sample_files.proofs.point_in.Statement.{statement}
 use Rattle.sample_files.proofs.point_in.Tie as tie

@@ -5,7 +5,7 @@ use native.Mathlib.Omega.{arith}
 use Prim.Native.Nat.{_+_}
 use mathlib.Core.List.{[], _++_}
 use lib.ListN.{length}
-use Rattle.byte_numbers.specs.Number.{bytesOf}
+use Rattle.sample_numbers.specs.Number.{bytesOf}
 use Rattle.sample_writer.specs.Write.{samplesFile}
 use Rattle.sample_writer.proofs.Fill.{begins, and-number, and-bytes, and-part, same-size, filled, put-file-is}
 use borrow.Author.Needs.{needs}

@@ -2,13 +2,14 @@
 -- Assumes nothing.
 use mathlib.Core.Path.{_≡_, ap, _∙_}
 use Rattle.arith.proofs.Back.{held}
-use Rattle.cell_counts.specs.declared.Counted.{Counted}
-use Rattle.part.specs.Part.{counted, countedBy}
-use Rattle.part.proofs.Counts.{counted-is}
-use Rattle.grid.specs.Shift.{messageShift}
+use Rattle.grid_counts.specs.declared.Counted.{Counted}
+use Rattle.grid_component.specs.Component.{counted}
+use Rattle.grid_component.specs.Inner.{countedBy}
+use Rattle.grid_component.proofs.Counts.{counted-is}
+use Rattle.grid_shifts.specs.Shift.{messageShift}
 use Rattle.sample_files.specs.File.{pointField}
 use Rattle.sample_writer.specs.Write.{sample}
-use Rattle.sample_refusals.specs.Refusals.{answerAt}
+use Rattle.sample_writer.specs.Refusals.{answerAt}
 use borrow.Author.Needs.{needs}
 use Rattle.sample_writer.proofs.put_sample.Statement.{statement}
 use Rattle.sample_writer.proofs.put_sample.Tie as tie

@@ -10,9 +10,9 @@ use lib.ListN.{length, getD, take}
 use Rattle.arith.proofs.Back.{held}
 use Rattle.sample_files.specs.File.{pointSize, pointField, pointFields}
 use Rattle.sample_writer.specs.Write.{sample}
-use Rattle.sample_refusals.specs.Refusals.{askedOf}
-use Rattle.sample_refusals.proofs.Points.{from, point}
-use Rattle.sample_writer.proofs.Points.{size-put, turn-fields, end-fields}
+use Rattle.sample_writer.specs.Refusals.{askedOf}
+use Rattle.sample_writer.proofs.Asked.{from, point}
+use Rattle.sample_writer.proofs.Points.{size-put, round-fields, end-fields}
 use Rattle.sample_writer.proofs.put_samples.Statement.{statement}
 use Rattle.sample_writer.proofs.put_samples.Tie as tie
 
@@ -65,7 +65,7 @@ loop-again c =
             size-put (l k .loop .out) (k .put-sample .last .0) (l k .loop .i) (k .put-sample .kept .0) ∙ v .1 .1 .0,
             (
               v .1 .1 .1 .0,
-              turn-fields _ _ _ _ (k .before .before .before .before .before .loop-test .taken) (v .0) (v .1 .0) _ (l k .loop .out) (k .put-sample .last .0) (put k) (omega arith) ∙ v .1 .1 .1 .1,
+              round-fields _ _ _ _ (k .before .before .before .before .before .loop-test .taken) (v .0) (v .1 .0) _ (l k .loop .out) (k .put-sample .last .0) (put k) (omega arith) ∙ v .1 .1 .1 .1,
             ),
           ),
         ),

@@ -9,8 +9,8 @@ use lib.ListN.{length, take, drop}
 use lib.Seq.{length-take-le}
 use Rattle.layout.proofs.Answer.{done-write}
 use Rattle.sample_files.specs.File.{pointSize}
-use Rattle.sample_refusals.specs.Refusals.{pointsRefusal}
-use Rattle.sample_refusals.proofs.Points.{Passed, passed}
+use Rattle.sample_writer.specs.Refusals.{pointsRefusal}
+use Rattle.sample_writer.proofs.Asked.{Passed, passed}
 use Rattle.sample_writer.proofs.Writes.{refused-is, by-points, by-room, by-none, length-written}
 use Rattle.sample_writer.proofs.write_samples.Statement.{statement}
 use Rattle.sample_writer.proofs.write_samples.Tie as tie

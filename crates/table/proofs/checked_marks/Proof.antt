@@ -2,7 +2,7 @@
 -- Assumes nothing.
 use mathlib.Core.Path.{sym, ap, _∙_}
 use borrow.Author.Needs.{needs}
-use Rattle.table.specs.Checked.{checkedMarks}
+use Rattle.table.specs.Inner.{checkedMarks}
 use Rattle.table.proofs.checked_marks.Statement.{statement}
 use Rattle.table.proofs.checked_marks.Tie as tie
 

@@ -9,7 +9,7 @@ use mathlib.Core.Path.{_≡_, ap, _∙_}
 use lib.Dec.{eqb}
 use lib.ListN.{getD}
 use borrow.Author.Tests.{eq-eqb, ne-eqb}
-use Rattle.slots.specs.Slots.{slotSize, ownerAt}
+use Rattle.table_slots.specs.Slots.{slotSize, ownerAt}
 use Rattle.table.specs.Table.{owns}
 use Rattle.table.proofs.Calls.{slot-read}
 use borrow.Author.Needs.{needs}

@@ -5,10 +5,10 @@ use native.Mathlib.Omega.{arith}
 use mathlib.Core.Path.{_≡_, refl, sym, _∙_}
 use mathlib.Core.List.{_++_}
 use lib.ListN.{length, getD, drop, length-set}
-use Rattle.arith.specs.Row.{upTo}
-use Rattle.arith.proofs.Rows.{fill-turn, fill-done}
-use Rattle.slots.specs.Slots.{slotSize, slotOf}
-use Rattle.slots.proofs.Slot.{slot-bytes}
+use Rattle.arith.specs.Lists.{upTo}
+use Rattle.arith.proofs.Lists.{fill-turn, fill-done}
+use Rattle.table_slots.specs.Slots.{slotSize, slotOf}
+use Rattle.table_slots.proofs.Slot.{slot-bytes}
 use Rattle.table.proofs.fill.Statement.{statement}
 use Rattle.table.proofs.fill.Tie as tie
 

@@ -7,9 +7,9 @@ use mathlib.Core.Bool.{true}
 use mathlib.Core.List.{List}
 use lib.ListN.{getD}
 use borrow.Author.Tests.{not-true, not-false}
-use Rattle.slots.specs.Slots.{slots, slotSize, isOwner, key, joined}
+use Rattle.table_slots.specs.Slots.{slots, slotSize, isOwner, key, joined}
 use Rattle.table.specs.Table.{wellFormed, keyPlace}
-use Rattle.marks.specs.Places.{markPlace}
+use Rattle.table_slots.specs.Inner.{markPlace}
 use Rattle.table.proofs.Whole.{formed}
 use Rattle.table.proofs.Marks.{row-place}
 use Rattle.table.proofs.Calls.{find-table, find-owner, find-none, find-done, found-is, keyPlace-in, keyPlace-out, slot-read}

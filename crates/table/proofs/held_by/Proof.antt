@@ -3,7 +3,7 @@
 use Prim.Native.Nat.{_+_, _-_, _≤_}
 use native.Mathlib.Omega.{arith}
 use mathlib.Core.Path.{_≡_, refl, sym, ap, _∙_}
-use Rattle.slots.specs.Slots.{slots}
+use Rattle.table_slots.specs.Slots.{slots}
 use Rattle.table.specs.Table.{countOf, owns, holding}
 use Rattle.table.proofs.Count.{count-turn, count-le}
 use Rattle.table.proofs.held_by.Statement.{statement}

@@ -4,7 +4,7 @@ use Prim.Native.Nat.{ℕ, _+_, _*_, _/_, _<_}
 use native.Mathlib.Omega.{arith}
 use mathlib.Core.Path.{_≡_, sym, ap, subst⁻¹, _∙_}
 use mathlib.Core.List.{List, []}
-use Rattle.slots.specs.Slots.{slots, slotSize}
+use Rattle.table_slots.specs.Slots.{slots, slotSize}
 use Rattle.table.specs.Table.{put, keyPlace}
 use Rattle.table.proofs.Whole.{formed}
 use Rattle.table.proofs.Calls.{Passed, says, find-passed, find-done, remove-kept}

@@ -6,7 +6,7 @@ use mathlib.Core.Path.{ap, _∙_}
 use mathlib.Core.List.{_++_}
 use lib.ListN.{take}
 use borrow.Rule.Slice.PartMut.{putMid, post-is}
-use Rattle.slots.specs.Slots.{slotSize, slotOf}
+use Rattle.table_slots.specs.Slots.{slotSize, slotOf}
 use Rattle.table.specs.Table.{put}
 use borrow.Author.Needs.{needs}
 use Rattle.table.proofs.replace.Statement.{statement}

@@ -4,7 +4,8 @@ use Prim.Native.Nat.{_+_, _-_, _≤_}
 use native.Mathlib.Omega.{arith}
 use mathlib.Core.Path.{_≡_, refl, ap, _∙_}
 use lib.ListN.{length, take, drop}
-use Rattle.table.specs.Table.{foundLength, found}
+use Rattle.table.specs.Table.{foundLength}
+use Rattle.table.specs.Inner.{found}
 use Rattle.table.proofs.Calls.{says, found-fits}
 use borrow.Author.Needs.{needs}
 use Rattle.table.proofs.shown.Statement.{statement}

@@ -1,7 +1,7 @@
 -- `table::slot_byte` meets its contract: the owner, the length byte, the message, zeros.
 -- Assumes nothing.
 use native.Mathlib.Omega.{arith}
-use Rattle.slots.proofs.Slot.{byte-owner, byte-length, byte-in, byte-after}
+use Rattle.table_slots.proofs.Slot.{byte-owner, byte-length, byte-in, byte-after}
 use borrow.Author.Needs.{needs}
 use Rattle.table.proofs.slot_byte.Statement.{statement}
 use Rattle.table.proofs.slot_byte.Tie as tie

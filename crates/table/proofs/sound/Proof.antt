@@ -3,7 +3,7 @@
 use mathlib.Core.Bool.{true}
 use mathlib.Core.Path.{_≡_, _∙_}
 use borrow.Author.Tests.{not-true, not-false, le-leb, lt-leb}
-use Rattle.slots.specs.Slots.{most}
+use Rattle.table_slots.specs.Slots.{most}
 use Rattle.table.specs.Table.{wellSlots, wellFormed}
 use Rattle.table.proofs.Whole.{slots-size}
 use Rattle.table.proofs.Marks.{row-slots}

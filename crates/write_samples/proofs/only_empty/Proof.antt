@@ -6,10 +6,10 @@ use Rattle.write_samples.proofs.only_empty.Statement.{statement}
 use Rattle.write_samples.proofs.only_empty.Tie as tie
 
 abbrev Inv-loop : tie.InvT-loop
-Inv-loop chunk₀ line₀ place₀ number₀ chunk line place number = Unit {0}
+Inv-loop window₀ place₀ number₀ window place number = Unit {0}
 
 abbrev μ-loop : tie.MeasureT-loop
-μ-loop chunk₀ line₀ place₀ number₀ chunk line place number = 1099511627776 - number
+μ-loop window₀ place₀ number₀ window place number = 1099511627776 - number
 
 pub only-empty-spec : {M : Type 1} → statement M
 only-empty-spec =

@@ -6,10 +6,10 @@ use Rattle.write_samples.proofs.read_points.Statement.{statement}
 use Rattle.write_samples.proofs.read_points.Tie as tie
 
 abbrev Inv-loop : tie.InvT-loop
-Inv-loop chunk₀ line₀ message components₀ north₀ east₀ count₀ later₀ place₀ number₀ chunk line components north east count later place number = Unit {0}
+Inv-loop window₀ message components₀ north₀ east₀ count₀ later₀ place₀ number₀ window components north east count later place number = Unit {0}
 
 abbrev μ-loop : tie.MeasureT-loop
-μ-loop chunk₀ line₀ message components₀ north₀ east₀ count₀ later₀ place₀ number₀ chunk line components north east count later place number = 1099511627776 - number
+μ-loop window₀ message components₀ north₀ east₀ count₀ later₀ place₀ number₀ window components north east count later place number = 1099511627776 - number
 
 pub read-points-spec : {M : Type 1} → statement M
 read-points-spec =

@@ -1,0 +1,59 @@
+"""The second program's cases, whose form second/VECTORS.md gives."""
+
+from __future__ import annotations
+
+import functools
+import tempfile
+from pathlib import Path
+from typing import List, NamedTuple, Optional, Sequence, Tuple
+
+from .places import second
+
+KINDS = ("--shift", "--table", "--frame", "--row", "--heights")
+
+
+class Case(NamedTuple):
+    """One case: its name, the call, its arguments, and the words and parts of the answer."""
+
+    name: str
+    command: str
+    arguments: List[str]
+    answer: List[str]
+    parts: List[str]
+
+
+@functools.lru_cache(maxsize=None)
+def cases() -> Tuple[Case, ...]:
+    """All cases in order."""
+    with tempfile.TemporaryDirectory() as folder:
+        second("vectors", folder, *KINDS)
+        given, expected = (Path(folder, name).read_text().splitlines() for name in ("stdin", "stdout"))
+    return tuple(_case(line, answer) for line, answer in zip(given, expected))
+
+
+def of(*commands: str) -> List[Case]:
+    """The cases of some commands in order."""
+    chosen = [case for case in cases() if case.command in commands]
+    assert chosen, f"no case of {commands}"
+    return chosen
+
+
+def _case(line: str, answer: str) -> Case:
+    name, command, *arguments = line.split(" ")
+    words, *parts = answer.split(" : ")
+    answered, *rest = words.split(" ")
+    assert answered == name, f"{name} is answered by {answered}"
+    return Case(name, command, arguments, rest, parts)
+
+
+def unhex(word: str) -> bytes:
+    """The bytes of a word, `-` for none."""
+    return b"" if word == "-" else bytes.fromhex(word)
+
+
+def row_of(values: Sequence[int], present: bytes) -> Optional[List[Optional[int]]]:
+    """The row of two buffers, None where they are none that Python's form of a row can hold."""
+    fits = len(values) == len(present) and all(byte <= 1 for byte in present)
+    if not fits or any(value and not byte for value, byte in zip(values, present)):
+        return None
+    return [value if byte else None for value, byte in zip(values, present)]

@@ -1,2 +1,0 @@
-pub mod NodeFields
-pub mod Private

@@ -1,0 +1,3 @@
+pub mod ShiftRow
+pub mod Private
+pub mod Inner

@@ -1,9 +1,0 @@
-pub mod Put
-pub mod Look
-pub mod Hold
-pub mod Step
-pub mod Last
-pub mod Answers
-pub mod Dict
-pub mod Replies
-pub mod Others

@@ -1,4 +1,0 @@
-pub mod Indexed
-pub mod Find
-pub mod Row
-pub mod Shown

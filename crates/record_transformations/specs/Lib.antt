@@ -1,0 +1,2 @@
+pub mod Transformations
+pub mod Private

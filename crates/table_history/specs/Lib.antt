@@ -1,0 +1,4 @@
+pub mod History
+pub mod Dict
+pub mod Isolation
+pub mod Private

@@ -1,0 +1,4 @@
+pub mod Indexed
+pub mod Find
+pub mod Private
+pub mod Inner

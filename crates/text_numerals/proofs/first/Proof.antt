@@ -1,0 +1,15 @@
+-- `text_numerals::first` meets its contract: a part from the start is what `take` leaves, and so is the whole where it is no longer.
+-- Assumes nothing.
+use borrow.Author.Needs.{needs}
+use native.Mathlib.Numerals.{unary-clauses}
+use native.Mathlib.Omega.{arith}
+use mathlib.Core.Path.{sym}
+use lib.Seq.{take-all}
+use Rattle.text_numerals.proofs.first.Statement.{statement}
+use Rattle.text_numerals.proofs.first.Tie as tie
+
+returns-2 : tie.Need-returns-2
+returns-2 c = sym (take-all (c .before .args .n) (c .before .args .row .now) (omega arith))
+
+pub first-spec : {M : Type 1} → statement M
+first-spec = tie.close (tie.spec (λ c. search needs) (λ c. search needs) (λ c. search needs) (λ c. simp unary-clauses) returns-2)

@@ -1,2 +1,0 @@
-pub mod Transformations
-pub mod Parts

@@ -1,6 +1,0 @@
-pub mod Head
-pub mod Sin
-pub mod Rows
-pub mod Trips
-pub mod OneKind
-pub mod Limits
