@@ -3,7 +3,8 @@
 # stored is one more.
 
 BEGIN {
-    count = split("add sub sub add mul add udiv urem urem udiv sdiv srem srem sdiv xor or or and and or shl lshr lshr shl ashr lshr fdiv fmul", pairs, " ")
+    count = split("add sub sub add mul add udiv urem urem udiv sdiv srem srem sdiv xor or or and and or " \
+        "shl lshr lshr shl ashr lshr fdiv fmul", pairs, " ")
     for (i = 1; i < count; i += 2)
         operation[pairs[i]] = pairs[i + 1]
     count = split("ult ule ule ult ugt uge uge ugt slt sle sle slt sgt sge sge sgt eq ne ne eq", pairs, " ")

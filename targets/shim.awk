@@ -38,15 +38,17 @@ function write_shim(name, type,    raw) {
     print ""
     if (type == "uint8_t") {
         # The register of the raw answer may hold anything above the byte: it is read as a word, and cut here.
-        print "uint32_t " raw "(" parameters[name] ") __attribute__((visibility(\"hidden\")));"
+        print "uint32_t " raw "(" parameters[name] ") " hidden ";"
         print type " " name "(" parameters[name] ")\n{\n    return (uint8_t)" raw "(" arguments[name] ");\n}"
     } else {
         # A large answer's pointer also comes back.
-        print (bits[type] > 128 ? "void *" : "void ") raw "(" type " *answer, " parameters[name] ") __attribute__((visibility(\"hidden\")));"
+        print (bits[type] > 128 ? "void *" : "void ") raw "(" type " *answer, " parameters[name] ") " hidden ";"
         print type " " name "(" parameters[name] ")\n{"
         print "    " type " answer;\n    " raw "(&answer, " arguments[name] ");\n    return answer;\n}"
     }
 }
+
+BEGIN { hidden = "__attribute__((visibility(\"hidden\")))" }
 
 FNR == 1 { file++ }
 

@@ -74,7 +74,8 @@ static buffer buffer_of(const char *name, size_t size)
 static int64_t value_of(const char *name)
 {
     const struct { const char *name; int64_t value; } known[] = {
-        { "north", inside_north }, { "east", inside_east }, { "count", 1 }, { "owner", 1 }, { "group", TARNOKLEJ_GRID }, { "sin", values[1] },
+        { "north", inside_north }, { "east", inside_east }, { "count", 1 }, { "owner", 1 }, { "group", TARNOKLEJ_GRID },
+        { "sin", values[1] },
     };
     for (size_t i = 0; i < sizeof known / sizeof known[0]; i++)
         if (same_text(known[i].name, name))
