@@ -100,7 +100,12 @@ class Live(unittest.TestCase):
     def before_the_end(self, found: Iterator[Frame], close: Any) -> Frame:
         """The next frame, which must come while the stream is open; it is closed if none comes."""
         ended = threading.Event()
-        guard = threading.Timer(20, lambda: (ended.set(), close()))
+
+        def end() -> None:
+            ended.set()
+            close()
+
+        guard = threading.Timer(20, end)
         guard.start()
         frame = next(found)
         guard.cancel()
