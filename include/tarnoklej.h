@@ -1,10 +1,13 @@
 /* Tarnoklej: RTCM messages 1021 to 1027, and the transport frames of RTCM messages of any number.
  *
- * The functions are in target/staticlib/libcapi.a, which `rt staticlib capi` writes for x86-64.
+ * The functions are in libtarnoklej, which `targets/build` makes from one proved module for each machine (docs/TARGETS.md);
+ * for x86-64 Linux it is the archive that `rt staticlib capi` writes, byte for byte.
  * Every call ends with an answer for every input, keeps nothing between calls and allocates nothing.
  * A refusal number says why a call was refused; refusals are tested in the order given at each call.
- * No pointer may be null, not even where its length is 0, and no buffer that a call writes may overlap another.
- * Every buffer must be memory of at least the length given with it, and one of int64_t must be aligned as an int64_t is.
+ * No buffer that a call writes may overlap another. Every buffer must be memory of at least the length given with it, and
+ * one of int64_t must be aligned as an int64_t is. A pointer may be null only where its length is 0: it then works as an
+ * empty buffer, as an empty vector of C++ hands over. That is run for every call on every target (targets/check), and is
+ * not proved.
  *
  * A row holds the fields of a message in wire order, DF002 first, in two buffers side by side: values and present.
  * Where a field has a value, present is 1; where it has none, that is where it is not available, present is 0 and its
@@ -19,22 +22,31 @@
 extern "C" {
 #endif
 
-/* The refusal numbers. */
+/* The version, as the file VERSION has it. MAJOR goes up where a caller must be changed or compiled anew, and the shared
+ * object is named by it; MINOR where something is added; PATCH otherwise.
+ */
+#define TARNOKLEJ_VERSION_MAJOR 1
+#define TARNOKLEJ_VERSION_MINOR 0
+#define TARNOKLEJ_VERSION_PATCH 0
+#define TARNOKLEJ_VERSION "1.0.0"
+
+/* The refusal numbers. tarnoklej_refusal_name and tarnoklej_refusal_words give their names and these words. */
 enum {
-    TARNOKLEJ_DONE = 0,
-    TARNOKLEJ_SHORT = 1,      /* under 2 bytes */
-    TARNOKLEJ_NUMBER = 2,     /* not 1021 to 1027 */
-    TARNOKLEJ_LENGTH = 3,     /* not the length called for, a name counter cannot be read, or too long for a frame;
-                                 points of a report or of sample answers that are too many, or whose counts differ */
+    TARNOKLEJ_DONE = 0,       /* not refused */
+    TARNOKLEJ_SHORT = 1,      /* a message of under 2 bytes */
+    TARNOKLEJ_NUMBER = 2,     /* a message number that is not 1021 to 1027 */
+    TARNOKLEJ_LENGTH = 3,     /* not the length called for, a name counter that cannot be read, or too long for a
+                                 frame; points of a report or of sample answers that are too many, or whose counts
+                                 differ */
     TARNOKLEJ_FILL = 4,       /* a fill bit is set */
     TARNOKLEJ_RANGE = 5,      /* a field outside its range or width, or buffers that are no row of a message */
-    TARNOKLEJ_ROOM = 6,       /* an output shorter than the message, its row or its frame, than a row of shifts, or than
-                                 a file of sample answers */
+    TARNOKLEJ_ROOM = 6,       /* an output shorter than the message, its row or its frame, than a row of shifts, or
+                                 than a file of sample answers */
     TARNOKLEJ_KIND = 7,       /* a grid call on a message other than 1023 or 1024, a datum step on another than 1021 */
-    TARNOKLEJ_COMPONENT = 8,  /* not 0 to 2 */
-    TARNOKLEJ_POSITION = 9,   /* 1023: beyond +-3,240,000,000 or +-6,480,000,000; 1024: either beyond +-10^12;
-                                 a row of shifts of no place or too many, or with a negative step;
-                                 datum step: one of three beyond +-10^11 */
+    TARNOKLEJ_COMPONENT = 8,  /* a component that is not 0 to 2 */
+    TARNOKLEJ_POSITION = 9,   /* 1023: a position beyond +-3,240,000,000 or +-6,480,000,000; 1024: either beyond
+                                 +-10^12; a row of shifts of no place or too many, or with a negative step; datum
+                                 step: one of three beyond +-10^11 */
     TARNOKLEJ_OFF = 10,       /* DF190 is 0 (components 0, 1) or DF191 is 0 (component 2) */
     TARNOKLEJ_METHOD = 11,    /* DF212 (components 0, 1) or DF213 (component 2) is not 0; datum step: DF150 is not 0 */
     TARNOKLEJ_ORIGIN = 12,    /* an origin field has no value */
@@ -312,6 +324,80 @@ tarnoklej_written tarnoklej_write_samples(const uint8_t *message, size_t message
  * Buffers: file is only read.
  */
 tarnoklej_checked tarnoklej_check_samples(const uint8_t *file, size_t size);
+
+/* Gives the name of a refusal number, as it stands above without TARNOKLEJ_; UNKNOWN for a number that no call gives. */
+static inline const char *tarnoklej_refusal_name(uint8_t refusal)
+{
+    switch (refusal) {
+    case TARNOKLEJ_DONE: return "DONE";
+    case TARNOKLEJ_SHORT: return "SHORT";
+    case TARNOKLEJ_NUMBER: return "NUMBER";
+    case TARNOKLEJ_LENGTH: return "LENGTH";
+    case TARNOKLEJ_FILL: return "FILL";
+    case TARNOKLEJ_RANGE: return "RANGE";
+    case TARNOKLEJ_ROOM: return "ROOM";
+    case TARNOKLEJ_KIND: return "KIND";
+    case TARNOKLEJ_COMPONENT: return "COMPONENT";
+    case TARNOKLEJ_POSITION: return "POSITION";
+    case TARNOKLEJ_OFF: return "OFF";
+    case TARNOKLEJ_METHOD: return "METHOD";
+    case TARNOKLEJ_ORIGIN: return "ORIGIN";
+    case TARNOKLEJ_SPACING: return "SPACING";
+    case TARNOKLEJ_OUTSIDE: return "OUTSIDE";
+    case TARNOKLEJ_ABSENT: return "ABSENT";
+    case TARNOKLEJ_FULL: return "FULL";
+    case TARNOKLEJ_NONE: return "NONE";
+    case TARNOKLEJ_TABLE: return "TABLE";
+    case TARNOKLEJ_NEED: return "NEED";
+    case TARNOKLEJ_NOFRAME: return "NOFRAME";
+    case TARNOKLEJ_OWNER: return "OWNER";
+    case TARNOKLEJ_INDEX: return "INDEX";
+    case TARNOKLEJ_NOMEAN: return "NOMEAN";
+    case TARNOKLEJ_LAYOUT: return "LAYOUT";
+    case TARNOKLEJ_CLAIM: return "CLAIM";
+    default: return "UNKNOWN";
+    }
+}
+
+/* Gives the words of what a refusal number means, those of the comment beside it. */
+static inline const char *tarnoklej_refusal_words(uint8_t refusal)
+{
+    switch (refusal) {
+    case TARNOKLEJ_DONE: return "not refused";
+    case TARNOKLEJ_SHORT: return "a message of under 2 bytes";
+    case TARNOKLEJ_NUMBER: return "a message number that is not 1021 to 1027";
+    case TARNOKLEJ_LENGTH:
+        return "not the length called for, a name counter that cannot be read, or too long for a frame; points of a "
+               "report or of sample answers that are too many, or whose counts differ";
+    case TARNOKLEJ_FILL: return "a fill bit is set";
+    case TARNOKLEJ_RANGE: return "a field outside its range or width, or buffers that are no row of a message";
+    case TARNOKLEJ_ROOM:
+        return "an output shorter than the message, its row or its frame, than a row of shifts, or than a file of "
+               "sample answers";
+    case TARNOKLEJ_KIND: return "a grid call on a message other than 1023 or 1024, a datum step on another than 1021";
+    case TARNOKLEJ_COMPONENT: return "a component that is not 0 to 2";
+    case TARNOKLEJ_POSITION:
+        return "1023: a position beyond +-3,240,000,000 or +-6,480,000,000; 1024: either beyond +-10^12; a row of "
+               "shifts of no place or too many, or with a negative step; datum step: one of three beyond +-10^11";
+    case TARNOKLEJ_OFF: return "DF190 is 0 (components 0, 1) or DF191 is 0 (component 2)";
+    case TARNOKLEJ_METHOD: return "DF212 (components 0, 1) or DF213 (component 2) is not 0; datum step: DF150 is not 0";
+    case TARNOKLEJ_ORIGIN: return "an origin field has no value";
+    case TARNOKLEJ_SPACING: return "a spacing is 0";
+    case TARNOKLEJ_OUTSIDE: return "the position is not on or within the grid's outer rectangle";
+    case TARNOKLEJ_ABSENT: return "the mean, or a node of non-zero weight, or one of DF156 to DF162 has no value";
+    case TARNOKLEJ_FULL: return "the key is new to the owner, who holds 20 slots or finds no slot free";
+    case TARNOKLEJ_NONE: return "no such key of the owner, or group not 0 to 2";
+    case TARNOKLEJ_TABLE: return "the table has a wrong size or is not well formed, see tarnoklej_index_agrees";
+    case TARNOKLEJ_NEED: return "an unfinished frame calls for bytes that have not arrived";
+    case TARNOKLEJ_NOFRAME: return "neither a frame nor an unfinished one, or a start past the end";
+    case TARNOKLEJ_OWNER: return "an owner other than 1 or 2";
+    case TARNOKLEJ_INDEX: return "the index has a wrong size or does not agree with the table";
+    case TARNOKLEJ_NOMEAN: return "no mean from which every wanted height is at most 255 mm away";
+    case TARNOKLEJ_LAYOUT: return "a file of sample answers of another shape";
+    case TARNOKLEJ_CLAIM: return "a point of a file of sample answers that is refused, or has another count";
+    default: return "a number that no call gives";
+    }
+}
 
 /* Positions in a row by DF number: position, field, type, resolution, name.
  * N is the value at position 1, M the value at position 2+N; i is 0 to 15 for nodes 1 to 16.
