@@ -65,7 +65,7 @@ static void answer_line(const kept_file *file, uint8_t owner, char *call, char *
     call_message message;
     const char *words[3] = {"", "", ""};
     int count = 0;
-    for (char *word = strtok(call, " \n"); word != NULL && count < 4; word = strtok(NULL, " \n"), count++)
+    for (char *word = strtok(call, " "); word != NULL && count < 4; word = strtok(NULL, " "), count++)
         if (count < 3)
             words[count] = word;
     int has_key = count == 3 && parse_byte(words[1], &key.sin) && parse_byte(words[2], &key.group);
@@ -79,21 +79,31 @@ static void answer_line(const kept_file *file, uint8_t owner, char *call, char *
         strcpy(line, "bad\n");
 }
 
-/* Whether a line ends as a line does; the rest of one that is too long is passed over. */
-static int is_whole(const char *call)
+/* Reads a line, and says whether it is one: ended, not too long, without zero bytes. Gives 0 at the end of the input. */
+static int read_line(char *call, int *sound)
 {
-    if (strchr(call, '\n') != NULL)
-        return 1;
-    for (int next = getchar(); next != EOF && next != '\n';)
-        next = getchar();
-    return 0;
+    size_t length = 0;
+    int next = getchar();
+    if (next == EOF)
+        return 0;
+    *sound = 1;
+    for (; next != EOF && next != '\n'; next = getchar()) {
+        if (length == LINE_SIZE - 1 || next == '\0')
+            *sound = 0;
+        else
+            call[length++] = (char)next;
+    }
+    call[length] = '\0';
+    *sound = *sound && next == '\n';
+    return 1;
 }
 
 int answer_lines(const kept_file *file, uint8_t owner)
 {
     char call[LINE_SIZE], line[LINE_SIZE];
-    while (fgets(call, sizeof call, stdin) != NULL) {
-        if (is_whole(call))
+    int sound;
+    while (read_line(call, &sound)) {
+        if (sound)
             answer_line(file, owner, call, line);
         else
             strcpy(line, "bad\n");

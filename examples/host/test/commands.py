@@ -24,6 +24,39 @@ def expect(host, status, *words, output=None):
     return said
 
 
+def check_lines(host, path):
+    """Lines that are no calls are answered bad, each once, and the next call is answered as it must be."""
+    message = messages.make(3, 2, 5).hex()
+    lines = [
+        (f"store {message}\n", "0"),
+        ("find 3 2\n", f"0 {message}"),
+        ("\n", "bad"),
+        ("other 3 2\n", "bad"),
+        ("find 3\n", "bad"),
+        ("find 3 2 1\n", "bad"),
+        ("find 3 256\n", "bad"),
+        ("find -3 2\n", "bad"),
+        ("find 3 9\n", "17"),
+        (f"store {message.upper()[:-1]}A\n", "bad"),
+        (f"store {message}0\n", "bad"),
+        ("store 3ff\n", "bad"),
+        ("store 3f\n", "1"),
+        ("store " + "0" * 256 + "\n", "2"),
+        ("store " + "0" * 258 + "\n", "bad"),
+        ("x" * 9000 + " remove 3 2\n", "bad"),
+        ("find\0 3 2\n", "bad"),
+        ("remove 3 2\0\n", "bad"),
+        ("find 3 2\n", f"0 {message}"),
+        ("remove 3 2\n", "0"),
+        ("find 3 2\n", "17"),
+        (f"store {message}", "bad"),
+    ]
+    ran = subprocess.run([host, "calls", path, "2"], input="".join(line for line, _ in lines).encode(), capture_output=True)
+    answers = ran.stdout.decode().splitlines()
+    if ran.returncode != DONE or answers != [answer for _, answer in lines]:
+        raise Failure(f"calls are answered otherwise: {answers}")
+
+
 def run(host, folder):
     path, file = os.path.join(folder, "commands"), os.path.join(folder, "message")
     message = messages.make(9, 1, 77)
@@ -51,6 +84,7 @@ def run(host, folder):
     expect(host, DONE, "list", path, "2", output=b"")
     expect(host, DONE, "list", path, "1", output=b"sin 9 group 1 message 1023 of 73 bytes\n")
     expect(host, DONE, "check", path)
+    check_lines(host, path)
     with open(file, "wb") as stream:
         stream.write(message + b"\0")
     expect(host, REFUSED, "store", path, "1", file)
