@@ -6,24 +6,17 @@ use record_grids::Shifts;
 use record_grids::Spacing;
 use record_rows::Pair;
 
-fn put_origin(north: &[u8], east: &[u8], r: Origin, out: &mut Out, at: usize) -> usize {
+fn put_origin(north: u64, east: u64, r: Origin, out: &mut Out, at: usize) -> usize {
     let n = r.north;
     let e = r.east;
     super::fields::put_readings(north, n, east, e, out, at)
 }
 
-fn put_spacing(north: &[u8], east: &[u8], r: Spacing, out: &mut Out, at: usize) -> usize {
+fn put_spacing(north: u64, east: u64, r: Spacing, out: &mut Out, at: usize) -> usize {
     super::fields::put_numbers(north, r.north, east, r.east, out, at)
 }
 
-fn put_shifts(
-    north: &[u8],
-    east: &[u8],
-    height: &[u8],
-    r: Shifts,
-    out: &mut Out,
-    at: usize,
-) -> usize {
+fn put_shifts(north: u64, east: u64, height: u64, r: Shifts, out: &mut Out, at: usize) -> usize {
     let n = r.north;
     let e = r.east;
     let h = r.height;
@@ -33,9 +26,9 @@ fn put_shifts(
 
 // The sixteen nodes.
 fn put_nodes(
-    north: &[u8],
-    east: &[u8],
-    height: &[u8],
+    north: u64,
+    east: u64,
+    height: u64,
     nodes: [Shifts; 16],
     out: &mut Out,
     at: usize,
@@ -59,34 +52,34 @@ fn put_frame(
     at: usize,
 ) -> usize {
     if number == 1024 {
-        let to = put_origin(b" 202=", b" 203=", origin, out, at);
-        let to = put_spacing(b" 204=", b" 205=", spacing, out, to);
-        return put_shifts(b" 206=", b" 207=", b" 208=", mean, out, to);
+        let to = put_origin(202, 203, origin, out, at);
+        let to = put_spacing(204, 205, spacing, out, to);
+        return put_shifts(206, 207, 208, mean, out, to);
     }
-    let to = put_origin(b" 192=", b" 193=", origin, out, at);
-    let to = put_spacing(b" 194=", b" 195=", spacing, out, to);
-    put_shifts(b" 196=", b" 197=", b" 198=", mean, out, to)
+    let to = put_origin(192, 193, origin, out, at);
+    let to = put_spacing(194, 195, spacing, out, to);
+    put_shifts(196, 197, 198, mean, out, to)
 }
 
 // DF199 to DF201 of each node, or DF209 to DF211 of a message of number 1024.
 fn put_each(number: i64, nodes: [Shifts; 16], out: &mut Out, at: usize) -> usize {
     if number == 1024 {
-        return put_nodes(b" 209=", b" 210=", b" 211=", nodes, out, at);
+        return put_nodes(209, 210, 211, nodes, out, at);
     }
-    put_nodes(b" 199=", b" 200=", b" 201=", nodes, out, at)
+    put_nodes(199, 200, 201, nodes, out, at)
 }
 
 // The fields before the origin.
 fn put_start(number: i64, sin: i64, indicators: Pair, out: &mut Out, at: usize) -> usize {
-    let to = super::fields::put_numbers(b" 002=", number, b" 147=", sin, out, at);
-    super::fields::put_pair(b" 190=", b" 191=", indicators, out, to)
+    let to = super::fields::put_numbers(2, number, 147, sin, out, at);
+    super::fields::put_pair(190, 191, indicators, out, to)
 }
 
 // The fields behind the nodes.
 fn put_end(methods: Pair, quality: Pair, day: i64, out: &mut Out, at: usize) -> usize {
-    let to = super::fields::put_pair(b" 212=", b" 213=", methods, out, at);
-    let to = super::fields::put_pair(b" 216=", b" 217=", quality, out, to);
-    super::fields::put_number(b" 051=", day, out, to)
+    let to = super::fields::put_pair(212, 213, methods, out, at);
+    let to = super::fields::put_pair(216, 217, quality, out, to);
+    super::fields::put_number(51, day, out, to)
 }
 
 fn put_grid_fields(r: Grid, out: &mut Out, at: usize) -> usize {

@@ -2,9 +2,7 @@
 use text_numerals::Count;
 use text_numerals::Integer;
 
-pub(crate) type Numbers = [i64; 100];
-
-// The two buffers of a row that a record is made from.
+// The two buffers of a row; the first also holds other numbers.
 pub(crate) type Values = [i64; 96];
 
 pub(crate) type Present = [u8; 96];
@@ -20,11 +18,11 @@ pub(crate) enum Asked {
     Bad,
 }
 
-// The whole numbers that a line's words spell, at most 100: how many.
-pub(crate) fn row(s: &[u8], numbers: &mut Numbers) -> Count {
+// The whole numbers that a line's words spell, at most 96: how many.
+pub(crate) fn row(s: &[u8], numbers: &mut Values) -> Count {
     let mut from: usize = 0;
     let mut n: usize = 0;
-    while n < 100 {
+    while n < 96 {
         if s.len() <= from {
             return Count::Is(n);
         }
@@ -42,39 +40,18 @@ pub(crate) fn row(s: &[u8], numbers: &mut Numbers) -> Count {
     Count::Bad
 }
 
-// A row that a line's words spell, its presence bytes and then its values, into the first places of both buffers: how many, of which the first 96 are stored.
+// A row that a line's words spell, its presence bytes and then its values, into the first places of both buffers: how many.
 pub(crate) fn places(s: &[u8], values: &mut Values, present: &mut Present) -> Count {
-    let mut bytes = [0u8; 100];
-    let Count::Is(n) = text_numerals::hex(text_words::word(s), &mut bytes) else {
+    let Count::Is(n) = text_numerals::hex(text_words::word(s), present) else {
         return Count::Bad;
     };
-    let mut numbers = [0i64; 100];
-    let Count::Is(m) = row(text_words::rest(s), &mut numbers) else {
+    let Count::Is(m) = row(text_words::rest(s), values) else {
         return Count::Bad;
     };
     if n != m {
         return Count::Bad;
     }
-    keep_places(&numbers, &bytes, n, values, present);
     Count::Is(n)
-}
-
-// The first `n` places, at most 96.
-fn keep_places(
-    numbers: &Numbers,
-    bytes: &[u8; 100],
-    n: usize,
-    values: &mut Values,
-    present: &mut Present,
-) {
-    let mut k: usize = 0;
-    while k < 96 {
-        if k < n {
-            values[k] = numbers[k];
-            present[k] = bytes[k];
-        }
-        k += 1;
-    }
 }
 
 // A position in words.

@@ -1,5 +1,5 @@
 // `NAME points COMPONENT COUNT HEX N1 E1 .. Nk Ek`: the report of COUNT points, which go through those given over and over.
-use super::numbers::Numbers;
+use super::numbers::Values;
 use super::output::Out;
 use report_points::Point;
 use report_update::Report;
@@ -28,7 +28,7 @@ fn answer_list(component: u8, count: usize, given: &[u8], out: &mut Out, at: usi
     let Count::Is(n) = text_numerals::hex(text_words::word(given), &mut bytes) else {
         return super::output::bad(out, at);
     };
-    let mut numbers = [0i64; 100];
+    let mut numbers = [0i64; 96];
     let Count::Is(k) = super::numbers::row(text_words::rest(given), &mut numbers) else {
         return super::output::bad(out, at);
     };
@@ -54,7 +54,7 @@ fn put_report(
 }
 
 // Points that go through the first `k` of those given over and over.
-fn listed(numbers: &Numbers, k: usize) -> Points {
+fn listed(numbers: &Values, k: usize) -> Points {
     let mut points = [Point { north: 0, east: 0 }; 10001];
     let mut i: usize = 0;
     let mut j: usize = 0;
@@ -67,8 +67,8 @@ fn listed(numbers: &Numbers, k: usize) -> Points {
 }
 
 // The point given at a place, from 0.
-fn point_at(numbers: &Numbers, j: usize) -> Point {
-    if 49 < j {
+fn point_at(numbers: &Values, j: usize) -> Point {
+    if 47 < j {
         return Point { north: 0, east: 0 };
     }
     Point {

@@ -6,8 +6,8 @@ use record_projections::Projection;
 
 // The three fields with which each begins.
 fn put_start(number: i64, sin: i64, projection: i64, out: &mut Out, at: usize) -> usize {
-    let to = super::fields::put_numbers(b" 002=", number, b" 147=", sin, out, at);
-    super::fields::put_number(b" 170=", projection, out, to)
+    let to = super::fields::put_numbers(2, number, 147, sin, out, at);
+    super::fields::put_number(170, projection, out, to)
 }
 
 fn put_projection_fields(r: Projection, out: &mut Out, at: usize) -> usize {
@@ -15,9 +15,9 @@ fn put_projection_fields(r: Projection, out: &mut Out, at: usize) -> usize {
     let longitude = r.longitude;
     let northing = r.northing;
     let to = put_start(r.number, r.sin, r.projection, out, at);
-    let to = super::fields::put_readings(b" 171=", latitude, b" 172=", longitude, out, to);
-    let to = super::fields::put_numbers(b" 173=", r.scale, b" 174=", r.easting, out, to);
-    super::fields::put_reading(b" 175=", northing, out, to)
+    let to = super::fields::put_readings(171, latitude, 172, longitude, out, to);
+    let to = super::fields::put_numbers(173, r.scale, 174, r.easting, out, to);
+    super::fields::put_reading(175, northing, out, to)
 }
 
 fn put_lambert_fields(r: Lambert, out: &mut Out, at: usize) -> usize {
@@ -27,10 +27,10 @@ fn put_lambert_fields(r: Lambert, out: &mut Out, at: usize) -> usize {
     let parallel2 = r.parallel2;
     let northing = r.northing;
     let to = put_start(r.number, r.sin, r.projection, out, at);
-    let to = super::fields::put_readings(b" 176=", latitude, b" 177=", longitude, out, to);
-    let to = super::fields::put_readings(b" 178=", parallel1, b" 179=", parallel2, out, to);
-    let to = super::fields::put_number(b" 180=", r.easting, out, to);
-    super::fields::put_reading(b" 181=", northing, out, to)
+    let to = super::fields::put_readings(176, latitude, 177, longitude, out, to);
+    let to = super::fields::put_readings(178, parallel1, 179, parallel2, out, to);
+    let to = super::fields::put_number(180, r.easting, out, to);
+    super::fields::put_reading(181, northing, out, to)
 }
 
 fn put_oblique_mercator_fields(r: ObliqueMercator, out: &mut Out, at: usize) -> usize {
@@ -39,12 +39,12 @@ fn put_oblique_mercator_fields(r: ObliqueMercator, out: &mut Out, at: usize) -> 
     let difference = r.difference;
     let northing = r.northing;
     let to = put_start(r.number, r.sin, r.projection, out, at);
-    let to = super::fields::put_number(b" 182=", r.rectified, out, to);
-    let to = super::fields::put_readings(b" 183=", latitude, b" 184=", longitude, out, to);
-    let to = super::fields::put_number(b" 185=", r.azimuth, out, to);
-    let to = super::fields::put_reading(b" 186=", difference, out, to);
-    let to = super::fields::put_numbers(b" 187=", r.scale, b" 188=", r.easting, out, to);
-    super::fields::put_reading(b" 189=", northing, out, to)
+    let to = super::fields::put_number(182, r.rectified, out, to);
+    let to = super::fields::put_readings(183, latitude, 184, longitude, out, to);
+    let to = super::fields::put_number(185, r.azimuth, out, to);
+    let to = super::fields::put_reading(186, difference, out, to);
+    let to = super::fields::put_numbers(187, r.scale, 188, r.easting, out, to);
+    super::fields::put_reading(189, northing, out, to)
 }
 
 // REFUSAL : FIELDS of the record that the reader of 1025 gives.

@@ -110,15 +110,9 @@ fn change_of(length: &[u8], place: &[u8], character: &[u8]) -> Asked {
     let Count::Is(n) = text_numerals::natural(length) else {
         return Asked::Bad;
     };
-    if 200 < n {
-        return Asked::Bad;
-    }
     let Count::Is(k) = text_numerals::natural(place) else {
         return Asked::Bad;
     };
-    if 200 < k {
-        return Asked::Bad;
-    }
     let Byte::Is(b) = text_numerals::small(character) else {
         return Asked::Bad;
     };

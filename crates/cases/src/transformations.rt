@@ -10,33 +10,31 @@ use record_transformations::RotationPoint;
 use record_transformations::System;
 
 // A name: its length and its characters in use.
-fn put_name(length: &[u8], chars: &[u8], r: Name, out: &mut Out, at: usize) -> usize {
+fn put_name(length: u64, chars: u64, r: Name, out: &mut Out, at: usize) -> usize {
     let n = r.length;
     let c = r.chars;
-    let to = super::output::put(out, at, length);
-    let to = super::output::put_count(out, to, n);
-    let to = super::output::put(out, to, chars);
-    super::output::put_hex(out, to, text_words::before(&c, n))
+    let to = super::fields::put_count(length, n, out, at);
+    super::fields::put_bytes(chars, text_words::before(&c, n), out, to)
 }
 
 // The number of the message and both names.
 fn put_names(number: i64, source: Name, target: Name, out: &mut Out, at: usize) -> usize {
-    let to = super::fields::put_number(b" 002=", number, out, at);
-    let to = put_name(b" 143=", b" 144=", source, out, to);
-    put_name(b" 145=", b" 146=", target, out, to)
+    let to = super::fields::put_number(2, number, out, at);
+    let to = put_name(143, 144, source, out, to);
+    put_name(145, 146, target, out, to)
 }
 
 fn put_system(r: System, out: &mut Out, at: usize) -> usize {
-    let to = super::fields::put_number(b" 147=", r.sin, out, at);
-    let to = super::fields::put_numbers(b" 148=", r.messages, b" 149=", r.plate, out, to);
-    super::fields::put_numbers(b" 150=", r.computation, b" 151=", r.height, out, to)
+    let to = super::fields::put_number(147, r.sin, out, at);
+    let to = super::fields::put_numbers(148, r.messages, 149, r.plate, out, to);
+    super::fields::put_numbers(150, r.computation, 151, r.height, out, to)
 }
 
 fn put_area(r: Area, out: &mut Out, at: usize) -> usize {
     let latitude = r.latitude;
     let longitude = r.longitude;
-    let to = super::fields::put_readings(b" 152=", latitude, b" 153=", longitude, out, at);
-    super::fields::put_numbers(b" 154=", r.north, b" 155=", r.east, out, to)
+    let to = super::fields::put_readings(152, latitude, 153, longitude, out, at);
+    super::fields::put_numbers(154, r.north, 155, r.east, out, to)
 }
 
 fn put_parameters(r: Parameters, out: &mut Out, at: usize) -> usize {
@@ -47,30 +45,23 @@ fn put_parameters(r: Parameters, out: &mut Out, at: usize) -> usize {
     let ry = r.ry;
     let rz = r.rz;
     let ds = r.ds;
-    let to = super::fields::put_readings(b" 156=", dx, b" 157=", dy, out, at);
-    let to = super::fields::put_readings(b" 158=", dz, b" 159=", rx, out, to);
-    let to = super::fields::put_readings(b" 160=", ry, b" 161=", rz, out, to);
-    super::fields::put_reading(b" 162=", ds, out, to)
+    let to = super::fields::put_readings(156, dx, 157, dy, out, at);
+    let to = super::fields::put_readings(158, dz, 159, rx, out, to);
+    let to = super::fields::put_readings(160, ry, 161, rz, out, to);
+    super::fields::put_reading(162, ds, out, to)
 }
 
 fn put_point(r: RotationPoint, out: &mut Out, at: usize) -> usize {
     let x = r.x;
     let y = r.y;
     let z = r.z;
-    let to = super::fields::put_readings(b" 163=", x, b" 164=", y, out, at);
-    super::fields::put_reading(b" 165=", z, out, to)
+    let to = super::fields::put_readings(163, x, 164, y, out, at);
+    super::fields::put_reading(165, z, out, to)
 }
 
 fn put_ellipsoids(r: Ellipsoids, out: &mut Out, at: usize) -> usize {
-    let to = super::fields::put_numbers(
-        b" 166=",
-        r.source_major,
-        b" 167=",
-        r.source_minor,
-        out,
-        at,
-    );
-    super::fields::put_numbers(b" 168=", r.target_major, b" 169=", r.target_minor, out, to)
+    let to = super::fields::put_numbers(166, r.source_major, 167, r.source_minor, out, at);
+    super::fields::put_numbers(168, r.target_major, 169, r.target_minor, out, to)
 }
 
 // The fields behind the names that both messages have.
@@ -90,7 +81,7 @@ fn put_helmert_fields(r: Helmert, out: &mut Out, at: usize) -> usize {
     let to = put_names(r.number, r.source, r.target, out, at);
     let to = put_shared(r.system, r.area, r.parameters, out, to);
     let to = put_ellipsoids(r.ellipsoids, out, to);
-    super::fields::put_pair(b" 214=", b" 215=", r.quality, out, to)
+    super::fields::put_pair(214, 215, r.quality, out, to)
 }
 
 fn put_molodenski_badekas_fields(r: MolodenskiBadekas, out: &mut Out, at: usize) -> usize {
@@ -98,7 +89,7 @@ fn put_molodenski_badekas_fields(r: MolodenskiBadekas, out: &mut Out, at: usize)
     let to = put_shared(r.system, r.area, r.parameters, out, to);
     let to = put_point(r.point, out, to);
     let to = put_ellipsoids(r.ellipsoids, out, to);
-    super::fields::put_pair(b" 214=", b" 215=", r.quality, out, to)
+    super::fields::put_pair(214, 215, r.quality, out, to)
 }
 
 // REFUSAL : FIELDS of the record that the reader of 1021 gives.

@@ -9,7 +9,7 @@ abbrev Inv-loop : tie.InvT-loop
 Inv-loop s numbers₀ from₀ n₀ numbers from n = Unit {0}
 
 abbrev μ-loop : tie.MeasureT-loop
-μ-loop s numbers₀ from₀ n₀ numbers from n = 100 - n
+μ-loop s numbers₀ from₀ n₀ numbers from n = 96 - n
 
 pub row-spec : {M : Type 1} → statement M
 row-spec =
