@@ -63,8 +63,9 @@ function groupCell(group, index, utilized) {
     return element("td", { "data-group": GROUPS[index].name, class: "none" }, ...missing);
   }
   const { last, accepted, changes, lastChange } = group;
-  const often = accepted === 1 ? "once" : `${grouped(accepted)} times, `
-    + (changes === 0 ? "always the same" : `changed ${several(changes, "time", "times")}, last at ${grouped(lastChange.at)}`);
+  const changed = changes === 1 ? "changed" : `${grouped(changes)} changes, last`;
+  const often = accepted === 1 ? "once"
+    : `${grouped(accepted)} times, ${changes === 0 ? "always the same" : `${changed} at ${grouped(lastChange.at)}`}`;
   const notNamed = index > 0 && utilized && !utilized.includes(last.number)
     ? [element("span", { class: "error" }, " not named by DF148")] : [];
   return element("td", { "data-group": GROUPS[index].name, "data-accepted": accepted, "data-changes": changes },

@@ -74,7 +74,8 @@ class Page:
 
     def text(self, chosen):
         """The text of an element in sight; nothing where it is hidden."""
-        return plain(self.run("return document.querySelector(arguments[0])?.innerText ?? ''", chosen)) if self.seen(chosen) else ""
+        return plain(self.run("""const one = document.querySelector(arguments[0]);
+            return one?.checkVisibility() ? one.innerText : "";""", chosen))
 
     def value(self, chosen):
         return self.run("return document.querySelector(arguments[0]).value", chosen)
