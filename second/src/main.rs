@@ -1,16 +1,16 @@
 //! The command line of the second program.
 
 use second::{
-    answers_program, answers_table, answers_trials, datumsamples, decode_json, decode_text, example, field_words,
-    figures, frames, heights_example, page, papers, positions, report_program, reportsamples, selfcheck, services,
-    vectors,
+    answers_program, answers_table, answers_trials, datum_lines, datumsamples, decode_json, decode_text, decode_trials,
+    example, field_table, field_words, figures, frames, heights_example, map_check, page, papers, positions,
+    report_program, reportsamples, selfcheck, services, vectors,
 };
 use std::io::{Read, Write};
 use std::path::Path;
 use std::process::ExitCode;
 
 /// What the program can be asked for.
-const USAGE: &str = "second selfcheck | papers FILE | fields | positions | example LIST | vectors OUTDIR [--shift] [--table] [--frame] [--row] [--heights] | services DIR | figures DIR | identify | frames | datum SETS POSITIONS | heights LIST | report | reports DIR | samples | write_samples | samples_table | samples_trials DIR | decode FIELDS MESSAGES [--json]";
+const USAGE: &str = "second selfcheck | papers FILE | fields | positions | example LIST | vectors OUTDIR [--shift] [--table] [--frame] [--row] [--heights] | services DIR | figures DIR | identify | frames | datum SETS POSITIONS | heights LIST | report | reports DIR | samples | write_samples | samples_table | samples_trials DIR | decode FIELDS MESSAGES [--json] | field_table FIELDS MESSAGES FILE | decode_trials DIR | map FILE COMPONENT | datum_step FILE X Y Z";
 
 /// Success or failure from a truth value.
 fn exit(good: bool) -> ExitCode {
@@ -26,6 +26,15 @@ fn compare_papers(file: &str) -> std::io::Result<bool> {
     let differences = papers::differences(&std::fs::read_to_string(file)?);
     differences.iter().for_each(|line| println!("{line}"));
     println!("{} differences from {file}", differences.len());
+    Ok(differences.is_empty())
+}
+
+/// Compares the command's tables with the text of source document 000.
+fn compare_tables(fields: &str, messages: &str, file: &str) -> std::io::Result<bool> {
+    let [table, of_messages, text] = [fields, messages, file].map(std::fs::read_to_string);
+    let differences = field_table::differences(&table?, &of_messages?, &text?);
+    differences.iter().for_each(|line| println!("{line}"));
+    println!("{} differences of {fields} and {messages} from {file}", differences.len());
     Ok(differences.is_empty())
 }
 
@@ -56,6 +65,14 @@ fn write_samples(text: &[u8]) -> std::io::Result<bool> {
         Err(line) => eprint!("{line}"),
     }
     Ok(true)
+}
+
+/// Prints what is wrong, if anything is.
+fn verdict(checked: Result<(), String>) -> std::io::Result<bool> {
+    if let Err(words) = &checked {
+        println!("{words}");
+    }
+    Ok(checked.is_ok())
 }
 
 /// The whole standard input.
@@ -98,6 +115,16 @@ fn run(arguments: &[String]) -> std::io::Result<bool> {
         ["write_samples"] => write_samples(&standard_input()?),
         ["samples_table"] => print(&answers_table::table(&standard_input()?)?),
         ["samples_trials", dir] => answers_trials::write(Path::new(dir)).map(|()| true),
+        ["field_table", fields, messages, file] => compare_tables(fields, messages, file),
+        ["decode_trials", dir] => decode_trials::write(Path::new(dir)).map(|()| true),
+        ["map", file, component] => {
+            let svg = String::from_utf8_lossy(&standard_input()?).into_owned();
+            verdict(map_check::check(&std::fs::read(file)?, count(component)?, &svg))
+        }
+        ["datum_step", file, x, y, z] => {
+            let printed = String::from_utf8_lossy(&standard_input()?).into_owned();
+            verdict(datum_lines::check(&std::fs::read(file)?, [x, y, z], &printed))
+        }
         ["decode", fields, messages] => print(&decode_text::text(&standard_input()?, &words_in(fields, messages)?)),
         ["decode", fields, messages, "--json"] => {
             print(&decode_json::json(&standard_input()?, &words_in(fields, messages)?))

@@ -36,7 +36,8 @@ impl Decoder<'_> {
     /// Appends a message 1021 to 1027.
     fn show_known(&mut self, head: &Head, layout: &Message, message: &[u8]) {
         let mut row = [None; MOST_FIELDS];
-        let read = library::read(message).and_then(|(_, sin)| Ok((sin, library::read_fields(message, &mut row)?)));
+        let read =
+            library::read(message).and_then(|header| Ok((header.sin, library::read_fields_into(message, &mut row)?)));
         match read {
             Ok((sin, count)) => {
                 self.counts.messages += 1;

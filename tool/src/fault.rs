@@ -1,7 +1,7 @@
 //! What is wrong with a refused message. The library says the refusal; the place is found here, in the message's bits.
 
 use crate::bits;
-use crate::refusal::{Refusal, FILL, LENGTH, SHORT};
+use crate::library::Refusal;
 use crate::tables::{Kind, Message, Slot, Tables};
 
 /// A field outside its range.
@@ -32,14 +32,14 @@ struct Places {
 /// What is wrong with a message of a known number that is refused so.
 pub fn of(tables: &Tables, layout: &Message, message: &[u8], refusal: Refusal) -> Fault {
     let mut fault = Fault::default();
-    if refusal.number == SHORT {
+    if refusal == Refusal::Short {
         return fault;
     }
     match places(tables, layout, message) {
         Err(counter) => fault.unread = Some(counter),
-        Ok(found) => match refusal.number {
-            LENGTH => fault.called = Some(found.end.div_ceil(8)),
-            FILL => fault.fill_bits = set_bits(message, found.end),
+        Ok(found) => match refusal {
+            Refusal::Length => fault.called = Some(found.end.div_ceil(8)),
+            Refusal::Fill => fault.fill_bits = set_bits(message, found.end),
             _ => fault.out_of_range = out_of_range(tables, message, found.places),
         },
     }

@@ -1,7 +1,7 @@
 //! Messages as JSON, one object to a line; docs/DECODE.md lists the keys.
 
 use crate::fault::Fault;
-use crate::refusal::Refusal;
+use crate::library::Refusal;
 use crate::shown::{Counts, Head, Printer};
 use crate::tables::{Field, Kind, Message, Slot, Tables};
 use crate::value::{meaning, push_value, quoted, sum, NOT_AVAILABLE};
@@ -140,7 +140,7 @@ impl Printer for Json {
 
     fn refused(&mut self, out: &mut String, tables: &Tables, head: &Head, refusal: Refusal, fault: &Fault) {
         push_head(out, "refused", head);
-        push(out, format_args!(",\"refusal\":{},\"refusal_name\":\"{}\",\"words\":", refusal.number, refusal.name));
+        push(out, format_args!(",\"refusal\":{},\"refusal_name\":\"{}\",\"words\":", refusal.number(), refusal.name()));
         push_words(out, &fault.words(tables, head.length));
         out.push_str(",\"called\":");
         push_or_null(out, fault.called);

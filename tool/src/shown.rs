@@ -1,7 +1,7 @@
 //! What a form of showing messages is asked for.
 
 use crate::fault::Fault;
-use crate::refusal::Refusal;
+use crate::library::Refusal;
 use crate::tables::{Message, Tables};
 
 /// What stands at the head of every message.

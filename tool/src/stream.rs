@@ -1,7 +1,7 @@
 //! The pieces of a stream as its bytes arrive, in memory that does not grow with the stream.
 
 use crate::bits;
-use crate::library::{find_frame, Search, FRAME_HEAD, FRAME_TAIL, MOST_FRAMED};
+use crate::library::{FrameStream, MOST_FRAMED};
 use std::io::{ErrorKind, Read};
 
 /// Bytes that are read at once, at most.
@@ -32,60 +32,34 @@ impl<F> From<F> for Stopped<F> {
     }
 }
 
-/// The bytes of a stream that are still needed.
-struct Window {
-    bytes: Vec<u8>,
-    /// The place in the stream of the first byte.
-    start: u64,
+/// A stream that is being read.
+#[derive(Default)]
+struct Reading {
+    stream: FrameStream,
     /// The place in the stream behind the last frame.
     done: u64,
-    /// The first bytes of the stream, as many as a bare message can have and one more.
-    first: Vec<u8>,
     frames: u64,
+    /// The first bytes of the stream: as many as a bare message can have, and one more.
+    first: Vec<u8>,
 }
 
-impl Window {
-    /// The place in the stream of a place in the window.
-    fn place(&self, at: usize) -> u64 {
-        self.start + at as u64
-    }
-
-    /// Gives the frames that are there; where the stream has ended, an unfinished one is none.
-    fn give_frames<P: Pieces>(&mut self, pieces: &mut P, ended: bool) -> Result<(), P::Failure> {
-        let mut from = 0;
-        let keep = loop {
-            match find_frame(&self.bytes, from) {
-                Search::Frame { at, length } => {
-                    self.give_outside(pieces, self.place(at))?;
-                    let message = at + FRAME_HEAD..at + FRAME_HEAD + length;
-                    from = message.end + FRAME_TAIL;
-                    pieces.message(self.place(at), true, &self.bytes[message])?;
-                    self.done = self.place(from);
-                    self.frames += 1;
-                }
-                Search::Need { at } if ended => from = at + 1,
-                Search::Need { at } => break at,
-                Search::Nothing => break self.bytes.len(),
-            }
-        };
-        self.bytes.drain(..keep);
-        self.start += keep as u64;
-        Ok(())
-    }
-
-    /// Gives the bytes between the last frame and a place.
-    fn give_outside<P: Pieces>(&self, pieces: &mut P, end: u64) -> Result<(), P::Failure> {
-        match end - self.done {
-            0 => Ok(()),
-            length => pieces.outside(self.done, length),
-        }
-    }
-
+impl Reading {
     /// Takes bytes that have arrived.
     fn take(&mut self, arrived: &[u8]) {
         let wanted = (MOST_FRAMED + 1 - self.first.len()).min(arrived.len());
         self.first.extend_from_slice(&arrived[..wanted]);
-        self.bytes.extend_from_slice(arrived);
+        self.stream.push(arrived);
+    }
+
+    /// Gives the frames that are there, and the bytes between them.
+    fn give_frames<P: Pieces>(&mut self, pieces: &mut P) -> Result<(), P::Failure> {
+        while let Some(frame) = self.stream.next_frame() {
+            give_outside(pieces, self.done, frame.at)?;
+            pieces.message(frame.at, true, frame.message)?;
+            self.done = frame.at + frame.bytes.len() as u64;
+            self.frames += 1;
+        }
+        Ok(())
     }
 
     /// Whether the stream that has ended is one message without a frame.
@@ -96,33 +70,40 @@ impl Window {
 
     /// Gives what is left where the stream has ended.
     fn finish<P: Pieces>(&mut self, pieces: &mut P) -> Result<(), P::Failure> {
-        self.give_frames(pieces, true)?;
+        self.stream.end();
+        self.give_frames(pieces)?;
         if self.is_bare_message() {
             pieces.message(0, false, &self.first)
         } else {
-            self.give_outside(pieces, self.start)
+            give_outside(pieces, self.done, self.stream.length())
         }
+    }
+}
+
+/// Gives the bytes from a place to another, if there are any.
+fn give_outside<P: Pieces>(pieces: &mut P, from: u64, to: u64) -> Result<(), P::Failure> {
+    match to - from {
+        0 => Ok(()),
+        length => pieces.outside(from, length),
     }
 }
 
 /// Gives all pieces of a stream, each as soon as its last byte is there, and the number of its bytes.
 pub fn read<P: Pieces>(mut input: impl Read, pieces: &mut P) -> Result<u64, Stopped<P::Failure>> {
-    let mut window = Window { bytes: Vec::new(), start: 0, done: 0, first: Vec::new(), frames: 0 };
+    let mut reading = Reading::default();
     let mut arrived = vec![0; READ_AT_ONCE];
-    let mut bytes = 0;
     loop {
         match input.read(&mut arrived) {
             Ok(0) => break,
             Ok(count) => {
-                bytes += count as u64;
-                window.take(&arrived[..count]);
-                window.give_frames(pieces, false)?;
-                pieces.pause(bytes)?;
+                reading.take(&arrived[..count]);
+                reading.give_frames(pieces)?;
+                pieces.pause(reading.stream.length())?;
             }
             Err(error) if error.kind() == ErrorKind::Interrupted => (),
             Err(error) => return Err(Stopped::Unreadable(error)),
         }
     }
-    window.finish(pieces)?;
-    Ok(bytes)
+    reading.finish(pieces)?;
+    Ok(reading.stream.length())
 }

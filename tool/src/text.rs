@@ -1,7 +1,7 @@
 //! Messages as text for people: a line for each message, and one for each of its fields.
 
 use crate::fault::{counted, Fault};
-use crate::refusal::Refusal;
+use crate::library::Refusal;
 use crate::shown::{Counts, Head, Printer};
 use crate::tables::{Field, Kind, Message, Slot, Tables};
 use crate::value::{meaning, push_value, quoted, sum, NOT_AVAILABLE};
@@ -138,7 +138,7 @@ impl Printer for Text {
         self.bare |= !head.framed;
         push_head(out, head);
         let words = fault.words(tables, head.length);
-        push(out, format_args!(", refused {} {}: {words}\n", refusal.number, refusal.name));
+        push(out, format_args!(", refused {} {}: {words}\n", refusal.number(), refusal.name()));
         let layout = head.number.and_then(|number| tables.message(number));
         for outside in &fault.out_of_range {
             let same = |slot: &Slot| slot.field == outside.slot.field && slot.node == outside.slot.node;

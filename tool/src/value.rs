@@ -65,7 +65,7 @@ fn bits(field: &Field, raw: i64) -> String {
 }
 
 /// Degrees, minutes and seconds of units of an arc second's decimals.
-fn sexagesimal(units: i128, decimals: usize) -> String {
+pub fn sexagesimal(units: i128, decimals: usize) -> String {
     let minute = 60 * ten_to(decimals);
     let (size, sign) = (units.abs(), if units < 0 { "-" } else { "" });
     let (minutes, seconds) = (size / minute, decimal_text(size % minute, decimals));
