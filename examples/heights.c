@@ -11,21 +11,6 @@
 /* The nodes of a grid, the fields of a 1023's row, its bytes, and the bytes of its frame. */
 enum { NODES = 16, FIELDS = 64, BYTES = 73, FRAME = TARNOKLEJ_FRAME_HEAD + BYTES + TARNOKLEJ_FRAME_TAIL };
 
-/* The name of a refusal that a row made here can get. */
-static const char *refusal_name(uint8_t refusal)
-{
-    switch (refusal) {
-    case TARNOKLEJ_RANGE:
-        return "RANGE";
-    case TARNOKLEJ_SPACING:
-        return "SPACING";
-    case TARNOKLEJ_NOMEAN:
-        return "NOMEAN";
-    default:
-        return "otherwise";
-    }
-}
-
 /* Gives the whole steps nearest to a number, and whether the text is such a number. */
 static int parse_steps(const char *text, char **end, double steps_in_one, int64_t *steps)
 {
@@ -102,7 +87,7 @@ int main(int argc, char **argv)
     tarnoklej_written written =
         tarnoklej_write_heights(values, FIELDS, present, FIELDS, wanted, NODES, message, sizeof message);
     if (written.refusal != TARNOKLEJ_DONE)
-        printf("refused %s\n", refusal_name(written.refusal));
+        printf("refused %s\n", tarnoklej_refusal_name(written.refusal));
     else
         print_frame(message);
     return 0;

@@ -10,11 +10,6 @@
 /* The most bytes of a file that are looked at: one more than the longest message has. */
 enum { LOOKED_AT = TARNOKLEJ_MOST_BYTES + 1 };
 
-static const char *const REFUSALS[] = {
-    "done",   "SHORT",  "NUMBER", "LENGTH",  "FILL",    "RANGE",  "ROOM", "KIND", "COMPONENT", "POSITION",
-    "OFF",    "METHOD", "ORIGIN", "SPACING", "OUTSIDE", "ABSENT", "FULL", "NONE", "TABLE",
-};
-
 /* Reads the first bytes of a file and gives their number, or -1. */
 static int read_file(const char *name, uint8_t *bytes)
 {
@@ -42,7 +37,7 @@ static int parse_steps(const char *text, double steps_in_one, int64_t *steps)
 static void print_part(const char *name, uint8_t refusal, int64_t count, double shift, int in_seconds)
 {
     if (refusal != TARNOKLEJ_DONE)
-        printf("%s refused %s\n", name, REFUSALS[refusal]);
+        printf("%s refused %s\n", name, tarnoklej_refusal_name(refusal));
     else if (in_seconds)
         printf("%s %lld %.5f arc seconds\n", name, (long long)count, shift);
     else

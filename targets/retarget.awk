@@ -1,9 +1,10 @@
 # Prints the module for another machine.
-# Usage: awk -v triple=TRIPLE [-v unwind=1] -f retarget.awk module.ll
+# Usage: awk -v triple=TRIPLE [-v windows=1] -f retarget.awk module.ll
 # Replaced are the lines with the machine's name and data layout, the attribute "target-cpu"="x86-64", and the exported functions:
 # tarnoklej_X becomes tarnoklej_raw_X, hidden, and one that gives { i64, i64 } stores it through a first argument instead.
 # So a raw function takes and gives pointers, words and bytes alone, and the shim, in C, makes the target's calling convention.
-# With unwind, for Windows, functions have unwind tables and the compiler's own stack probes.
+# For Windows the functions have unwind tables and the compiler's own stack probes, and are not hidden, since that would be a
+# directive to the linker.
 
 function fail(text) {
     print "targets: " text > "/dev/stderr"
@@ -18,7 +19,7 @@ function fail(text) {
 
 /^attributes / {
     sub(/ "target-cpu"="x86-64"/, "")
-    if (unwind) {
+    if (windows) {
         sub(/ "probe-stack"="inline-asm"/, "")
         sub(/ \}$/, " uwtable }")
     }
@@ -33,7 +34,8 @@ function fail(text) {
             sub(/^define \{ i64, i64 \}/, "define void")
             sub(/\(/, "(ptr noundef %answer, ")
         }
-        sub(/^define /, "define hidden ")
+        if (!windows)
+            sub(/^define /, "define hidden ")
     }
 }
 
