@@ -104,6 +104,16 @@ def check(page):
     page.open()
 
 
+def take_pictures(page, folder):
+    folder.mkdir(parents=True, exist_ok=True)
+    for scheme in ("light", "dark"):
+        page.scheme(scheme)
+        page.open()
+        for state in STATES:
+            state(page)
+            page.picture(folder / f"{scheme}-{state.__name__}.png")
+
+
 def start(page):
     del page
 
