@@ -10,7 +10,7 @@ use std::path::Path;
 use std::process::ExitCode;
 
 /// What the program can be asked for.
-const USAGE: &str = "second selfcheck | papers FILE | fields | positions | example LIST | vectors OUTDIR [--shift] [--table] [--frame] [--row] [--heights] | services DIR | figures DIR | identify | frames | datum SETS POSITIONS | heights LIST | report | reports DIR | samples | write_samples | samples_table | samples_trials DIR | decode FIELDS MESSAGES [--json] | field_table FIELDS MESSAGES FILE | decode_trials DIR | map FILE COMPONENT | datum_step FILE X Y Z";
+const USAGE: &str = "second selfcheck | papers FILE | fields | positions | example LIST | vectors OUTDIR [--shift] [--table] [--frame] [--row] [--heights] | services DIR | figures DIR | identify | frames | datum SETS POSITIONS | heights LIST | report | reports DIR | samples | write_samples | samples_table | samples_trials DIR | decode FIELDS MESSAGES [--json] | decode_cuts FIELDS MESSAGES | field_table FIELDS MESSAGES FILE | decode_trials DIR | map FILE COMPONENT | datum_step FILE X Y Z";
 
 /// Success or failure from a truth value.
 fn exit(good: bool) -> ExitCode {
@@ -126,6 +126,10 @@ fn run(arguments: &[String]) -> std::io::Result<bool> {
             verdict(datum_lines::check(&std::fs::read(file)?, [x, y, z], &printed))
         }
         ["decode", fields, messages] => print(&decode_text::text(&standard_input()?, &words_in(fields, messages)?)),
+        ["decode_cuts", fields, messages] => {
+            let (stream, words) = (standard_input()?, words_in(fields, messages)?);
+            print(&(0..=stream.len()).map(|end| decode_json::json(&stream[..end], &words)).collect::<String>())
+        }
         ["decode", fields, messages, "--json"] => {
             print(&decode_json::json(&standard_input()?, &words_in(fields, messages)?))
         }

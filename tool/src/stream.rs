@@ -107,3 +107,60 @@ pub fn read<P: Pieces>(mut input: impl Read, pieces: &mut P) -> Result<u64, Stop
     reading.finish(pieces)?;
     Ok(reading.stream.length())
 }
+
+#[cfg(test)]
+mod tests {
+    use super::*;
+
+    /// All pieces of a stream: place, length, and whether it is a message.
+    #[derive(Default, PartialEq, Eq, Debug)]
+    struct List(Vec<(u64, u64, bool)>);
+
+    impl Pieces for List {
+        type Failure = ();
+
+        fn outside(&mut self, at: u64, length: u64) -> Result<(), ()> {
+            self.0.push((at, length, false));
+            Ok(())
+        }
+
+        fn message(&mut self, at: u64, _framed: bool, message: &[u8]) -> Result<(), ()> {
+            self.0.push((at, message.len() as u64, true));
+            Ok(())
+        }
+
+        fn pause(&mut self, _bytes: u64) -> Result<(), ()> {
+            Ok(())
+        }
+    }
+
+    /// The pieces of a stream that arrives in parts.
+    fn list(parts: &[&[u8]]) -> List {
+        let mut list = List::default();
+        let parts = parts
+            .iter()
+            .fold(Box::new(std::io::empty()) as Box<dyn Read>, |before, part| Box::new(before.chain(*part)));
+        assert!(read(parts, &mut list).is_ok());
+        list
+    }
+
+    #[test]
+    fn the_pieces_are_the_same_wherever_the_stream_is_parted() {
+        let recording = include_bytes!("../../services/recording.rtcm");
+        let whole = list(&[recording]);
+        assert!(whole.0.len() > 100);
+        for cut in 0..recording.len() {
+            assert_eq!(list(&[&recording[..cut], &recording[cut..]]), whole, "parted at {cut}");
+        }
+    }
+
+    #[test]
+    fn a_message_without_a_frame_is_known_by_its_number() {
+        let message = include_bytes!("../../examples/1025.rtcm");
+        assert_eq!(list(&[&message[..3], &message[3..]]).0, [(0, 25, true)]);
+        assert_eq!(list(&[&[0x3e, 0xd0, 0]]).0, [(0, 3, false)]);
+        assert_eq!(list(&[&[0x40, 0x10], &[0; 1_021]]).0, [(0, 1_023, true)]);
+        assert_eq!(list(&[&[0x40, 0x10], &[0; 1_022]]).0, [(0, 1_024, false)]);
+        assert_eq!(list(&[]).0, []);
+    }
+}

@@ -1,4 +1,6 @@
-"""json_exact.py FIELDS STREAM: reads the JSON of a stream on standard input by another program than ours.
+"""json_exact.py FIELDS LIST: reads the JSON of streams by another program than ours.
+
+Each line of LIST names a stream and the file of its JSON, with a tab between.
 
 Every line must be an object of the keys that docs/DECODE.md lists for its kind, the objects must cover the stream without
 a gap, and every value must be its raw number times the resolution in the table of fields, with the resolution's decimals.
@@ -7,6 +9,7 @@ import csv
 import json
 import sys
 from decimal import Decimal
+from pathlib import Path
 
 FIRST = ["kind", "at", "framed", "length", "number", "name"]
 KEYS = {
@@ -70,10 +73,14 @@ def check_stream(objects, size, about):
 def main():
     with open(sys.argv[1], encoding="utf-8", newline="") as table:
         about = {line["field"]: line for line in csv.DictReader(table)}
-    with open(sys.argv[2], "rb") as stream:
-        size = len(stream.read())
-    objects = [json.loads(line, parse_float=Decimal) for line in sys.stdin]
-    check_stream(objects, size, about)
+    values = 0
+    for line in Path(sys.argv[2]).read_text(encoding="utf-8").splitlines():
+        stream, answer = line.split("\t")
+        text = Path(answer).read_text(encoding="utf-8")
+        objects = [json.loads(one, parse_float=Decimal) for one in text.split("\n") if one]
+        check_stream(objects, len(Path(stream).read_bytes()), about)
+        values += sum(len(one.get("fields", [])) for one in objects)
+    print(f"tool: python3 reads the JSON, {values} fields with exact values")
 
 
 main()

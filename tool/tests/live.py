@@ -1,7 +1,6 @@
-"""live.py COMMAND RECORDING: gives a recording to `decode --json` byte by byte through a pipe.
+"""live.py COMMAND RECORDING: gives the frames of a recording to `decode --json` one after another through a pipe.
 
-After the last byte of each frame that the whole recording holds, its object must arrive although nothing more is sent,
-unless an unfinished frame that began before calls for more bytes.
+Each frame is sent in two parts, and its object must arrive although nothing more is sent.
 """
 import json
 import os
@@ -40,7 +39,7 @@ def main():
     command, name = sys.argv[1:]
     with open(name, "rb") as file:
         stream = file.read()
-    # A sound stream: the frames alone, so that each is due with its own last byte.
+    # The frames alone, so that each is due with its own last byte.
     frames = []
     for line in lines_of(command, name):
         one = json.loads(line)
@@ -50,7 +49,6 @@ def main():
         reader = Reader(child.stdout)
         place = 0
         for frame in frames:
-            # One byte alone, and then the rest of the frame.
             for part in (frame[:1], frame[1:]):
                 os.write(child.stdin.fileno(), part)
             line = reader.line()

@@ -19,8 +19,8 @@ pub enum FieldType {
 
 /// A data field of the standard: its DF number, its name, and what its numbers mean.
 ///
-/// The numbers are those that are sent; where the standard adds a constant, as it does to the axes of an ellipsoid (DF166 to
-/// DF169) and to scale factors (DF173, DF187), that is the caller's work.
+/// Values are those that are sent, in whole numbers of the resolution. To the axes of an ellipsoid (DF166 to DF169) and to scale
+/// factors (DF173, DF187) the standard adds a [base](DataField::base).
 ///
 /// ```
 /// use tarnoklej::{DataField, FieldType, Unit};
@@ -49,6 +49,9 @@ pub struct DataField {
     pub smallest: i64,
     /// The greatest value.
     pub greatest: i64,
+    /// What the standard adds to the number that is sent, in whole units, 0 where it adds nothing. An axis of which 0 is sent is
+    /// undefined.
+    pub base: i64,
 }
 
 impl FieldType {
@@ -94,6 +97,25 @@ impl DataField {
         Quantity { count: value, resolution: self.resolution, unit: self.unit }
     }
 
+    /// A value of the field with the base added to it.
+    ///
+    /// ```
+    /// use tarnoklej::DataField;
+    ///
+    /// let axis = DataField::of(166).expect("the semi-major axis of the source system");
+    /// assert_eq!(axis.quantity(8_137_000).to_string(), "8137.000 m");
+    /// assert_eq!(axis.quantity_with_base(8_137_000).to_string(), "6378137.000 m");
+    /// ```
+    pub const fn quantity_with_base(&self, value: i64) -> Quantity {
+        let steps_in_one = 10i64.pow(self.resolution.decimals as u32) / self.resolution.step as i64;
+        self.quantity(self.base.saturating_mul(steps_in_one).saturating_add(value))
+    }
+
+    /// The field with a base.
+    const fn above(self, base: i64) -> Self {
+        DataField { base, ..self }
+    }
+
     /// The field with a range that ends before its width does.
     const fn at_most(self, greatest: i64) -> Self {
         let smallest = if self.smallest < 0 { -greatest } else { 0 };
@@ -127,7 +149,7 @@ const fn field(
         Signed(bits) => (1 - (1 << (bits - 1)), (1 << (bits - 1)) - 1),
         other => (0, (1 << other.bits()) - 1),
     };
-    DataField { df, name, field_type, resolution, unit, smallest, greatest }
+    DataField { df, name, field_type, resolution, unit, smallest, greatest, base: 0 }
 }
 
 /// The data fields in the order of their numbers.
@@ -157,14 +179,14 @@ static FIELDS: [DataField; 77] = [
     field(163, "X Coordinate for M-B Rotation Point", Signed(35), of(1, 3, Unit::Metre)),
     field(164, "Y Coordinate for M-B Rotation Point", Signed(35), of(1, 3, Unit::Metre)),
     field(165, "Z Coordinate for M-B Rotation Point", Signed(35), of(1, 3, Unit::Metre)),
-    field(166, "Semi-major Axis of Source System Ellipsoid", Unsigned(24), of(1, 3, Unit::Metre)),
-    field(167, "Semi-minor Axis of Source System Ellipsoid", Unsigned(25), of(1, 3, Unit::Metre)),
-    field(168, "Semi-major Axis of Target System Ellipsoid", Unsigned(24), of(1, 3, Unit::Metre)),
-    field(169, "Semi-minor Axis of Target System Ellipsoid", Unsigned(25), of(1, 3, Unit::Metre)),
+    field(166, "Semi-major Axis of Source System Ellipsoid", Unsigned(24), of(1, 3, Unit::Metre)).above(6_370_000),
+    field(167, "Semi-minor Axis of Source System Ellipsoid", Unsigned(25), of(1, 3, Unit::Metre)).above(6_350_000),
+    field(168, "Semi-major Axis of Target System Ellipsoid", Unsigned(24), of(1, 3, Unit::Metre)).above(6_370_000),
+    field(169, "Semi-minor Axis of Target System Ellipsoid", Unsigned(25), of(1, 3, Unit::Metre)).above(6_350_000),
     field(170, "Projection Type", Unsigned(6), PLAIN),
     field(171, "Latitude of Natural Origin", Signed(34), of(11, 9, Unit::Degree)).at_most(8_181_818_181),
     field(172, "Longitude of Natural Origin", Signed(35), of(11, 9, Unit::Degree)).at_most(16_363_636_363),
-    field(173, "Scale Factor at Natural Origin", Unsigned(30), of(1, 5, Unit::PartPerMillion)),
+    field(173, "Scale Factor at Natural Origin", Unsigned(30), of(1, 5, Unit::PartPerMillion)).above(993_000),
     field(174, "False Easting", Unsigned(36), of(1, 3, Unit::Metre)),
     field(175, "False Northing", Signed(35), of(1, 3, Unit::Metre)),
     field(176, "Latitude of False Origin", Signed(34), of(11, 9, Unit::Degree)).at_most(8_181_818_181),
@@ -178,7 +200,7 @@ static FIELDS: [DataField; 77] = [
     field(184, "Longitude of Projection Center", Signed(35), of(11, 9, Unit::Degree)).at_most(16_363_636_363),
     field(185, "Azimuth of Initial Line", Unsigned(35), of(11, 9, Unit::Degree)).at_most(32_727_272_727),
     field(186, "Difference, Angle from Rectified to Skew Grid", Signed(26), of(11, 9, Unit::Degree)),
-    field(187, "Scale factor on Initial Line", Unsigned(30), of(1, 5, Unit::PartPerMillion)),
+    field(187, "Scale factor on Initial Line", Unsigned(30), of(1, 5, Unit::PartPerMillion)).above(993_000),
     field(188, "Easting at Projection Center", Unsigned(36), of(1, 3, Unit::Metre)),
     field(189, "Northing at Projection Center", Signed(35), of(1, 3, Unit::Metre)),
     field(190, "Horizontal Shift Indicator", Bits(1), PLAIN),

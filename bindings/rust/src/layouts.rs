@@ -59,7 +59,7 @@ fn with_names(layout: &[u16], [source, target]: [usize; 2]) -> Vec<Place> {
         146 => target,
         _ => 1,
     };
-    layout.iter().flat_map(|&df| std::iter::repeat((df, None)).take(times(df))).collect()
+    layout.iter().flat_map(|&df| std::iter::repeat_n((df, None), times(df))).collect()
 }
 
 /// The places of a grid.

@@ -33,8 +33,9 @@
 //! resolution and unit.
 //!
 //! # Buffers
-//! Functions that write come twice: one gives a `Vec`, and one whose name ends with `_into` fills the first places of a buffer
-//! and allocates nothing.
+//! Functions that write come twice: one gives a `Vec`, and one whose name ends with `_into` fills the first places of a buffer.
+//! The library itself allocates nothing; this crate allocates what it gives as a `Vec` or a [`Message`], the bytes of a
+//! [`FrameStream`], and the two or three lists of numbers into which points are taken apart.
 //!
 //! # What is proved
 //! The library's calls are proved to do what include/tarnoklej.h says of them, for every input. This crate hands them slices and
@@ -93,3 +94,14 @@ pub use units::{Quantity, Resolution, Unit};
 pub const MOST_BYTES: usize = 127;
 /// The fields of the longest row, of the same message.
 pub const MOST_FIELDS: usize = 90;
+
+/// The library that was linked, and where it comes from, as build.rs chose it.
+///
+/// It is the library's file, and in brackets whether it is static or shared, and whether it was named by the environment,
+/// installed, or built in the repository. README.md of this crate says how it is chosen.
+pub const LIBRARY: &str = env!("TARNOKLEJ_LINKED");
+
+/// The program of README.md, which the tests compile.
+#[cfg(doctest)]
+#[doc = include_str!("../README.md")]
+struct Readme;

@@ -1,6 +1,6 @@
 //! Messages with their fields by DF number.
 
-use crate::fields::DataField;
+use crate::fields::{DataField, FieldType};
 use crate::layouts::{places, NODES};
 use crate::{read_fields, write_fields, Group, Quantity, Refusal};
 use std::fmt;
@@ -59,22 +59,27 @@ impl Field {
         self.data_field.df
     }
 
-    /// The value with resolution and unit, or nothing where it is not available.
+    /// The value as it is sent, with resolution and unit, or nothing where it is not available.
     pub fn quantity(&self) -> Option<Quantity> {
         self.value.map(|value| self.data_field.quantity(value))
     }
 }
 
 impl fmt::Display for Field {
-    /// DF number, name, node and value.
+    /// DF number, name, node and value, to which a base is added where there is one.
     fn fmt(&self, f: &mut fmt::Formatter) -> fmt::Result {
         write!(f, "{} {}", self.data_field, self.data_field.name)?;
         if let Some(node) = self.node {
             write!(f, ", node {node}")?;
         }
-        match self.quantity() {
-            Some(quantity) => write!(f, ": {quantity}"),
-            None => write!(f, ": not available"),
+        match (self.value, self.data_field.base) {
+            (None, _) => write!(f, ": not available"),
+            (Some(value), 0) if self.data_field.field_type == FieldType::Character => {
+                write!(f, ": {value}")?;
+                u8::try_from(value).map_or(Ok(()), |byte| write!(f, " {:?}", char::from(byte)))
+            }
+            (Some(value), 0) => write!(f, ": {}", self.data_field.quantity(value)),
+            (Some(value), base) => write!(f, ": {base} + {}", self.data_field.quantity(value)),
         }
     }
 }
@@ -85,7 +90,7 @@ impl Message {
     /// Refusals: SHORT, NUMBER, LENGTH, FILL, RANGE.
     pub fn read(bytes: &[u8]) -> Result<Self, Refusal> {
         let row = read_fields(bytes)?;
-        Ok(Message::of_row(&row).expect("an accepted message has the fields of its layout"))
+        Ok(Message::from_row(&row).expect("an accepted message has the fields of its layout"))
     }
 
     /// A message of a number whose other fields are 0 and whose names are empty.
@@ -95,11 +100,11 @@ impl Message {
         let places = places(number, [0; 2]).ok_or(Refusal::Number)?;
         let mut row = vec![Some(0); places.len()];
         row[0] = Some(i64::from(number));
-        Message::of_row(&row).ok_or(Refusal::Number)
+        Message::from_row(&row).ok_or(Refusal::Number)
     }
 
     /// The message of a row, or nothing where the row has not the count of fields that its number and name counters call for.
-    pub fn of_row(row: &[Option<i64>]) -> Option<Self> {
+    pub fn from_row(row: &[Option<i64>]) -> Option<Self> {
         let number = u16::try_from((*row.first()?)?).ok()?;
         let length = |place: usize| row.get(place).copied().flatten().and_then(|value| usize::try_from(value).ok());
         let names = match number {
@@ -216,7 +221,7 @@ impl Message {
         self.field(NAMES[0].0).ok_or(Refusal::Range)?;
         let names = [name_fields(source)?, name_fields(target)?].concat();
         row.splice(1..others, names);
-        *self = Message::of_row(&row).ok_or(Refusal::Range)?;
+        *self = Message::from_row(&row).ok_or(Refusal::Range)?;
         Ok(self)
     }
 
@@ -237,9 +242,6 @@ impl Message {
 fn name_fields(name: &str) -> Result<Vec<Option<i64>>, Refusal> {
     let characters: Result<Vec<u8>, _> = name.chars().map(u8::try_from).collect();
     let characters = characters.map_err(|_| Refusal::Range)?;
-    if characters.len() > MOST_CHARACTERS {
-        return Err(Refusal::Range);
-    }
     let counter = characters.len() as i64;
     Ok(std::iter::once(counter).chain(characters.into_iter().map(i64::from)).map(Some).collect())
 }

@@ -144,10 +144,10 @@ impl Refusal {
     /// What the refusal means, in the header's words.
     pub const fn words(self) -> &'static str {
         match self {
-            Refusal::Short => "under 2 bytes",
-            Refusal::Number => "not 1021 to 1027",
+            Refusal::Short => "a message of under 2 bytes",
+            Refusal::Number => "a message number that is not 1021 to 1027",
             Refusal::Length => {
-                "not the length called for, a name counter cannot be read, or too long for a frame; points of a report or \
+                "not the length called for, a name counter that cannot be read, or too long for a frame; points of a report or \
                  of sample answers that are too many, or whose counts differ"
             }
             Refusal::Fill => "a fill bit is set",
@@ -157,9 +157,9 @@ impl Refusal {
                  answers"
             }
             Refusal::Kind => "a grid call on a message other than 1023 or 1024, a datum step on another than 1021",
-            Refusal::Component => "not 0 to 2",
+            Refusal::Component => "a component that is not 0 to 2",
             Refusal::Position => {
-                "1023: beyond +-3,240,000,000 or +-6,480,000,000; 1024: either beyond +-10^12; a row of shifts of no place \
+                "1023: a position beyond +-3,240,000,000 or +-6,480,000,000; 1024: either beyond +-10^12; a row of shifts of no place \
                  or too many, or with a negative step; datum step: one of three beyond +-10^11"
             }
             Refusal::Off => "DF190 is 0 (components 0, 1) or DF191 is 0 (component 2)",

@@ -43,8 +43,8 @@ pub struct FrameStream {
     from: usize,
     /// The bytes of all frames that were given.
     inside: u64,
-    /// The place among the kept bytes of an unfinished frame, known until more bytes arrive.
-    need: Option<usize>,
+    /// Whether the kept bytes begin with an unfinished frame, for all that has arrived.
+    needs: bool,
     ended: bool,
 }
 
@@ -68,6 +68,7 @@ impl FrameStream {
     /// Takes bytes that have arrived.
     pub fn push(&mut self, bytes: &[u8]) {
         self.forget();
+        self.needs = false;
         self.bytes.extend_from_slice(bytes);
     }
 
@@ -83,7 +84,9 @@ impl FrameStream {
                 other => break other,
             }
         };
-        self.bytes.truncate(kept + count.as_ref().map_or(0, |&count| count));
+        let arrived = count.as_ref().map_or(0, |&count| count);
+        self.bytes.truncate(kept + arrived);
+        self.needs &= arrived == 0;
         if let Ok(0) = count {
             self.end();
         }
@@ -102,15 +105,16 @@ impl FrameStream {
                 Ok(frame) => break frame.at..frame.end(),
                 Err(Missing::Need(at)) if self.ended => self.from = at + 1,
                 Err(missing) => {
-                    self.need = if let Missing::Need(at) = missing { Some(at) } else { None };
-                    self.from = self.need.unwrap_or(self.bytes.len());
+                    self.needs = matches!(missing, Missing::Need(_));
+                    self.from = if let Missing::Need(at) = missing { at } else { self.bytes.len() };
+                    self.forget();
                     return None;
                 }
             }
         };
         self.from = found.end;
         self.inside += found.len() as u64;
-        self.need = None;
+        self.needs = false;
         let at = self.start + found.start as u64;
         let bytes = &self.bytes[found];
         let message = &bytes[crate::FRAME_HEAD..bytes.len() - crate::FRAME_TAIL];
@@ -120,7 +124,7 @@ impl FrameStream {
     /// The place in the stream of the unfinished frame that [`FrameStream::next_frame`] waits for, or nothing where it gave
     /// nothing without one.
     pub fn need(&self) -> Option<u64> {
-        self.need.map(|at| self.start + at as u64)
+        self.needs.then_some(self.start)
     }
 
     /// The bytes that have arrived.
@@ -143,6 +147,5 @@ impl FrameStream {
         self.bytes.drain(..self.from);
         self.start += self.from as u64;
         self.from = 0;
-        self.need = None;
     }
 }

@@ -17,10 +17,18 @@ fn row_of(parameters: [i64; 7]) -> [Option<i64>; 25] {
 
 /// The message of a row.
 fn written(row: &[Option<i64>]) -> Vec<u8> {
-    let mut out = vec![0; MOST_BYTES];
-    let length = write_fields(row, &mut out).expect("a sound row");
-    out.truncate(length);
-    out
+    write_fields(row).expect("a sound row")
+}
+
+/// The step of a message, which must be answered.
+fn step(message: &[u8], position: [i64; 3]) -> [i64; 3] {
+    let Geocentric { x, y, z } = refused_or_step(message, position).expect("a step");
+    [x, y, z]
+}
+
+/// The step of a message or its refusal.
+fn refused_or_step(message: &[u8], [x, y, z]: [i64; 3]) -> Result<Geocentric, Refusal> {
+    datum_step(message, Geocentric { x, y, z })
 }
 
 /// A 1021 of seven parameters in wire order.
@@ -42,14 +50,14 @@ fn no_parameters_leave_a_position_in_place() {
     let none = message([0; 7]);
     for position in [[0, 0, 0], [FARTHEST, -FARTHEST, 1], [-1, 2, -3], [41_498_712_345, 7_985_412_345, -47_893_256_789]]
     {
-        assert_within(datum_step(&none, position).expect("a step"), position, [true; 3]);
+        assert_within(step(&none, position), position, [true; 3]);
     }
 }
 
 #[test]
 fn translations_are_millimetres() {
     let far = message([4_194_303, -4_194_303, 1, 0, 0, 0, 0]);
-    assert_within(datum_step(&far, [0, 0, 0]).expect("a step"), [41_943_030, -41_943_030, 10], [true; 3]);
+    assert_within(step(&far, [0, 0, 0]), [41_943_030, -41_943_030, 10], [true; 3]);
 }
 
 #[test]
@@ -67,7 +75,7 @@ fn each_rotation_has_the_place_and_sign_of_the_standard() {
                 _ => 0,
             });
             let whole = below.map(|number| number == 0 || number == FARTHEST);
-            assert_within(datum_step(&message(parameters), position).expect("a step"), below, whole);
+            assert_within(step(&message(parameters), position), below, whole);
         }
     }
 }
@@ -76,7 +84,7 @@ fn each_rotation_has_the_place_and_sign_of_the_standard() {
 fn the_scale_multiplies_the_rotated_position_and_not_the_translation() {
     let scaled = message([4_000_000, 0, 0, 0, 0, 2_000_000_000, 16_777_215]);
     // The rotated x is 19392547244.3814, which the scale enlarges by 3253529.345..
-    let got = datum_step(&scaled, [0, FARTHEST, 0]).expect("a step");
+    let got = step(&scaled, [0, FARTHEST, 0]);
     assert_within(got, [19_435_800_773, 100_016_777_215, 0], [false, true, true]);
 }
 
@@ -84,7 +92,7 @@ fn the_scale_multiplies_the_rotated_position_and_not_the_translation() {
 fn the_ends_of_all_ranges() {
     let (r, s) = (i64::from(i32::MAX), 16_777_215);
     let ends = message([-4_194_303, 4_194_303, -1, r, -r, r, s]);
-    let got = datum_step(&ends, [FARTHEST, FARTHEST, -FARTHEST]).expect("a step");
+    let got = step(&ends, [FARTHEST, FARTHEST, -FARTHEST]);
     assert_within(got, [99_974_834_185, 58_406_555_262, -141_668_942_208], [true, false, false]);
 }
 
@@ -95,25 +103,25 @@ fn refusals_in_order() {
     row[INDICATOR] = Some(1);
     row[PARAMETERS + 6] = None;
     let both = written(&row);
-    assert_eq!(datum_step(&both[..1], far), Err(Refusal::Short));
-    assert_eq!(datum_step(&both[..51], far), Err(Refusal::Length));
+    assert_eq!(refused_or_step(&both[..1], far), Err(Refusal::Short));
+    assert_eq!(refused_or_step(&both[..51], far), Err(Refusal::Length));
     let grid = written(&{
         let mut grid = [Some(0); 64];
         grid[0] = Some(1023);
         grid
     });
-    assert_eq!(datum_step(&grid, far), Err(Refusal::Kind));
-    assert_eq!(datum_step(&both, far), Err(Refusal::Position));
-    assert_eq!(datum_step(&both, [i64::MIN, 0, 0]), Err(Refusal::Position));
-    assert_eq!(datum_step(&both, [0, -FARTHEST, FARTHEST]), Err(Refusal::Method));
+    assert_eq!(refused_or_step(&grid, far), Err(Refusal::Kind));
+    assert_eq!(refused_or_step(&both, far), Err(Refusal::Position));
+    assert_eq!(refused_or_step(&both, [i64::MIN, 0, 0]), Err(Refusal::Position));
+    assert_eq!(refused_or_step(&both, [0, -FARTHEST, FARTHEST]), Err(Refusal::Method));
     for indicator in 1..16 {
         row[INDICATOR] = Some(indicator);
-        assert_eq!(datum_step(&written(&row), [0; 3]), Err(Refusal::Method));
+        assert_eq!(refused_or_step(&written(&row), [0; 3]), Err(Refusal::Method));
     }
     for parameter in 0..7 {
         let mut row = row_of([1; 7]);
         row[PARAMETERS + parameter] = None;
-        assert_eq!(datum_step(&written(&row), [0; 3]), Err(Refusal::Absent), "parameter {parameter}");
+        assert_eq!(refused_or_step(&written(&row), [0; 3]), Err(Refusal::Absent), "parameter {parameter}");
     }
 }
 
@@ -132,5 +140,5 @@ fn the_longitude_area_and_names_do_not_matter() {
     row[9] = None;
     row.splice(1..3, [Some(2), Some(65), Some(66), Some(1), Some(67)]);
     let position = [41_498_712_345, 7_985_412_345, 47_893_256_789];
-    assert_eq!(datum_step(&written(&row), position), datum_step(&message([1; 7]), position));
+    assert_eq!(step(&written(&row), position), step(&message([1; 7]), position));
 }

@@ -1,23 +1,21 @@
 //! Frames against published values, and against the recording of the made-up services.
 
-use std::path::{Path, PathBuf};
+mod common;
+
+use common::{in_repository, text_of};
 use tarnoklej::*;
 
 /// The message 1005 of the example that RTCM 10403, section 4, prints.
 const EXAMPLE_1005: [u8; 19] =
     [0x3e, 0xd7, 0xd3, 0x02, 0x02, 0x98, 0x0e, 0xde, 0xef, 0x34, 0xb4, 0xbd, 0x62, 0xac, 0x09, 0x41, 0x98, 0x6f, 0x33];
 
-/// The frame of a message.
+/// The frame of a message, which both ways of writing give.
 fn frame_of(message: &[u8]) -> Vec<u8> {
     let mut out = vec![0; FRAME_HEAD + MOST_FRAMED + FRAME_TAIL];
-    let length = write_frame(message, &mut out).expect("a message that a frame holds");
+    let length = write_frame_into(message, &mut out).expect("a message that a frame holds");
     out.truncate(length);
+    assert_eq!(write_frame(message).as_ref(), Ok(&out));
     out
-}
-
-/// A file of the made-up services.
-fn service_file(name: &str) -> PathBuf {
-    Path::new(env!("CARGO_MANIFEST_DIR")).join("../../services").join(name)
 }
 
 #[test]
@@ -84,12 +82,14 @@ fn a_found_message_is_the_buffer_itself() {
 #[test]
 fn limits_of_a_written_frame() {
     let mut out = [0xa5; 1_030];
-    assert_eq!(write_frame(&[9; MOST_FRAMED + 1], &mut out), Err(Refusal::Length));
-    assert_eq!(write_frame(&[9; MOST_FRAMED + 1], &mut []), Err(Refusal::Length));
-    assert_eq!(write_frame(&[9; MOST_FRAMED], &mut out[..1_028]), Err(Refusal::Room));
-    assert_eq!(write_frame(&[], &mut out[..5]), Err(Refusal::Room));
+    assert_eq!(write_frame_into(&[9; MOST_FRAMED + 1], &mut out), Err(Refusal::Length));
+    assert_eq!(write_frame_into(&[9; MOST_FRAMED + 1], &mut []), Err(Refusal::Length));
+    assert_eq!(write_frame(&[9; MOST_FRAMED + 1]), Err(Refusal::Length));
+    assert_eq!(write_frame(&[9; 5_000]), Err(Refusal::Length));
+    assert_eq!(write_frame_into(&[9; MOST_FRAMED], &mut out[..1_028]), Err(Refusal::Room));
+    assert_eq!(write_frame_into(&[], &mut out[..5]), Err(Refusal::Room));
     assert_eq!(out, [0xa5; 1_030]);
-    assert_eq!(write_frame(&[9; MOST_FRAMED], &mut out), Ok(1_029));
+    assert_eq!(write_frame_into(&[9; MOST_FRAMED], &mut out), Ok(1_029));
     assert_eq!((out[..4].to_vec(), out[1_029]), (vec![0xd3, 3, 0xff, 9], 0xa5));
 }
 
@@ -139,10 +139,9 @@ fn frames_of_recording(bytes: &[u8]) -> Vec<Frame<'_>> {
 fn line(frame: Frame) -> String {
     let Frame { at, message } = frame;
     let head = format!("{at} {}", message.len());
-    if message.len() < 2 {
+    let Some(number) = message_number(message) else {
         return format!("{head} -");
-    }
-    let number = u16::from(message[0]) << 4 | u16::from(message[1]) >> 4;
+    };
     match read(message) {
         Ok(header) => format!("{head} {number} sin {}", header.sin),
         Err(Refusal::Number) => format!("{head} {number}"),
@@ -152,8 +151,8 @@ fn line(frame: Frame) -> String {
 
 #[test]
 fn the_recording_holds_the_expected_frames() {
-    let bytes = std::fs::read(service_file("recording.rtcm")).expect("the recording");
-    let expected = std::fs::read_to_string(service_file("recording.expected")).expect("what is expected of it");
+    let bytes = std::fs::read(in_repository("services/recording.rtcm")).expect("the recording");
+    let expected = text_of("services/recording.expected");
     let found = frames_of_recording(&bytes);
     let inside: usize = found.iter().map(|frame| frame.end() - frame.at).sum();
     let mut lines: Vec<String> = found.iter().copied().map(line).collect();

@@ -10,11 +10,9 @@ const ORIGIN: [usize; 2] = [4, 5];
 const SPACING: [usize; 2] = [6, 7];
 const METHOD: usize = 60;
 
-/// A row of a 1023 around 49 degrees north and 11 degrees east, heights only.
+/// The row of grid K.
 fn row() -> Vec<Option<i64>> {
-    let mut row = vec![Some(0); 64];
-    row[..8].copy_from_slice(&[1023, 7, 0, 1, 352_800, 79_200, 720, 720].map(Some));
-    row
+    example::grid_k_fields().row()
 }
 
 /// The row with another field.
@@ -27,9 +25,10 @@ fn with(place: usize, field: Option<i64>) -> Vec<Option<i64>> {
 /// The refusal or the message of heights.
 fn written(row: &[Option<i64>], wanted: [i64; NODES]) -> Result<Vec<u8>, Refusal> {
     let mut out = vec![0xa5; LENGTH + 1];
-    let length = write_heights(row, &wanted, &mut out)?;
+    let length = write_heights_into(row, &wanted, &mut out)?;
     assert_eq!(out[length], 0xa5);
     out.truncate(length);
+    assert_eq!(write_heights(row, &wanted).as_ref(), Ok(&out));
     Ok(out)
 }
 
@@ -101,7 +100,7 @@ fn refusals_in_order() {
     assert_eq!(written(&with(ORIGIN[0], None), level), Err(Refusal::Origin));
     assert_eq!(written(&with(SPACING[0], Some(0)), level), Err(Refusal::Spacing));
     let mut out = [0xa5; LENGTH - 1];
-    assert_eq!(write_heights(&row(), &level, &mut out), Err(Refusal::Room));
+    assert_eq!(write_heights_into(&row(), &level, &mut out), Err(Refusal::Room));
     assert_eq!(out, [0xa5; LENGTH - 1]);
 }
 
@@ -112,18 +111,11 @@ fn counts_other_than_those_of_a_1023() {
     for (values_count, present_count, wanted_count) in
         [(63, 64, 16), (64, 63, 16), (64, 65, 16), (64, 64, 15), (64, 64, 17)]
     {
+        let (values, present, wanted) = (values.as_ptr(), present.as_ptr(), wanted.as_ptr());
+        let (to, room) = (out.as_mut_ptr(), out.len());
         // SAFETY: the pointers are those of slices that do not overlap, and the lengths are at most theirs.
         let answer = unsafe {
-            ffi::tarnoklej_write_heights(
-                values.as_ptr(),
-                values_count,
-                present.as_ptr(),
-                present_count,
-                wanted.as_ptr(),
-                wanted_count,
-                out.as_mut_ptr(),
-                out.len(),
-            )
+            ffi::tarnoklej_write_heights(values, values_count, present, present_count, wanted, wanted_count, to, room)
         };
         assert_eq!(answer, ffi::Written { refusal: 5, length: 0 });
     }
