@@ -33,7 +33,7 @@ export function showMap(message, fields, number) {
   map.grid = gridOf(fields, number);
   map.pointer = null;
   byId("map-problem").textContent = map.grid.problem ?? "";
-  byId("map-body").hidden = map.grid.problem !== undefined;
+  for (const id of ["map-body", "components", "map-middle"]) byId(id).hidden = map.grid.problem !== undefined;
   if (map.grid.problem) return;
   map.pin = { north: map.grid.north, east: map.grid.east };
   chooseComponent(shiftsOnGrid(message, map.grid, map.pin));

@@ -16,13 +16,16 @@ function countKind(list, kind) {
 }
 
 function streamSummary({ frames, entries, bytes, outsideBytes, runs }) {
+  const sound = countKind(frames, "sound");
+  const crc = countKind(entries, "crc");
+  const inRuns = runs ? `, in ${several(runs, "run", "runs")}` : "";
   return [
     fact(bytes.length, bytes.length === 1 ? "byte" : "bytes", "byte-count"),
     fact(frames.length, frames.length === 1 ? "frame" : "frames", "frame-count"),
-    fact(countKind(frames, "sound"), "messages 1021 to 1027 accepted", "sound-count"),
+    fact(sound, `${sound === 1 ? "message" : "messages"} 1021 to 1027 accepted`, "sound-count"),
     fact(countKind(frames, "refused"), "refused", "refused-count"),
-    fact(outsideBytes, `${outsideBytes === 1 ? "byte" : "bytes"} outside frames, in ${several(runs, "run", "runs")}`, "outside-count"),
-    ...(runs ? [fact(countKind(entries, "crc"), "candidates with a wrong CRC", "crc-count"),
+    fact(outsideBytes, `${outsideBytes === 1 ? "byte" : "bytes"} outside frames${inRuns}`, "outside-count"),
+    ...(runs ? [fact(crc, `${crc === 1 ? "candidate" : "candidates"} with a wrong CRC`, "crc-count"),
       fact(countKind(entries, "unfinished"), "not finished", "unfinished-count")] : []),
   ];
 }

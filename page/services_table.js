@@ -37,7 +37,7 @@ function serviceRow(service) {
   const utilized = utilizedOf(service);
   return element("tr", { "data-sin": service.sin ?? "none" },
     element("th", { scope: "row" }, service.sin === null ? "others" : String(service.sin)),
-    ...(service.sin === null ? [element("td", { colspan: GROUPS.length, class: "none" }, "refused messages of no system above")]
+    ...(service.sin === null ? [element("td", { colspan: GROUPS.length, class: "says" }, othersWords(service))]
       : service.groups.map((group, index) => groupCell(group, index, utilized))),
     refusedCell(service));
 }
@@ -63,8 +63,9 @@ function groupCell(group, index, utilized) {
     return element("td", { "data-group": GROUPS[index].name, class: "none" }, ...missing);
   }
   const { last, accepted, changes, lastChange } = group;
-  const often = accepted === 1 ? "once" : `${grouped(accepted)} times, `
-    + (changes === 0 ? "always the same" : `changed ${several(changes, "time", "times")}, last at ${grouped(lastChange.at)}`);
+  const changed = changes === 1 ? "changed" : `${grouped(changes)} changes, last`;
+  const often = accepted === 1 ? "once"
+    : `${grouped(accepted)} times, ${changes === 0 ? "always the same" : `${changed} at ${grouped(lastChange.at)}`}`;
   const notNamed = index > 0 && utilized && !utilized.includes(last.number)
     ? [element("span", { class: "error" }, " not named by DF148")] : [];
   return element("td", { "data-group": GROUPS[index].name, "data-accepted": accepted, "data-changes": changes },
@@ -73,16 +74,20 @@ function groupCell(group, index, utilized) {
     element("div", { class: "says" }, briefly(lastFields(group), last.number), ...notNamed));
 }
 
-function refusedCell({ sin: own, refused }) {
+function refusedCell({ refused }) {
   if (refused.length === 0) return element("td", { "data-group": "Refused", "data-refused": 0, class: "none" }, "none");
   const last = refused.at(-1).entry;
-  const names = counted(refused.map(({ entry }) => entry.refusal), refusalName);
-  const sins = counted(refused.map(({ sin }) => sin ?? 256), (sin) => (sin === 256 ? "not readable" : `SIN ${sin}`));
   return element("td", { "data-group": "Refused", "data-refused": refused.length },
     element("div", { class: "service-line" }, entryButton(last, `${last.number} last at ${grouped(last.at)}`),
       element("span", { class: "hint" }, `${grouped(refused.length)} in all`)),
-    element("div", { class: "says refused-words" }, names),
-    ...(own === null ? [element("div", { class: "says" }, `by their bits: ${sins}`)] : []));
+    element("div", { class: "says refused-words" }, counted(refused.map(({ entry }) => entry.refusal), refusalName)));
+}
+
+const NOT_READABLE = 256;
+
+function othersWords({ refused }) {
+  const sins = counted(refused.map(({ sin }) => sin ?? NOT_READABLE), (sin) => (sin === NOT_READABLE ? "not readable" : `SIN ${sin}`));
+  return `Refused messages of no system above; by their bits: ${sins}`;
 }
 
 // How often each number is in a list, in words.

@@ -3,6 +3,7 @@ import { byId, grouped } from "./text.js";
 
 const TABS = ["recording", "report", "heights", "samples"];
 const MOST_BYTES = 512 * 1024 * 1024;
+const LONG_BYTES = 1024 * 1024; // from here on the reader is told that a file is being read
 
 export function shownTab() {
   return TABS.find((tab) => !byId(`${tab}-panel`).hidden);
@@ -55,8 +56,10 @@ async function openFile(file, opener) {
       + "The command tarnoklej decode reads a stream of any length.";
     return;
   }
-  byId("reading").textContent = `Reading ${file.name} \u2026`;
-  await nextPaint();
+  if (file.size > LONG_BYTES) {
+    byId("reading").textContent = `Reading ${file.name} \u2026`;
+    await nextPaint();
+  }
   try {
     opener(new Uint8Array(await file.arrayBuffer()), file.name);
   } catch (error) {

@@ -20,10 +20,10 @@ def plain(text):
 
 
 class Page:
-    """One browser with the page, the comparisons made in it, and where screenshots go."""
+    """One browser with the page, and the comparisons made in it."""
 
-    def __init__(self, look, pictures=None):
-        self.look, self.pictures = look, pictures
+    def __init__(self, look):
+        self.look = look
         self.passed, self.failed = 0, 0
         self.downloads = tempfile.TemporaryDirectory()
         options = webdriver.ChromeOptions()
@@ -74,7 +74,8 @@ class Page:
 
     def text(self, chosen):
         """The text of an element in sight; nothing where it is hidden."""
-        return plain(self.run("return document.querySelector(arguments[0])?.innerText ?? ''", chosen)) if self.seen(chosen) else ""
+        return plain(self.run("""const one = document.querySelector(arguments[0]);
+            return one?.checkVisibility() ? one.innerText : "";""", chosen))
 
     def value(self, chosen):
         return self.run("return document.querySelector(arguments[0]).value", chosen)
@@ -143,7 +144,5 @@ class Page:
         """Sets the colour scheme, light or dark."""
         self.driver.execute_cdp_cmd("Emulation.setEmulatedMedia", {"features": [{"name": "prefers-color-scheme", "value": name}]})
 
-    def screenshot(self, name):
-        if self.pictures:
-            self.pictures.mkdir(exist_ok=True)
-            self.driver.save_screenshot(str(self.pictures / name))
+    def picture(self, path):
+        self.driver.save_screenshot(str(path))

@@ -5,15 +5,19 @@ from expected import framed
 
 TEXT, MARK = 4.5, 3.0
 
-# Gives [text colour, ground colour, where] for each text in sight; grounds are those of the element and of all around it.
-TEXT_PAIRS = """
+# The ground below an element's text: its own background over those of all around it.
+GROUND = """
     const parse = (colour) => { const parts = colour.match(/[\\d.]+/g).map(Number); return [...parts.slice(0, 3), parts[3] ?? 1]; };
     const over = (top, below) => [0, 1, 2].map((part) => top[part] * top[3] + below[part] * (1 - top[3]));
+    const grounds = new Map([[null, [255, 255, 255]]]);
     const ground = (element) => {
-        const layers = [];
-        for (let one = element; one; one = one.parentElement) layers.push(parse(getComputedStyle(one).backgroundColor));
-        return layers.reverse().reduce((below, top) => over(top, below), [255, 255, 255]);
+        if (!grounds.has(element)) grounds.set(element, over(parse(getComputedStyle(element).backgroundColor), ground(element.parentElement)));
+        return grounds.get(element);
     };
+"""
+
+# Gives [text colour, ground colour, where] for each text in sight.
+TEXT_PAIRS = GROUND + """
     const pairs = new Map();
     const add = (colour, element, below) => {
         const pair = [over(parse(colour), below).map(Math.round), below.map(Math.round)];
@@ -32,14 +36,8 @@ TEXT_PAIRS = """
     }
     return [...pairs.values()];"""
 
-EDGES = """
-    const parse = (colour) => { const parts = colour.match(/[\\d.]+/g).map(Number); return [...parts.slice(0, 3), parts[3] ?? 1]; };
-    const over = (top, below) => [0, 1, 2].map((part) => top[part] * top[3] + below[part] * (1 - top[3]));
-    const ground = (element) => {
-        const layers = [];
-        for (let one = element; one; one = one.parentElement) layers.push(parse(getComputedStyle(one).backgroundColor));
-        return layers.reverse().reduce((below, top) => over(top, below), [255, 255, 255]);
-    };
+# Gives [edge colour, ground colour, where] for each control in sight.
+EDGES = GROUND + """
     const found = [];
     for (const element of document.querySelectorAll("input:not([type]), textarea, select, button:not([role]), .button, .choice span, .open")) {
         if (!element.checkVisibility()) continue;
@@ -104,6 +102,16 @@ def check(page):
         pairs.compare()
     page.scheme("light")
     page.open()
+
+
+def take_pictures(page, folder):
+    folder.mkdir(parents=True, exist_ok=True)
+    for scheme in ("light", "dark"):
+        page.scheme(scheme)
+        page.open()
+        for state in STATES:
+            state(page)
+            page.picture(folder / f"{scheme}-{state.__name__}.png")
 
 
 def start(page):

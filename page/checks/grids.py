@@ -11,6 +11,7 @@ def check(page):
     check_calls(page)
     check_colours(page)
     check_pointer(page)
+    check_without_place(page)
     check_nodes(page)
     check_labels(page)
 
@@ -111,6 +112,15 @@ def check_pointer(page):
     page.equal("the component that is answered is chosen", page.value("#components input:checked"), "2")
     page.run("document.querySelectorAll('#components input')[0].click()")
     page.equal("a component that is off", page.text("#map-refused"), "Hatched: no answer (OFF).")
+
+
+def check_without_place(page):
+    """A grid without an origin, and one whose nodes do not stand apart: words in place of a map."""
+    message = (REPOSITORY / "examples/1023.rtcm").read_bytes()
+    bits = "".join(f"{byte:08b}" for byte in message)
+    for name, word, changed in [("origin", "ORIGIN", bits[:22] + "1" + "0" * 20 + bits[43:]), ("spacing", "SPACING", bits[:65] + "0" * 12 + bits[77:])]:
+        page.load_bytes(int(changed, 2).to_bytes(len(message), "big"))
+        page.holds(f"a grid without {name}", f"({word})" in page.text("#map-problem") and not page.seen("#map-body"))
 
 
 def check_nodes(page):

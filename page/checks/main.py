@@ -1,7 +1,9 @@
 """main.py LOOK [--only PART]... [--pictures FOLDER]: opens look.html in headless Chromium and compares what it shows.
 
+With --pictures it also takes a picture of each state whose contrast is checked, in light and dark.
 Ends with a count; exit status 0 where all is as expected, 1 where something differs, 2 where the words are wrong.
 """
+import argparse
 import sys
 import time
 from pathlib import Path
@@ -28,29 +30,23 @@ PARTS = {part.__name__: part.check for part in (
 
 
 def arguments(words):
-    look, only, pictures = None, [], None
-    while words:
-        word = words.pop(0)
-        if word in ("--only", "--pictures") and words:
-            only, pictures = (only + [words.pop(0)], pictures) if word == "--only" else (only, Path(words.pop(0)))
-        elif look is None and not word.startswith("-"):
-            look = Path(word).resolve()
-        else:
-            sys.exit(2)
-    if look is None or not set(only) <= set(PARTS):
-        print(__doc__.strip() + "\nParts: " + ", ".join(PARTS), file=sys.stderr)
-        sys.exit(2)
-    return look, only or list(PARTS), pictures
+    parser = argparse.ArgumentParser(prog="main.py", description=__doc__.strip(), formatter_class=argparse.RawDescriptionHelpFormatter)
+    parser.add_argument("look", type=lambda word: Path(word).resolve())
+    parser.add_argument("--only", action="append", choices=list(PARTS), metavar="PART", help=", ".join(PARTS))
+    parser.add_argument("--pictures", type=Path, metavar="FOLDER")
+    return parser.parse_args(words)
 
 
 def main():
-    look, parts, pictures = arguments(sys.argv[1:])
-    page = Page(look, pictures)
+    given = arguments(sys.argv[1:])
+    page = Page(given.look)
     try:
-        for name in parts:
+        for name in given.only or PARTS:
             start, before = time.monotonic(), page.passed
             PARTS[name](page)
             print(f"page: {name}: {page.passed - before} comparisons, {time.monotonic() - start:.1f} s")
+        if given.pictures:
+            contrast.take_pictures(page, given.pictures)
     finally:
         page.close()
     print(f"page: {page.passed} passed, {page.failed} failed")

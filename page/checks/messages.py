@@ -144,6 +144,7 @@ def check_datum(page):
     page.equal("the datum step within 0.1 mm of the formula", datum_step_is_near(page), True)
     page.type("#datum-X", "4115000.0000x")
     page.holds("words for a bad X", page.text("#datum-error").startswith("X: metres"))
+    page.holds("no answer then", not page.seen("#datum-answer"))
     page.choose_frame(2867)
     page.equal("a datum step that is refused", page.text("#datum-answer b"), "METHOD")
     page.choose_frame(991)

@@ -39,9 +39,9 @@ def shown_parts(page):
 
 
 def same_words(page, content, kind, at, size):
-    words = page.text("#outside-why")
+    title, words = (plain(text) for text in page.run("""return ["message-title", "outside-why"].map((id) => document.getElementById(id).innerText)"""))
     titles = {"noise": "Noise", "wrong CRC": "Wrong CRC", "not finished": "Not finished"}
-    page.equal(f"title at {at}", page.text("#message-title"), titles[kind])
+    page.equal(f"title at {at}", title, titles[kind])
     if kind == "noise":
         page.holds(f"words at {at}: {words}", words.startswith("No byte here is a D3 with six zero bits"))
         return
@@ -64,11 +64,15 @@ def check_made(page):
     broken = frame[:20] + bytes([frame[20] ^ 4]) + frame[21:]
     lost = frame[:30] + frame[31:]
     noise = bytes([0xD3, 0xFF, 1, 2, 0xD4, 9])
+    not_zero = bytes([0xD3, 0x04, 0, 0, 0, 0, 0xD3, 0x80, 0, 0, 0, 0])
+    within = frame[:40] + b"\xd3\x00\x05" + frame[43:]
     cases = [
         ("one wrong bit", broken, [["wrong CRC", 0, len(frame)]]),
         ("one wrong bit between frames", frame + broken + frame, [["wrong CRC", len(frame), len(frame)]]),
         ("a lost byte between frames", frame + lost + frame, [["wrong CRC", len(frame), len(lost)]]),
         ("noise between frames", frame + noise + frame, [["noise", len(frame), len(noise)]]),
+        ("D3 without six zero bits between frames", frame + not_zero + frame, [["noise", len(frame), len(not_zero)]]),
+        ("a candidate within a broken frame", frame + within + frame, [["wrong CRC", len(frame), len(frame)]]),
         ("noise and a wrong bit", noise + broken + frame, [["noise", 0, 6], ["wrong CRC", 6, len(frame)]]),
         ("a cut frame", frame[:50], [["not finished", 0, 50]]),
         ("a cut frame behind a frame", frame + frame[:50], [["not finished", len(frame), 50]]),

@@ -6,7 +6,8 @@ from pathlib import Path
 from browser import REPOSITORY
 from expected import SECOND, second
 
-POINTS = [("49.0", "11.0"), ("49.0009722", "11.00125"), ("48.9123456", "11.1234567"), ("49.2", "11.0"), ("-90", "-180")]
+POINTS = [("49.0", "11.0"), ("49.0009722", "11.00125"), ("48.9123456", "11.1234567"), ("49.2", "11.0"), ("-90", "-180"),
+          ("49.150972237", "11.0"), ("49.150972235", "11.0")]  # the last two: just beyond the northern side by the nearest step, and on it
 
 
 def check(page):

@@ -108,4 +108,4 @@ def check_others(page):
     page.load_bytes(b"".join(framed(message) for message in (transformation.read_bytes(), cut, short, bytes(other))))
     rows = page.run(ROWS)
     page.equal("refused messages of a service and of none", {row["sin"]: cell_facts(row["cells"][-1])[0] for row in rows}, {"11": 1, "none": 2})
-    page.holds("SINs by bits", "by their bits: SIN 7 × 1, not readable × 1" in rows[1]["cells"][-1]["words"])
+    page.holds("SINs by bits", "by their bits: SIN 7 × 1, not readable × 1" in rows[1]["cells"][0]["words"])

@@ -1,7 +1,7 @@
 """Windows from narrow to wide: nothing stands past the side of the page, and each part has its columns."""
 from browser import REPOSITORY
 
-WIDTHS = [360, 760, 1200, 1500, 2200]
+WIDTHS = [360, 760, 1200, 1600]
 
 
 def check(page):
