@@ -95,7 +95,7 @@ fn agreement(df: u16) -> &'static str {
         204 | 205 => "agree; D13: \"extension\" is the spacing of nodes; D17: 0 is carried",
         198 | 208 => "D5: the printed range is one step more than int15 holds",
         202 => "D1: table 3.3-1 prints ±16,777,203 for int25; D13: the origin is the middle of the grid",
-        203 => "agree; D13: the origin is the middle of the grid; D30: it always has a value",
+        203 => "agree; D13: the origin is the middle of the grid; D34: it always has a value",
         206 | 207 => "D6: 0.01 m, so the mean's factor is 100 and not document 01's 10",
         _ => "agree",
     }
