@@ -1,14 +1,14 @@
 -- The datum step of message 1021: request A12 over formula 3.5-1.
 -- Assumes nothing.
 use Prim.Native.Nat.{ℕ, _^_}
-use mathlib.Core.Bool.{Bool, not, _||_}
-use mathlib.Core.List.{List, [], _∷_, _++_}
+use mathlib.Core.Bool.{Bool, not, cond, _||_}
+use mathlib.Core.List.{List, [], _∷_}
+use lib.Dec.{eqb}
 use lib.IntN.{ℤ, pos}
 use Rattle.arith.specs.First.{Test, first}
 use Rattle.arith.specs.Whole.{sameZ}
 use Rattle.layout.specs.Layout.{valueIn, isAbsent}
 use Rattle.record_transformations.specs.declared.Parameters.{Parameters}
-use Rattle.message_rows.specs.Message.{kindTests}
 use Rattle.message_records.specs.Kinds.{readHelmert}
 use Rattle.datum_formula.specs.declared.Values.{Values}
 use Rattle.datum_formula.specs.declared.Position.{Position}
@@ -43,10 +43,11 @@ stepTests computation p x y z =
     ∷ (15, absent p)
     ∷ []
 
--- behind "1 to 5, KIND if not 1021", as the reader of a 1021 gives them
+-- "1 to 5, KIND if not 1021", which is the refusal of the reader of a 1021; then the tests of the step
 unfoldable pub stepRefusal : List ℕ → (x y z : ℤ) → ℕ
 stepRefusal s x y z =
-    first (kindTests 1021 1021 s ++ stepTests (readHelmert s .value .system .computation) (readHelmert s .value .parameters) x y z)
+    let r = readHelmert s in
+    cond (eqb (r .refusal) 0) (first (stepTests (r .value .system .computation) (r .value .parameters) x y z)) (r .refusal)
 
 -- ---- the answer
 

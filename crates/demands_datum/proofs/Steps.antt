@@ -1,83 +1,40 @@
 -- The demands of request A12 hold: by the promises of `datum_step` and `transformed`.
 -- Assumes nothing.
 use mathlib.Core.Path.{_≡_, refl, sym, ap, _∙_, subst}
-use mathlib.Core.Bool.{false, not, _&&_, _||_}
+use mathlib.Core.Bool.{true, false, not, cond, _||_}
 use mathlib.Core.List.{List}
-use Prim.Native.Nat.{ℕ, _-_, _*_, _^_, _≤_, _<_}
-use native.Mathlib.Omega.{arith}
-use native.Mathlib.Decide.{decLt}
-use borrow.Author.Tests.{ne-eqb, le-ltb, le-leb, lt-leb}
-use lib.Dec.{eqb, leb}
-use lib.IntN.{ℤ, pos, natAbs, _+ℤ_, _-ℤ_, _*ℤ_}
-use lib.ListN.{length}
-use Rattle.arith.specs.First.{first}
+use Prim.Native.Nat.{ℕ, _-_, _*_, _^_}
+use borrow.Author.Tests.{le-ltb}
+use lib.Dec.{eqb}
+use lib.IntN.{ℤ, pos, natAbs}
+use Rattle.arith.specs.First.{Test, first}
 use Rattle.arith.specs.Whole.{sameZ}
-use Rattle.arith.proofs.First.{passed, or-false, passes}
+use Rattle.arith.proofs.First.{first-append, passed, not-false, or-false, passes}
 use Rattle.arith.proofs.Tests.{false-ne-true}
-use Rattle.arith.proofs.Int.{ring, at, nat, minus, _⊞_, _⊟_, _⊠_}
+use Rattle.arith.proofs.Whole.{eqZ-true}
 use Rattle.field.specs.declared.Reading.{Reading}
 use Rattle.field.specs.declared.Reading.the-variants.{Value, Absent}
 use Rattle.layout.specs.Layout.{valueIn, isAbsent}
 use Rattle.record_transformations.specs.declared.Parameters.{Parameters}
-use Rattle.message_rows.specs.Message.{layout, numberOf, kindTests}
-use Rattle.message_rows.proofs.Head.{layout-most}
+use Rattle.message_rows.specs.Message.{kindTests}
 use Rattle.message_records.specs.Kinds.{readHelmert}
+use Rattle.message_records.proofs.HelmertLaws.{helmert-refusal}
 use Rattle.datum_formula.specs.declared.Values.{Values}
 use Rattle.datum_formula.specs.declared.Position.{Position}
-use Rattle.datum_formula.specs.Formula.{rotatedX, rotatedY, rotatedZ, moved, Near, Answered, beyondAny, formulaTests}
-use Rattle.datum_formula.proofs.Refusals.{all-within}
+use Rattle.datum_formula.specs.Formula.{Near, Answered, beyondAny, formulaTests}
+use Rattle.datum_formula.proofs.Refusals.{none-beyond, all-within}
 use Rattle.datum.specs.Step.{absent, valuesIn, stepTests, stepRefusal, Stepped}
-use Rattle.demands_datum.specs.Steps.{exact, rowX, rowY, rowZ, Coordinates, sayings, Bound, inOrder, Fit, FormulaBound}
-
--- ---- the matrix
-
--- the rows of the formula, with the terms in the order of the matrix
-module _ (v : Values) (x y z : ℤ) where
-  abbrev k : ℕ
-  k = 96962736221907
-
-  target-x : moved (v .ds) (rotatedX v x y z) (v .dx) ≡ exact (v .ds) (v .dx) (rowX v) x y z
-  unfolding moved rotatedX
-  target-x =
-      ap (λ (m : ℤ). (pos (10 ^ 11) +ℤ v .ds) *ℤ m +ℤ pos (10 ^ 36) *ℤ v .dx)
-      (ring (nat (10 ^ 24) ⊠ at x ⊞ nat k ⊠ at (v .rz) ⊠ at y ⊟ nat k ⊠ at (v .ry) ⊠ at z)
-      (nat (10 ^ 24) ⊠ at x ⊞ nat k ⊠ at (v .rz) ⊠ at y ⊞ minus (nat k ⊠ at (v .ry)) ⊠ at z) (omega arith))
-
-  target-y : moved (v .ds) (rotatedY v x y z) (v .dy) ≡ exact (v .ds) (v .dy) (rowY v) x y z
-  unfolding moved rotatedY
-  target-y =
-      ap (λ (m : ℤ). (pos (10 ^ 11) +ℤ v .ds) *ℤ m +ℤ pos (10 ^ 36) *ℤ v .dy)
-      (ring (nat (10 ^ 24) ⊠ at y ⊟ nat k ⊠ at (v .rz) ⊠ at x ⊞ nat k ⊠ at (v .rx) ⊠ at z)
-      (minus (nat k ⊠ at (v .rz)) ⊠ at x ⊞ nat (10 ^ 24) ⊠ at y ⊞ nat k ⊠ at (v .rx) ⊠ at z) (omega arith))
-
-  target-z : moved (v .ds) (rotatedZ v x y z) (v .dz) ≡ exact (v .ds) (v .dz) (rowZ v) x y z
-  unfolding moved rotatedZ
-  target-z =
-      ap (λ (m : ℤ). (pos (10 ^ 11) +ℤ v .ds) *ℤ m +ℤ pos (10 ^ 36) *ℤ v .dz)
-      (ring (nat (10 ^ 24) ⊠ at z ⊞ nat k ⊠ at (v .ry) ⊠ at x ⊟ nat k ⊠ at (v .rx) ⊠ at y)
-      (nat k ⊠ at (v .ry) ⊠ at x ⊞ minus (nat k ⊠ at (v .rx)) ⊠ at y ⊞ nat (10 ^ 24) ⊠ at z) (omega arith))
-
-  coordinates : (e : ℕ) (t : Position) → Near e v x y z t → Coordinates e v x y z t
-  coordinates e t h =
-      record {
-        atX = subst (λ (m : ℤ). natAbs (pos (10 ^ 35) *ℤ t .x -ℤ m) ≤ e) target-x (h .atX .within);
-        atY = subst (λ (m : ℤ). natAbs (pos (10 ^ 35) *ℤ t .y -ℤ m) ≤ e) target-y (h .atY .within);
-        atZ = subst (λ (m : ℤ). natAbs (pos (10 ^ 35) *ℤ t .z -ℤ m) ≤ e) target-z (h .atZ .within);
-      }
+use Rattle.demands_datum.specs.Steps.{helmert, sayings, inOrder, Ready, Bound, Fit, FormulaBound}
 
 -- ---- the order
 
-kind-is : (n : ℕ) → (leb 1021 n && leb n 1021) ≡ eqb n 1021
-kind-is n = by (decLt n 1021) (decLt 1021 n)
-  where
-    by : Dec (n < 1021) → Dec (1021 < n) → (leb 1021 n && leb n 1021) ≡ eqb n 1021
-    by (yes l) d = rw (lt-leb 1021 n l, ne-eqb n 1021 (λ e. absurd (omega arith)))
-    by (no l) (yes m) = rw (le-leb 1021 n (omega arith), lt-leb n 1021 m, ne-eqb n 1021 (λ e. absurd (omega arith)))
-    by (no l) (no m) = let e : n ≡ 1021 = omega arith in rw e
+module _ (s : List ℕ) (x y z : ℤ) where
+  abbrev asked : List Test
+  asked = stepTests (helmert s .system .computation) (helmert s .parameters) x y z
 
-pub in-order : (s : List ℕ) (x y z : ℤ) → stepRefusal s x y z ≡ first (inOrder s x y z)
-unfolding stepRefusal
-in-order s x y z = rw (kind-is (numberOf s), le-ltb 96 (length (layout s)) (omega (arith, layout-most s)))
+  pub in-order : stepRefusal s x y z ≡ first (inOrder s x y z)
+  unfolding stepRefusal
+  in-order = ap (λ (r : ℕ). cond (eqb r 0) (first asked) r) (helmert-refusal s) ∙ sym (first-append (kindTests 1021 1021 s) asked tt)
 
 -- ---- an answer of 0
 
@@ -104,22 +61,35 @@ all-say p e =
       ds = has (p .ds) (g .1) i;
     }
 
-none-absent : (s : List ℕ) (x y z : ℤ) → stepRefusal s x y z ≡ 0 → absent (readHelmert s .value .parameters) ≡ false
-unfolding stepRefusal
-none-absent s x y z e =
-    let h = readHelmert s .value in
-    let a = passes (kindTests 1021 1021 s) (stepTests (h .system .computation) (h .parameters) x y z) tt e in
-    let b = passed 8 (beyondAny (10 ^ 11) x y z) _ (a .1) in
-    let c = passed 10 (not (sameZ (h .system .computation) (pos 0))) _ (b .1) in
-    passed 14 (absent (h .parameters)) 0 (c .1) .0
+same : (c : ℤ) → sameZ c (pos 0) ≡ true → c ≡ pos 0
+unfolding sameZ
+same c e = eqZ-true c (pos 0) e
+
+module _ (s : List ℕ) (x y z : ℤ) where
+  none-refused : Ready s x y z → stepRefusal s x y z ≡ 0
+  unfolding stepRefusal sameZ
+  none-refused r = rw (r .accepted, all-within (10 ^ 11) x y z (r .position .0) (r .position .1) (r .position .2), r .method, r .said)
+
+  ready : stepRefusal s x y z ≡ 0 → Ready s x y z
+  ready e =
+      let h = helmert s in
+      let a = passes (kindTests 1021 1021 s) (asked s x y z) tt (sym (in-order s x y z) ∙ e) in
+      let b = passed 8 (beyondAny (10 ^ 11) x y z) _ (a .1) in
+      let c = passed 10 (not (sameZ (h .system .computation) (pos 0))) _ (b .1) in
+      record {
+        accepted = helmert-refusal s ∙ a .0;
+        position = none-beyond (10 ^ 11) x y z (b .0);
+        method = same (h .system .computation) (not-false (sameZ (h .system .computation) (pos 0)) (c .0));
+        values = valuesIn (h .parameters);
+        said = all-say (h .parameters) (passed 14 (absent (h .parameters)) 0 (c .1) .0);
+      }
 
 pub bound : (s : List ℕ) (x y z : ℤ) (t : Position) → Stepped s x y z t → Bound s x y z t
 bound s x y z t h =
     record {
-      near = λ e.
-          let q : stepRefusal s x y z ≡ 0 = sym (h .refusal) ∙ e in
-          let p : Parameters = readHelmert s .value .parameters in
-          record { values = valuesIn p; said = all-say p (none-absent s x y z q); near = coordinates (valuesIn p) x y z (10 ^ 35) t (h .near q) };
+      done = λ r. h .refusal ∙ none-refused s x y z r;
+      ready = λ e. ready s x y z (sym (h .refusal) ∙ e);
+      near = λ r. subst (λ (v : Values). Near (10 ^ 35) v x y z t) (ap valuesIn (r .said)) (h .near (none-refused s x y z r));
       zero = λ f.
           let w = h .zero (λ q. f (h .refusal ∙ q)) in
           (ap (λ (t : Position). t .x) w, ap (λ (t : Position). t .y) w, ap (λ (t : Position). t .z) w);
@@ -131,7 +101,7 @@ pub formula-bound : (v : Values) (x y z : ℤ) (t : Position) → Answered (521 
 formula-bound v x y z t h =
     record {
       done = λ f. h .refusal ∙ none f;
-      near = λ e. coordinates v x y z (521 * 10 ^ 32) t (h .near (sym (h .refusal) ∙ e));
+      near = λ e. h .near (sym (h .refusal) ∙ e);
     }
   where
     none : Fit v x y z → first (formulaTests v x y z) ≡ 0

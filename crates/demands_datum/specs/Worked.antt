@@ -1,17 +1,15 @@
--- Worked examples: one table of rows, each a message, a position, and the number and the target that must be answered.
--- A target is answered within one unit, so a row says that its whole numbers lie there.
+-- Worked examples: one table of rows, each a message, a position, and the answer worked out by the papers.
 -- Assumes nothing.
-use Prim.Native.Nat.{ℕ, _^_}
+use Prim.Native.Nat.{ℕ, _≤_}
 use mathlib.Core.Path.{_≡_}
-use mathlib.Core.Bool.{Bool, true, cond, _&&_}
+use mathlib.Core.Bool.{cond}
 use mathlib.Core.List.{List, [], _∷_}
-use lib.Dec.{eqb, leb}
-use lib.IntN.{ℤ, pos, negsuc, natAbs, _-ℤ_, _*ℤ_}
+use lib.Dec.{eqb}
+use lib.IntN.{ℤ, pos, negsuc, natAbs, _-ℤ_}
 use Rattle.layout.specs.Layout.{blank}
-use Rattle.message_records.specs.Kinds.{readHelmert}
-use Rattle.datum_formula.specs.declared.Values.{Values}
-use Rattle.datum_formula.specs.Formula.{rotatedX, rotatedY, rotatedZ, moved}
-use Rattle.datum.specs.Step.{valuesIn, stepRefusal}
+use Rattle.datum_formula.specs.declared.Position.{Position}
+use Rattle.datum_formula.specs.Formula.{zeros}
+use Rattle.datum.specs.Step.{Stepped}
 
 -- ---- messages 1021 with empty names and all other fields zero
 
@@ -36,53 +34,46 @@ strict =
 
 -- ---- rows
 
-pub record Place : Type 0 where
+pub record Worked : Type 0 where
+  pub message : List ℕ
   pub x : ℤ
   pub y : ℤ
   pub z : ℤ
+  pub answer : Position
 
-pub record Worked : Type 0 where
-  pub message : List ℕ
-  pub from : Place
-  pub number : ℕ
-  pub to : Place
+abbrev pub row : List ℕ → (x y z : ℤ) → Position → Worked
+row m x y z a = record { message = m; x = x; y = y; z = z; answer = a }
 
-abbrev pub place : (x y z : ℤ) → Place
-place x y z = record { x = x; y = y; z = z }
+-- done, with the whole numbers nearest to the exact target
+abbrev pub target : (x y z : ℤ) → Position
+target x y z = record { refusal = 0; x = x; y = y; z = z }
 
-abbrev pub row : List ℕ → Place → ℕ → Place → Worked
-row m a n b = record { message = m; from = a; number = n; to = b }
-
-unfoldable pub table : List Worked
+abbrev pub table : List Worked
 table =
-    row (63 ∷ 208 ∷ blank 50) (place (pos 1) (negsuc 1) (pos 3)) 0 (place (pos 1) (negsuc 1) (pos 3))
-    ∷ row turning (place (pos 36576606600) (pos 2557685500) (pos 52013821100)) 0 (place (pos 36576607741) (pos 2557784300) (pos 52013877491))
-    ∷ row extreme (place (pos 100000000000) (pos 100000000000) (negsuc 99999999999)) 0 (place (pos 100058720245) (pos 58322669203) (negsuc 141626999166))
-    ∷ row (63 ∷ 208 ∷ blank 51) (place (pos 1) (pos 2) (pos 3)) 3 (place (pos 0) (pos 0) (pos 0))
-    ∷ row (63 ∷ 224 ∷ blank 63) (place (pos 1) (pos 2) (pos 3)) 7 (place (pos 0) (pos 0) (pos 0))
-    ∷ row strict (place (pos 1) (pos 2) (negsuc 100000000000)) 9 (place (pos 0) (pos 0) (pos 0))
-    ∷ row strict (place (pos 1) (pos 2) (negsuc 99999999999)) 11 (place (pos 0) (pos 0) (pos 0))
-    ∷ row noScale (place (pos 1) (pos 2) (pos 3)) 15 (place (pos 0) (pos 0) (pos 0))
+    row (63 ∷ 208 ∷ blank 50) (pos 1) (negsuc 1) (pos 3) (target (pos 1) (negsuc 1) (pos 3))
+    ∷ row turning (pos 36576606600) (pos 2557685500) (pos 52013821100) (target (pos 36576607741) (pos 2557784300) (pos 52013877491))
+    ∷ row extreme (pos 100000000000) (pos 100000000000) (negsuc 99999999999) (target (pos 100058720245) (pos 58322669203) (negsuc 141626999166))
+    ∷ row (63 ∷ 208 ∷ blank 51) (pos 1) (pos 2) (pos 3) (zeros 3)
+    ∷ row (63 ∷ 224 ∷ blank 63) (pos 1) (pos 2) (pos 3) (zeros 7)
+    ∷ row strict (pos 1) (pos 2) (negsuc 100000000000) (zeros 9)
+    ∷ row strict (pos 1) (pos 2) (negsuc 99999999999) (zeros 11)
+    ∷ row noScale (pos 1) (pos 2) (pos 3) (zeros 15)
     ∷ []
 
--- within one unit, computed
-abbrev pub within : ℤ → ℤ → Bool
-within answer target = leb (natAbs (pos (10 ^ 35) *ℤ answer -ℤ target)) (10 ^ 35)
+-- of an answer: its number is the row's, and so are its coordinates, those of a target to one unit
+pub record Meets (t a : Position) : Type 0 where
+  pub refusal : t .refusal ≡ a .refusal
+  pub atX : natAbs (t .x -ℤ a .x) ≤ cond (eqb (a .refusal) 0) 1 0
+  pub atY : natAbs (t .y -ℤ a .y) ≤ cond (eqb (a .refusal) 0) 1 0
+  pub atZ : natAbs (t .z -ℤ a .z) ≤ cond (eqb (a .refusal) 0) 1 0
 
-abbrev pub near : Values → Place → Place → Bool
-near v a b =
-    within (b .x) (moved (v .ds) (rotatedX v (a .x) (a .y) (a .z)) (v .dx))
-    && within (b .y) (moved (v .ds) (rotatedY v (a .x) (a .y) (a .z)) (v .dy))
-    && within (b .z) (moved (v .ds) (rotatedZ v (a .x) (a .y) (a .z)) (v .dz))
+-- every answer that is promised of a row's message and position
+abbrev pub Right : Worked → Type 0
+Right w = (t : Position) → Stepped (w .message) (w .x) (w .y) (w .z) t → Meets t (w .answer)
 
-unfoldable pub right : Worked → Bool
-right w =
-    eqb (stepRefusal (w .message) (w .from .x) (w .from .y) (w .from .z)) (w .number)
-    && cond (eqb (w .number) 0) (near (valuesIn (readHelmert (w .message) .value .parameters)) (w .from) (w .to)) true
-
-unfoldable pub allRight : List Worked → Bool
-allRight [] = true
-allRight (w ∷ ws) = right w && allRight ws
+abbrev pub AllRight : List Worked → Type 0
+AllRight [] = Unit {0}
+AllRight (w ∷ ws) = Right w × AllRight ws
 
 abbrev pub WorkedSteps : Type 0
-WorkedSteps = allRight table ≡ true
+WorkedSteps = AllRight table

@@ -18,7 +18,7 @@ use Rattle.frame.proofs.Behind as behind
 use Rattle.frame.proofs.Lengths.{length-frame}
 use Rattle.frame.proofs.Words.{unfinished-calls, calls-unfinished, whole-stands, stands-whole, stands-finished, stands-size}
 use Rattle.frame_writer.proofs.Put.{too-long, no-room, accepted}
-use Rattle.demands_frames.specs.Frames.{WrittenFound, ReadBack, FoundStays, NeedGoesOn, NeedNotEarlier, Empty, FoundAt, NeededAt, NothingFrom, Exactly, WriterRefusals, PublishedFrames}
+use Rattle.demands_frames.specs.Frames.{WrittenFound, ReadBack, FoundStays, NeedGoesOn, NeedNotEarlier, Empty, FirstAt, NothingFrom, Exactly, WriterRefusals, PublishedFrames}
 
 pub written-found : WrittenFound
 written-found before m more h = start.written-found m more h before
@@ -80,11 +80,11 @@ module _ (s : List ℕ) (from : ℕ) (bytes : Bytes s) where
   tail-bytes : (i : ℕ) → Bytes (drop i s)
   tail-bytes i j = rw (getD-drop i s j 0) (bytes (i + j))
 
-  needed : (u : ℕ) → Waiting s from u → NeededAt s from u
+  needed : (u : ℕ) → Waiting s from u → FirstAt Calls s from u
   needed u w =
       record { start = w .start; here = unfinished-calls (drop u s) (w .here); before = λ i l g. clear-empty s i (w .before i l g) }
 
-  stood : (f : ℕ) → Standing s from f → FoundAt s from f (lengthOf (drop f s))
+  stood : (f : ℕ) → Standing s from f → FirstAt (λ (t : List ℕ). Stands t (lengthOf (drop f s))) s from f
   stood f w =
       record { start = w .start; here = whole-stands (drop f s) (tail-bytes f) (w .here); before = λ i l g. clear-empty s i (w .before i l g) }
 
@@ -95,23 +95,23 @@ module _ (s : List ℕ) (from : ℕ) (bytes : Bytes s) where
       go (yes d) = clear-empty s i (w .before i l d)
       go (no d) = past-end s i (omega arith)
 
-  need-then : (u : ℕ) → findFrame s from ≡ need u → NeededAt s from u
+  need-then : (u : ℕ) → findFrame s from ≡ need u → FirstAt Calls s from u
   need-then u e = go (answer s from)
     where
-      go : Answer s from → NeededAt s from u
+      go : Answer s from → FirstAt Calls s from u
       go (waiting v w) = let q : v ≡ u = ap (λ r. r .at) (sym (w .answer) ∙ e) in rw q at (needed v w)
       go (standing g w) = let z : _≡_ {A = ℕ} 19 0 = ap (λ r. r .refusal) (sym e ∙ w .answer) in absurd (omega arith)
       go (nothing w) = let z : _≡_ {A = ℕ} 19 20 = ap (λ r. r .refusal) (sym e ∙ w .answer) in absurd (omega arith)
 
-  found-then : (f n : ℕ) → findFrame s from ≡ found f n → FoundAt s from f n
+  found-then : (f n : ℕ) → findFrame s from ≡ found f n → FirstAt (λ (t : List ℕ). Stands t n) s from f
   found-then f n e = go (answer s from)
     where
-      go : Answer s from → FoundAt s from f n
+      go : Answer s from → FirstAt (λ (t : List ℕ). Stands t n) s from f
       go (waiting v w) = let z : _≡_ {A = ℕ} 0 19 = ap (λ r. r .refusal) (sym e ∙ w .answer) in absurd (omega arith)
       go (standing g w) =
           let q : g ≡ f = ap (λ r. r .at) (sym (w .answer) ∙ e) in
           let l : lengthOf (drop g s) ≡ n = ap (λ r. r .length) (sym (w .answer) ∙ e) in
-          subst (λ (k : ℕ). FoundAt s from k n) q (subst (FoundAt s from g) l (stood g w))
+          subst (λ (k : ℕ). FirstAt (λ (t : List ℕ). Stands t n) s from k) q (subst (λ (k : ℕ). FirstAt (λ (t : List ℕ). Stands t k) s from g) l (stood g w))
       go (nothing w) = let z : _≡_ {A = ℕ} 0 20 = ap (λ r. r .refusal) (sym e ∙ w .answer) in absurd (omega arith)
 
   none-then : findFrame s from ≡ noFrame → NothingFrom s from
@@ -123,7 +123,7 @@ module _ (s : List ℕ) (from : ℕ) (bytes : Bytes s) where
       go (nothing w) = emptied w
 
   -- the places of two answers are the same, since each is empty before the other
-  need-when : (u : ℕ) → NeededAt s from u → findFrame s from ≡ need u
+  need-when : (u : ℕ) → FirstAt Calls s from u → findFrame s from ≡ need u
   need-when u k = go (answer s from)
     where
       inside : u < length s
@@ -146,7 +146,7 @@ module _ (s : List ℕ) (from : ℕ) (bytes : Bytes s) where
               false-ne-true (sym (rw q at (w .ready)) ∙ calls-unfinished (drop u s) (k .here))
       go (nothing w) = absurd (emptied w u (k .start) .no-call (k .here))
 
-  found-when : (f n : ℕ) → FoundAt s from f n → findFrame s from ≡ found f n
+  found-when : (f n : ℕ) → FirstAt (λ (t : List ℕ). Stands t n) s from f → findFrame s from ≡ found f n
   found-when f n k = go (answer s from)
     where
       go : Answer s from → findFrame s from ≡ found f n

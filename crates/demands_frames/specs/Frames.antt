@@ -45,25 +45,21 @@ pub record Empty (s : List ℕ) (i : ℕ) : Type 0 where
   pub no-frame : (n : ℕ) → Stands (drop i s) n → ⊥
   pub no-call : Calls (drop i s) → ⊥
 
-pub record FoundAt (s : List ℕ) (from f n : ℕ) : Type 0 where
+-- place f is the first from `from` on where one of them stands, and it is this one
+pub record FirstAt (Here : List ℕ → Type 0) (s : List ℕ) (from f : ℕ) : Type 0 where
   pub start : from ≤ f
-  pub here : Stands (drop f s) n
+  pub here : Here (drop f s)
   pub before : (i : ℕ) → from ≤ i → i < f → Empty s i
-
-pub record NeededAt (s : List ℕ) (from u : ℕ) : Type 0 where
-  pub start : from ≤ u
-  pub here : Calls (drop u s)
-  pub before : (i : ℕ) → from ≤ i → i < u → Empty s i
 
 abbrev pub NothingFrom : List ℕ → ℕ → Type 0
 NothingFrom s from = (i : ℕ) → from ≤ i → Empty s i
 
 -- each answer is given exactly then
 pub record Exactly (s : List ℕ) (from : ℕ) : Type 0 where
-  pub found-then : (f n : ℕ) → findFrame s from ≡ found f n → FoundAt s from f n
-  pub found-when : (f n : ℕ) → FoundAt s from f n → findFrame s from ≡ found f n
-  pub need-then : (u : ℕ) → findFrame s from ≡ need u → NeededAt s from u
-  pub need-when : (u : ℕ) → NeededAt s from u → findFrame s from ≡ need u
+  pub found-then : (f n : ℕ) → findFrame s from ≡ found f n → FirstAt (λ (t : List ℕ). Stands t n) s from f
+  pub found-when : (f n : ℕ) → FirstAt (λ (t : List ℕ). Stands t n) s from f → findFrame s from ≡ found f n
+  pub need-then : (u : ℕ) → findFrame s from ≡ need u → FirstAt Calls s from u
+  pub need-when : (u : ℕ) → FirstAt Calls s from u → findFrame s from ≡ need u
   pub none-then : findFrame s from ≡ noFrame → NothingFrom s from
   pub none-when : NothingFrom s from → findFrame s from ≡ noFrame
 

@@ -48,7 +48,7 @@ use Rattle.heights_mean.specs.declared.Mean.the-variants.{Is}
 use Rattle.heights_mean.proofs.Choice.{NoneFits, Smallest, smallest, found-or-none}
 use Rattle.heights.specs.Heights.{ofHeight, heightValues, heightPresent, countTests, zeroBeside, saysZero, saysOther, saysNone, recordTests, meanTests, heightsRefusal, heightsMessage}
 use Rattle.heights.proofs.Calls.{message-is}
-use Rattle.demands_heights.specs.Heights.{nodeNorth, nodeEast, Gives, GivesWanted}
+use Rattle.demands_heights.specs.Heights.{stepsAt, Gives, GivesWanted}
 use Rattle.demands_heights.proofs.Metres.{metres-is}
 use Rattle.demands_heights.proofs.Node.{node-answer, node-inside, none-absent, edge-steps}
 use Rattle.demands_heights.proofs.Row.{said, said-unless, place-at, other-value, other-byte, says-other, says-mean, says-node}
@@ -138,7 +138,7 @@ module _ (z wanted : List ℤ) (m : ℤ) (g : Grid) (p : Facts z wanted m g) whe
       (λ x. pos 100 *ℤ valueIn (p .mean x) +ℤ pos (factor x) *ℤ valueIn (h x))
       ∙ ring (nat 100 ⊠ at m ⊞ nat 10 ⊠ (at (Lists.at wanted (4 * i + j)) ⊟ nat 10 ⊠ at m)) (nat 10 ⊠ at (Lists.at wanted (4 * i + j))) (omega arith)
 
-  module _ (held : Held g) (i j : ℕ) (row : i ≤ 3) (column : j ≤ 3) (turns north east : ℤ) (q : north ≡ nodeNorth z i) (r : east ≡ nodeEast z j +ℤ turns *ℤ pos turn) where
+  module _ (held : Held g) (i j : ℕ) (row : i ≤ 3) (column : j ≤ 3) (turns north east : ℤ) (q : north ≡ stepsAt z 4 (pos 3 -ℤ pos (2 * i))) (r : east ≡ stepsAt z 5 (pos (2 * j) -ℤ pos 3) +ℤ turns *ℤ pos turn) where
     -- counted from the south
     abbrev t : ℕ
     t = 3 - i
@@ -327,7 +327,7 @@ module _ (z : List ℤ) (b : List ℕ) (wanted : List ℤ) (n : ℕ) (e : height
           node = λ k l. node-of k l;
         }
 
-    module _ (i j : ℕ) (row-of : i ≤ 3) (column : j ≤ 3) (turns north east : ℤ) (q : north ≡ nodeNorth z i) (r : east ≡ nodeEast z j +ℤ turns *ℤ pos turn) (bound : beyond (pos 1023) north east ≡ false) where
+    module _ (i j : ℕ) (row-of : i ≤ 3) (column : j ≤ 3) (turns north east : ℤ) (q : north ≡ stepsAt z 4 (pos 3 -ℤ pos (2 * i))) (r : east ≡ stepsAt z 5 (pos (2 * j) -ℤ pos 3) +ℤ turns *ℤ pos turn) (bound : beyond (pos 1023) north east ≡ false) where
       abbrev s : List ℕ
       s = message v
 

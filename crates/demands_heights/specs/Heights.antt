@@ -74,13 +74,10 @@ NotLookedAt =
 
 -- ---- "At each node that the rover may ask for, the shift is the wanted height exactly"
 
--- the node in row i from the north and column j from the west, in steps: "Rows and columns stand at the origin plus and minus a half and three halves
--- of the spacing". DF192 to DF195 are 5,000 steps for a raw number, and half of a spacing 2,500
-abbrev pub nodeNorth : List ℤ → ℕ → ℤ
-nodeNorth z i = pos 5000 *ℤ at z 4 +ℤ (pos 3 -ℤ pos (2 * i)) *ℤ pos (2500 * natural (at z 6))
-
-abbrev pub nodeEast : List ℤ → ℕ → ℤ
-nodeEast z j = pos 5000 *ℤ at z 5 +ℤ (pos (2 * j) -ℤ pos 3) *ℤ pos (2500 * natural (at z 7))
+-- h half spacings from the origin, in steps, north or east by the origin's place k: "Rows and columns stand at the origin plus and minus a half and
+-- three halves of the spacing". DF192 to DF195 are 5,000 steps for a raw number, and half of a spacing 2,500
+abbrev pub stepsAt : List ℤ → ℕ → ℤ → ℤ
+stepsAt z k h = pos 5000 *ℤ at z k +ℤ h *ℤ pos (2500 * natural (at z (k + 2)))
 
 -- the height of the three shifts is `height` millimetres: 0, ten counts for each, and as a float the millimetres, made an f64, divided once by 1,000
 pub record Gives (s : ThreeShifts) (height : ℤ) : Type 0 where
@@ -88,9 +85,9 @@ pub record Gives (s : ThreeShifts) (height : ℤ) : Type 0 where
   pub count : s .parts .height .count ≡ pos 10 *ℤ height
   pub metres : s .height ≡ unitsOf 1000 height
 
--- of the message written, at every position within ±3,240,000,000 and ±6,480,000,000 that is the node's up to whole turns
+-- of the message written, for the node in row i from the north and column j from the west, at every position within ±3,240,000,000 and ±6,480,000,000 that is its own up to whole turns
 abbrev pub GivesWanted : Type 0
 GivesWanted =
     (z : List ℤ) (b : List ℕ) (wanted : List ℤ) (n : ℕ) → heightsRefusal z b wanted n ≡ 0 → (i j : ℕ) → i ≤ 3 → j ≤ 3 → (turns north east : ℤ)
-    → north ≡ nodeNorth z i → east ≡ nodeEast z j +ℤ turns *ℤ pos turn → beyond (pos 1023) north east ≡ false
+    → north ≡ stepsAt z 4 (pos 3 -ℤ pos (2 * i)) → east ≡ stepsAt z 5 (pos (2 * j) -ℤ pos 3) +ℤ turns *ℤ pos turn → beyond (pos 1023) north east ≡ false
     → Gives (messageShifts (heightsMessage z b wanted) north east) (at wanted (4 * i + j))

@@ -1,3 +1,4 @@
 pub mod RecordNumbers
 pub mod NamedRows
 pub mod RecordTrips
+pub mod HelmertLaws

@@ -1,12 +1,11 @@
--- The parameters of an accepted 1021 are within the widths of their fields, so the formula refuses none of them.
+-- Two laws of reading a 1021, on which the datum step rests: its refusal, and the widths of its parameters.
 -- Assumes nothing.
 use mathlib.Core.Path.{_≡_, refl, ap, _∙_, subst}
-use mathlib.Core.Bool.{true, false}
+use mathlib.Core.Bool.{true}
 use mathlib.Core.List.{List, _++_}
 use Prim.Native.Nat.{ℕ, _+_, _-_, _^_, _≤_, _<_}
 use native.Mathlib.Omega.{arith}
-use borrow.Author.Tests.{le-ltb}
-use lib.IntN.{ℤ, natAbs}
+use lib.IntN.{natAbs}
 use lib.ListN.{length, getD, length-append, length-replicate}
 use lib.Seq.{getD-append-add}
 use Rattle.arith.specs.First.{first}
@@ -16,37 +15,29 @@ use Rattle.layout.specs.Layout.{allTake, takes, valueIn}
 use Rattle.layout.proofs.Taken.{Upto, bounded, takes-at}
 use Rattle.record_rows.specs.Numbers.{says, numberAt, counterAt}
 use Rattle.layout_tables.specs.Layouts.{names, layoutOf, layout1021, tail1021}
+use Rattle.record_transformations.specs.declared.Parameters.{Parameters}
 use Rattle.record_transformations.specs.Transformations.{behindNames, helmertOf, parametersAt}
-use Rattle.message_rows.specs.Message.{row, rowLayout}
+use Rattle.message_rows.specs.Message.{row, rowLayout, kindTests, kindRefusal}
 use Rattle.message_rows.proofs.OneKind.{kind-of, kind-read}
 use Rattle.message_rows.proofs.Trips.{row-taken, row-layout-of, row-number}
 use Rattle.message_records.specs.Kinds.{readHelmert}
-use Rattle.datum_formula.specs.declared.Values.{Values}
-use Rattle.datum_formula.specs.Formula.{beyondAny, formulaTests}
-use Rattle.datum_formula.proofs.Refusals.{all-within}
-use Rattle.datum.specs.Step.{valuesIn}
 
--- ---- values within the widths of their fields
+-- ---- the refusal: 1 to 5, then 7 KIND
 
-pub record Within (v : Values) : Type 0 where
-  pub dx : natAbs (v .dx) ≤ 2 ^ 22 - 1
-  pub dy : natAbs (v .dy) ≤ 2 ^ 22 - 1
-  pub dz : natAbs (v .dz) ≤ 2 ^ 22 - 1
-  pub rx : natAbs (v .rx) ≤ 2 ^ 31 - 1
-  pub ry : natAbs (v .ry) ≤ 2 ^ 31 - 1
-  pub rz : natAbs (v .rz) ≤ 2 ^ 31 - 1
-  pub ds : natAbs (v .ds) ≤ 2 ^ 24 - 1
+pub helmert-refusal : (s : List ℕ) → readHelmert s .refusal ≡ first (kindTests 1021 1021 s)
+unfolding readHelmert kindRefusal
+helmert-refusal s = refl
 
-pub none-refused : (v : Values) (x y z : ℤ) → Within v → beyondAny (10 ^ 11) x y z ≡ false → first (formulaTests v x y z) ≡ 0
-none-refused v x y z w h =
-    rw (
-      h,
-      all-within (2 ^ 22 - 1) (v .dx) (v .dy) (v .dz) (w .dx) (w .dy) (w .dz),
-      all-within (2 ^ 31 - 1) (v .rx) (v .ry) (v .rz) (w .rx) (w .ry) (w .rz),
-      le-ltb (2 ^ 24 - 1) (natAbs (v .ds)) (w .ds),
-    )
+-- ---- the parameters of an accepted 1021 are within the widths of their fields
 
--- ---- the fields behind both names
+pub record Within (p : Parameters) : Type 0 where
+  pub dx : natAbs (valueIn (p .dx)) ≤ 2 ^ 22 - 1
+  pub dy : natAbs (valueIn (p .dy)) ≤ 2 ^ 22 - 1
+  pub dz : natAbs (valueIn (p .dz)) ≤ 2 ^ 22 - 1
+  pub rx : natAbs (valueIn (p .rx)) ≤ 2 ^ 31 - 1
+  pub ry : natAbs (valueIn (p .ry)) ≤ 2 ^ 31 - 1
+  pub rz : natAbs (valueIn (p .rz)) ≤ 2 ^ 31 - 1
+  pub ds : natAbs (valueIn (p .ds)) ≤ 2 ^ 24 - 1
 
 length-names : (n m : ℕ) → length (names n m) ≡ 3 + n + m
 length-names n m = simp (length-append, length-replicate) (omega arith)
@@ -71,7 +62,7 @@ module _ (v : List Reading) (number : natural (numberAt (says v) 0) ≡ 1021) (t
       (takes-at (names n m ++ tail1021) v by-layout i (omega (arith, length-names n m, length-append (names n m) tail1021))))
       t
 
-  row-within : Within (valuesIn (helmertOf (says v) .parameters))
+  row-within : Within (helmertOf (says v) .parameters)
   unfolding helmertOf parametersAt tail1021
   row-within =
       let b = behindNames (says v) in
@@ -85,12 +76,10 @@ module _ (v : List Reading) (number : natural (numberAt (says v) 0) ≡ 1021) (t
         ds = behind 15 (2 ^ 24 - 1) (omega arith) tt (b + 9 + 6) (omega arith);
       }
 
--- ---- of a message that the reader accepts
-
-pub message-within : (s : List ℕ) → readHelmert s .refusal ≡ 0 → Within (valuesIn (readHelmert s .value .parameters))
+pub helmert-within : (s : List ℕ) → readHelmert s .refusal ≡ 0 → Within (readHelmert s .value .parameters)
 unfolding readHelmert
-message-within s e =
+helmert-within s e =
     let d = kind-of 1021 1021 s e in
     let taken : allTake (rowLayout (row s)) (row s) ≡ true = rw (row-layout-of s (d .accepted)) (row-taken s (d .accepted)) in
-    subst (λ (v : List Reading). Within (valuesIn (helmertOf (says v) .parameters))) (kind-read 1021 1021 s (d .accepted) (d .low) (d .high) .1)
+    subst (λ (v : List Reading). Within (helmertOf (says v) .parameters)) (kind-read 1021 1021 s (d .accepted) (d .low) (d .high) .1)
     (row-within (row s) (omega (arith, row-number s (d .accepted), d .low, d .high)) taken)
