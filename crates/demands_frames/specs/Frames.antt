@@ -1,6 +1,7 @@
 -- Request A1 in its own words, as statements about the bytes lent and the answers to the real calls.
 -- Assumes nothing.
 use Prim.Native.Nat.{ℕ, _+_, _≤_, _<_}
+use mathlib.Core.Bool.{Bool, true}
 use mathlib.Core.List.{List, [], _∷_, _++_}
 use mathlib.Core.Path.{_≡_}
 use lib.ListN.{length, drop}
@@ -8,6 +9,7 @@ use Rattle.frame_crc.specs.Crc.{crc}
 use Rattle.frame.specs.Frames.{frame, found, need, noFrame, findFrame}
 use Rattle.frame.specs.Stream.{stream, Short, ReadsBack}
 use Rattle.frame.specs.Words.{Calls, Stands}
+use Rattle.frame_search.specs.Steps.{stepOf, framesFrom, reported, moved}
 use Rattle.frame_writer.specs.Refusals.{frameRefusal}
 
 -- ---- "frames written one after another are read back in order, each from the last one's end"
@@ -62,6 +64,18 @@ pub record Exactly (s : List ℕ) (from : ℕ) : Type 0 where
   pub need-when : (u : ℕ) → FirstAt Calls s from u → findFrame s from ≡ need u
   pub none-then : findFrame s from ≡ noFrame → NothingFrom s from
   pub none-when : NothingFrom s from → findFrame s from ≡ noFrame
+
+-- ---- frames found by steps over a window that slides
+
+-- w are the bytes that are there, x those that still come: what the search finds from a place is what the step reports and what it finds from the step's next place
+abbrev pub StepRight : Type 0
+StepRight =
+    (w x : List ℕ) (from : ℕ) (ended : Bool) → from ≤ length w → (ended ≡ true → x ≡ [])
+    → framesFrom (w ++ x) from ≡ reported (stepOf w from ended) ++ framesFrom (w ++ x) (stepOf w from ended .next)
+
+-- the frames from a place on are those of the bytes behind the first k, k places further on
+abbrev pub SlideRight : Type 0
+SlideRight = (s : List ℕ) (k : ℕ) → k ≤ length s → (from : ℕ) → framesFrom s (k + from) ≡ moved k (framesFrom (drop k s) from)
 
 -- ---- "the writer gives LENGTH above 1,023 bytes, then ROOM"
 

@@ -2,23 +2,25 @@
 -- Assumes nothing.
 use Prim.Native.Nat.{ℕ, _+_, _-_, _*_}
 use native.Mathlib.Nat.{mul-pos}
+use native.Mathlib.Omega.{arith}
 use mathlib.Core.Path.{_≡_, refl, sym, ap, subst, _∙_}
-use mathlib.Core.Bool.{Bool, true, not, cond, _||_}
+use mathlib.Core.Bool.{Bool, true, false, true≢false, not, cond, _&&_, _||_}
 use mathlib.Core.List.{List, [], _∷_, _++_}
 use mathlib.Core.Logic.{_⊎_, inl, inr}
 use lib.IntN.{ℤ, pos, negℤ, _+ℤ_, _*ℤ_}
 use lib.Signed.{_≤ℤ_, _<ℤ_}
 use lib.Ieee.{binary64, ofInt}
-use borrow.Author.Tests.{ne-eqb}
+use borrow.Author.Tests.{eq-eqb, ne-eqb}
+use lib.Dec.{T, eqb}
 use Rattle.arith.specs.Whole.{sameZ}
-use Rattle.arith.specs.First.{first}
+use Rattle.arith.specs.First.{Test, first}
 use Rattle.record_grids.specs.declared.Grid.{Grid}
 use Rattle.record_grids.specs.declared.Shifts.{Shifts}
 use Rattle.record_grids.specs.Grids.{gridOf, gridRow, settingsOf}
 use Rattle.field.specs.declared.Reading.{Reading}
 use Rattle.layout.specs.Layout.{valueIn, available}
 use Rattle.record_rows.specs.Numbers.{valuesOf, presentOf}
-use Rattle.message_rows.specs.Message.{kindRefusal}
+use Rattle.message_rows.specs.Message.{kindTests, kindRefusal}
 use Rattle.message_records.specs.Kinds.{readGrid}
 use Rattle.grid_bilinear.specs.Bilinear.{outside, cell, inCell, exact, absentIn, absent, interpolated, nearestWhole, LipschitzBound}
 use Rattle.grid_bilinear.proofs.Nearest.{nearest-close, nearest-half, nearest-only}
@@ -28,7 +30,7 @@ use Rattle.grid_shifts.specs.declared.Shift.{Shift}
 use Rattle.grid_shifts.specs.declared.ThreeShifts.{ThreeShifts}
 use Rattle.grid_refusals.specs.Refusals.{ellipsoidal, fieldTests}
 use Rattle.grid_counts.specs.Counts.{nodeFactor}
-use Rattle.grid_shifts.specs.Shift.{surface, northOf, eastOf, outcome, shiftWith, recordShiftRefusal, shiftRefusal, recordShift, messageShift, answerOf, floatOf, threeOf, messageShifts}
+use Rattle.grid_shifts.specs.Shift.{surface, northOf, eastOf, gridTests, outcome, shiftWith, recordShiftRefusal, shiftRefusal, recordShift, messageShift, answerOf, floatOf, threeOf, messageShifts}
 use Rattle.grid_place.specs.Position.{byTurns, eastBy}
 use Rattle.grid_shifts.proofs.Accepted.{message-grid, held-is-written}
 use Rattle.grid_shifts.proofs.Lipschitz.{lipschitz-message, spaced, counted, east-steps}
@@ -36,7 +38,7 @@ use Rattle.message_rows.proofs.Trips.{row-number}
 use Rattle.grid_place.proofs.Antimeridian.{turnsOf, turned-same, turned-low, turned-high, turned-only}
 use Rattle.grid_shifts.proofs.BothLongitudes.{plane, both-sides}
 use Rattle.grid_shifts.proofs.Calls.{shared-answer, calls-agree, count-lossless, sum-below-limit}
-use Rattle.demands_grids.specs.Grids.{gridAt, surfaceAt, northSteps, eastSteps, withNodes, AnsweredAt, exactAt, GridAnswer, SharedEdges, BothCalls, HeldIsWritten, SameWeighted, OnlyWeighted, Lossless, SumBound, AllPresent, stepsNorth, stepsEast, Lipschitz, BoundBetween, ReadsAs, ThreeParts, PlainSteps, plainEast, EastTurned, BothLongitudes}
+use Rattle.demands_grids.specs.Grids.{gridAt, surfaceAt, northSteps, eastSteps, withNodes, AnsweredAt, exactAt, GridAnswer, SharedEdges, BothCalls, HeldIsWritten, SameWeighted, OnlyWeighted, Lossless, SumBound, AllPresent, stepsNorth, stepsEast, Lipschitz, BoundBetween, ReadsAs, ThreeParts, ComponentNeverGiven, PlainSteps, plainEast, EastTurned, BothLongitudes}
 
 -- the refusal answered is the one defined
 refusal-is : (s : List ℕ) (c : ℕ) (n e : ℤ) → AnsweredAt s c n e → shiftRefusal s c n e ≡ 0
@@ -163,6 +165,30 @@ pub parts-are : (s : List ℕ) (n e : ℤ) {r : ThreeShifts} → r ≡ messageSh
     → (r .parts .north ≡ messageShift s 0 n e) × (r .parts .east ≡ messageShift s 1 n e) × (r .parts .height ≡ messageShift s 2 n e)
 unfolding messageShifts threeOf
 parts-are s n e h = (ap (λ (r : ThreeShifts). r .parts .north) h, ap (λ (r : ThreeShifts). r .parts .east) h, ap (λ (r : ThreeShifts). r .parts .height) h)
+
+-- no test of the list has the number k and holds
+abbrev clear : ℕ → List Test → Bool
+clear k [] = true
+clear k (t ∷ ts) = cond (eqb (t .0) k) (not (t .1)) true && clear k ts
+
+never : (k : ℕ) (ts : List Test) → T (clear k ts) → (k ≡ 0 → ⊥) → first ts ≡ k → ⊥
+never k [] p z e = z (sym e)
+never k (t ∷ ts) p z e = by (t .0) (eqb (t .0) k) (t .1) refl p (λ q. never k ts q z) e
+  where
+    by : (n : ℕ) (q x : Bool) → eqb n k ≡ q → T (cond q (not x) true && clear k ts) → (T (clear k ts) → first ts ≡ k → ⊥) → cond x n (first ts) ≡ k → ⊥
+    by n true true f p h e = p
+    by n true false f p h e = h p e
+    by n false true f p h e = true≢false (sym (eq-eqb n k e) ∙ f)
+    by n false false f p h e = h p e
+
+part-not-8 : (s : List ℕ) (c : ℕ) (n e : ℤ) → T (clear 8 (kindTests 1023 1024 s ++ gridTests (gridAt s) c n e)) → messageShift s c n e .refusal ≡ 8 → ⊥
+unfolding messageShift shiftWith outcome shiftRefusal
+part-not-8 s c n e t h = never 8 (kindTests 1023 1024 s ++ gridTests (gridAt s) c n e) t (λ z. absurd (omega arith)) h
+
+pub component-never-given : ComponentNeverGiven
+unfolding messageShifts threeOf
+component-never-given s n e =
+    record { north = part-not-8 s 0 n e tt; east = part-not-8 s 1 n e tt; height = part-not-8 s 2 n e tt }
 
 pub plain-steps : PlainSteps
 unfolding gridOf

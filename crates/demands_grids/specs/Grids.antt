@@ -180,6 +180,15 @@ pub record Merged (r : ThreeShifts) (n e h : Shift) : Type 0 where
 abbrev pub ThreeParts : Type 0
 ThreeParts = (s : List ℕ) (n e : ℤ) → Merged (messageShifts s n e) (messageShift s 0 n e) (messageShift s 1 n e) (messageShift s 2 n e)
 
+-- "COMPONENT is no longer given here"
+pub record NoComponent (r : ThreeShifts) : Type 0 where
+  pub north : r .parts .north .refusal ≡ 8 → ⊥
+  pub east : r .parts .east .refusal ≡ 8 → ⊥
+  pub height : r .parts .height .refusal ≡ 8 → ⊥
+
+abbrev pub ComponentNeverGiven : Type 0
+ComponentNeverGiven = (s : List ℕ) (n e : ℤ) → NoComponent (messageShifts s n e)
+
 -- ---- the difference east of 1023, across the antimeridian
 
 -- "rover minus origin", as plain numbers

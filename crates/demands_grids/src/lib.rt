@@ -3,16 +3,18 @@ ghost use Prim.Native.Nat.{ℕ};
 ghost use mathlib.Core.Path.{_≡_};
 ghost use mathlib.Core.List.{List};
 ghost use Rattle.demands_grids.specs.Worked.{WorkedNumbers, WorkedMetres, GridsRead, GridKPresent};
-ghost use Rattle.demands_grids.specs.Grids.{GridAnswer, SharedEdges, BothCalls, HeldIsWritten, OnlyWeighted, Lossless, SumBound, ThreeParts, BoundBetween, Lipschitz, PlainSteps, EastTurned, BothLongitudes};
+ghost use Rattle.demands_grids.specs.Grids.{GridAnswer, SharedEdges, BothCalls, HeldIsWritten, OnlyWeighted, Lossless, SumBound, ThreeParts, ComponentNeverGiven, BoundBetween, Lipschitz, PlainSteps, EastTurned, BothLongitudes};
 ghost use Rattle.grid_shifts.specs.Shift.{messageShifts};
-ghost use Rattle.demands_grids.specs.Absent.{NoneIsThePattern, UnsignedHasValue, PatternRefused, RefusedIsZero, MeanFormed};
+ghost use Rattle.demands_grids.specs.Absent.{NoneIsThePattern, AcceptedNone, UnsignedHasValue, PatternRefused, RecordPatternRefused, RefusedIsZero, MeanFormed};
 ghost use Rattle.demands_grids.specs.ShiftRows.{RowEqualsCalls, RowRefusedKeeps, RowNumbers, WholeTurn};
 
 // Not available is not a number: what reading says of it, what writing refuses, and that no mean is formed of it.
 pub fn absences()
     ensures none { λ r. ⌜ NoneIsThePattern ⌝ }
+    ensures fields { λ r. ⌜ AcceptedNone ⌝ }
     ensures unsigned { λ r. ⌜ UnsignedHasValue ⌝ }
     ensures written { λ r. ⌜ PatternRefused ⌝ }
+    ensures records { λ r. ⌜ ((out : List ℕ) → RecordPatternRefused out) ⌝ }
     ensures refused { λ r. ⌜ ((s : List ℕ) → RefusedIsZero s) ⌝ }
     ensures mean { λ r. ⌜ MeanFormed ⌝ }
 {}
@@ -27,6 +29,7 @@ pub fn shifts()
     ensures lossless { λ r. ⌜ Lossless ⌝ }
     ensures sum { λ r. ⌜ SumBound ⌝ }
     ensures three { λ r. ⌜ ThreeParts ⌝ }
+    ensures component { λ r. ⌜ ComponentNeverGiven ⌝ }
 {}
 
 // Demand 3: one Lipschitz bound over the whole grid.

@@ -11,7 +11,7 @@ use Rattle.frame.specs.declared.Frame.{Frame}
 use Rattle.frame.specs.Frames.{lengthOf, findFrame}
 use Rattle.frame.proofs.Behind.{Standing, Answer, waiting, standing, nothing, answer}
 use Rattle.frame.proofs.Words.{parts-of}
-use Rattle.frame_search.specs.Inner.{found-step, end-step, pass-step, wait-step, stepBy}
+use Rattle.frame_search.specs.Steps.{found-step, end-step, pass-step, wait-step, stepBy}
 
 module _ (s : List ℕ) (from : ℕ) where
   pub frame-inside : (f : ℕ) → Standing s from f → f + lengthOf (drop f s) + 6 ≤ length s

@@ -12,8 +12,7 @@ use Rattle.frame.specs.declared.Frame.{Frame}
 use Rattle.frame.specs.Frames.{lengthOf, unfinished, whole, found, need, noFrame, findFrame}
 use Rattle.frame.proofs.At.{over, waits, hits}
 use Rattle.frame.proofs.Behind.{Clear, skip, up-to, found-stays, need-goes-on, Waiting, Standing, Nothing, Answer, waiting, standing, nothing, answer}
-use Rattle.frame_search.specs.Inner.{found-step, end-step, pass-step, wait-step, stepBy, stepOf}
-use Rattle.frame_search.specs.Private.{framesWithin, framesFrom, reported, moved}
+use Rattle.frame_search.specs.Steps.{found-step, end-step, pass-step, wait-step, stepBy, stepOf, framesWithin, framesFrom, reported, moved}
 use Rattle.frame_search.proofs.Inside.{frame-inside, place-inside}
 
 -- ---- a round of the whole search

@@ -1,7 +1,7 @@
 // The search for frames in a stream of which a window is held.
 use arith::refusals::NOFRAME;
 ghost use mathlib.Core.Path.{_≡_};
-ghost use Rattle.frame_search.specs.Inner.{stepOf};
+ghost use Rattle.frame_search.specs.Steps.{stepOf};
 
 // What is found at a place, or nothing; the search goes on from `next`, and with `more` where it needs bytes that are not there.
 pub struct Step {

@@ -1,8 +1,10 @@
 -- What the private functions ask for and answer.
 -- Assumes nothing.
 use mathlib.Core.Path.{_≡_}
+use mathlib.Core.Bool.{cond}
 use mathlib.Core.List.{List, _++_}
 use Prim.Native.Nat.{ℕ, _+_, _-_, _≤_, _<_, _*_}
+use lib.Dec.{leb}
 use lib.IntN.{ℤ, pos, natAbs, _+ℤ_, _*ℤ_}
 use lib.ListN.{take, drop}
 use Rattle.arith.specs.Lists.{upTo}
@@ -20,6 +22,10 @@ use Rattle.grid_rows.specs.declared.increments.Quotient.{Quotient}
 -- so many areas, and the rest
 unfoldable pub numberOf : ℕ → ℤ → ℕ → ℤ
 numberOf area whole rest = whole *ℤ pos area +ℤ pos rest
+
+-- the same rounded: half an area or more counts as a whole one
+unfoldable pub halfUp : ℕ → ℤ → ℕ → ℤ
+halfUp area whole rest = cond (leb area (2 * rest)) (whole +ℤ pos 1) whole
 
 -- the sum and what it grows by, added
 pub record Next (area : ℕ) (p by r : Quotient) : Type 0 where

@@ -5,7 +5,7 @@ ghost use lib.IntN.{natAbs, _+ℤ_};
 ghost use lib.ListN.{length};
 ghost use Rattle.arith.specs.Lists.{upTo};
 ghost use Rattle.grid_bilinear.specs.Bilinear.{nearestWhole};
-ghost use Rattle.grid_rows.specs.Private.{Fillable, Next, numberOf, countsFrom};
+ghost use Rattle.grid_rows.specs.Private.{Fillable, Next, numberOf, halfUp, countsFrom};
 
 // A whole number of areas and the rest of a sum.
 pub struct Quotient {
@@ -13,22 +13,26 @@ pub struct Quotient {
     pub rest: u64,
 }
 
-// The whole number nearest to the sum over the area. A rest of half an area is as far from one as from none: below zero it stays, else it counts as one, so halves go away from zero.
+// A whole number of areas and a rest, rounded: half an area or more counts as a whole one.
+fn rounded(whole: i64, rest: u64, area: u64) -> i64
+    requires { ⌜ (rest ≤ area) × (natAbs whole ≤ 10000000001) ⌝ }
+    ensures { λ r. ⌜ r ≡ halfUp area whole rest ⌝ }
+{
+    if area - rest <= rest {
+        return whole + 1;
+    }
+    whole
+}
+
+// The whole number nearest to the sum over the area. The sign is set apart, a negative sum being rounded as its opposite: so halves go away from zero.
 fn nearest(whole: i64, rest: u64, area: u64) -> i64
     requires { ⌜ (rest < area) × (natAbs whole ≤ 10000000000) ⌝ }
     ensures { λ r. ⌜ r ≡ nearestWhole (numberOf area whole rest) area ⌝ }
 {
-    let lack = area - rest;
     if whole < 0 {
-        if lack < rest {
-            return whole + 1;
-        }
-        return whole;
+        return 0 - rounded(0 - (whole + 1), area - rest, area);
     }
-    if rest < lack {
-        return whole;
-    }
-    whole + 1
+    rounded(whole, rest, area)
 }
 
 // One place on: what the sum grows by is added.

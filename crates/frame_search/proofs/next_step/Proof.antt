@@ -5,7 +5,7 @@ use mathlib.Core.Path.{ap, _∙_}
 use native.Mathlib.Omega.{arith}
 use lib.ListN.{length}
 use borrow.Author.Needs.{needs}
-use Rattle.frame_search.specs.Inner.{found-step, end-step, pass-step, wait-step, stepBy, stepOf}
+use Rattle.frame_search.specs.Steps.{found-step, end-step, pass-step, wait-step, stepBy, stepOf}
 use Rattle.frame_search.proofs.Inside.{found-inside, place-inside, when-found, when-none, when-ended, when-waiting}
 use Rattle.frame_search.proofs.next_step.Statement.{statement}
 use Rattle.frame_search.proofs.next_step.Tie as tie
