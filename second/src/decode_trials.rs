@@ -62,6 +62,13 @@ fn numbers_and_lengths() -> Vec<u8> {
     stream
 }
 
+/// Frames of 1021 whose names have every character there is.
+fn every_character() -> Vec<u8> {
+    let characters: Vec<u8> = (0..=255).collect();
+    let samples = characters.chunks(31).map(|name| Sample::new(1021, [name, b""], |_| 0));
+    samples.flat_map(|sample| frame_of(&sample.bytes())).collect()
+}
+
 /// A message of any number and any values, as it is or damaged.
 fn any_message(random: &mut Random) -> Vec<u8> {
     let number = NUMBERS[random.below(7) as usize];
@@ -115,6 +122,7 @@ pub fn write(dir: &Path) -> Result<()> {
     std::fs::create_dir_all(dir)?;
     let mut random = Random::new(32);
     std::fs::write(dir.join("every-value.rtcm"), every_value())?;
+    std::fs::write(dir.join("every-character.rtcm"), every_character())?;
     std::fs::write(dir.join("outside-ranges.rtcm"), outside_ranges())?;
     std::fs::write(dir.join("numbers-and-lengths.rtcm"), numbers_and_lengths())?;
     std::fs::write(dir.join("preambles.rtcm"), [0xd3, 0x03].repeat(5_000))?;

@@ -45,7 +45,7 @@ def main():
         one = json.loads(line)
         if one["kind"] not in ("outside", "end"):
             frames.append(stream[one["at"]:one["at"] + one["length"] + 6])
-    with subprocess.Popen([command, "decode", "--json"], stdin=subprocess.PIPE, stdout=subprocess.PIPE) as child:
+    with subprocess.Popen([command, "decode", "--json"], stdin=subprocess.PIPE, stdout=subprocess.PIPE, stderr=subprocess.DEVNULL) as child:
         reader = Reader(child.stdout)
         place = 0
         for frame in frames:
