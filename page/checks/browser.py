@@ -9,7 +9,7 @@ from selenium.webdriver.common.by import By
 from selenium.webdriver.support.ui import WebDriverWait
 
 REPOSITORY = Path(__file__).resolve().parent.parent.parent
-WAIT = 60
+WAIT = 300  # seconds; a machine that is busy with proofs can be very slow
 ARGUMENTS = ["--headless=new", "--no-sandbox", "--disable-dev-shm-usage", "--disable-gpu", "--hide-scrollbars",
              "--no-first-run", "--disable-background-networking", "--window-size=1500,1440"]
 
@@ -32,6 +32,7 @@ class Page:
         options.add_experimental_option("prefs", {"download.default_directory": self.downloads.name})
         options.set_capability("goog:loggingPrefs", {"browser": "ALL"})
         self.driver = webdriver.Chrome(options=options, service=Service("chromedriver"))
+        self.driver.set_script_timeout(WAIT)
         self.open()
 
     def open(self):
