@@ -8,6 +8,7 @@ from typing import List, Optional, Tuple
 from . import buffers, table_calls
 from .kinds import Message
 from .messages import AnyMessage
+from .refusals import Refusal, Refused
 from .sizes import INDEX_SIZE, TABLE_SIZE
 from .table_calls import Found, Group
 
@@ -81,11 +82,13 @@ class Table:
             table_calls.remove(self._table, self._index, owner, sin, group)
 
     def keys(self, owner: int) -> List[Tuple[int, Group]]:
-        """The system identification number and group of each of an owner's messages, rising."""
+        """The system identification number and group of each of an owner's messages, rising. Refusals: OWNER."""
+        if owner not in (1, 2):
+            raise Refused(Refusal.OWNER)
         _, index = self.buffers()
         entries = (index[at : at + _ENTRY] for at in range(0, INDEX_SIZE, _ENTRY))
-        return [(sin, Group(group)) for of, sin, group, _ in entries if of == owner and of != 0]
+        return [(sin, Group(group)) for of, sin, group, _ in entries if of == owner]
 
     def messages(self, owner: int) -> List[Message]:
-        """An owner's messages in the order of their keys."""
+        """An owner's messages in the order of their keys. Refusals: OWNER."""
         return [self.find(owner, sin, group).read() for sin, group in self.keys(owner)]

@@ -23,17 +23,12 @@ _Path = Union[str, "os.PathLike[str]"]
 def read_table(path: _Path) -> Table:
     """Reads the table of a file, its 4,224 bytes and the 128 of its index.
 
-    An index that does not agree is written anew. Refusals: TABLE, also for a file of another size.
+    The index is written anew, as one that agrees would be the same. Refusals: TABLE, also for a file of another size.
     """
     data = Path(path).read_bytes()
     if len(data) != TABLE_SIZE + INDEX_SIZE:
         raise Refused(Refusal.TABLE)
-    try:
-        return Table(data[:TABLE_SIZE], data[TABLE_SIZE:])
-    except Refused as refused:
-        if refused.refusal != Refusal.INDEX:
-            raise
-        return Table(data[:TABLE_SIZE])
+    return Table(data[:TABLE_SIZE])
 
 
 @contextlib.contextmanager

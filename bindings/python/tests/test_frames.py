@@ -87,14 +87,30 @@ class Live(unittest.TestCase):
     def check(self, source: Any, send: Any, close: Any) -> None:
         found = frames(source)
         send(b"$GPGGA,1\r\n" + self.first)
-        frame = next(found)
+        frame = self.before_the_end(found, close)
         self.assertEqual((frame.at, frame.read()), (10, Message1025(sin=5)))
         send(self.then[:4])
-        late = threading.Timer(0.05, lambda: (send(self.then[4:]), close()))
+        late = threading.Timer(0.05, send, (self.then[4:],))
         late.start()
-        self.assertEqual(next(found).message, b"\x3e\xd0")
+        self.assertEqual(self.before_the_end(found, close).message, b"\x3e\xd0")
         late.join()
+        close()
         self.assertEqual(list(found), [])
+
+    def before_the_end(self, found: Iterator[Frame], close: Any) -> Frame:
+        """The next frame, which must come while the stream is open; it is closed if none comes."""
+        ended = threading.Event()
+
+        def end() -> None:
+            ended.set()
+            close()
+
+        guard = threading.Timer(20, end)
+        guard.start()
+        frame = next(found)
+        guard.cancel()
+        self.assertFalse(ended.is_set(), "the frame was held back")
+        return frame
 
     def test_pipe(self) -> None:
         reading, writing = os.pipe()

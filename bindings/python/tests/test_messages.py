@@ -107,6 +107,10 @@ class Values(unittest.TestCase):
         for values in between:
             with self.assertRaises(ValueError):
                 Message1025.from_scaled(**values)
+        with self.assertRaises(ValueError):
+            Message1023.from_scaled(height_residuals=["0.0005"] * 16)
+        nearest = Message1023.from_scaled(exact=False, height_residuals=["0.0005"] * 16)
+        self.assertEqual(nearest.height_residuals, (1,) * 16)
         with self.assertRaises(KeyError):
             Message1025.from_scaled(height=1)
         self.assertEqual(Message1021.from_scaled(source_name="4936", rotation_x=None).rotation_x, None)

@@ -81,6 +81,8 @@ class Refusals(unittest.TestCase):
             (Refusal.OWNER, self.table.store, (257, Message1025())),
             (Refusal.OWNER, self.table.find, (-1, 255, 2)),
             (Refusal.OWNER, self.table.remove, (3, 255, 2)),
+            (Refusal.OWNER, self.table.keys, (0,)),
+            (Refusal.OWNER, self.table.messages, (3,)),
             (Refusal.SHORT, self.table.store, (1, b"")),
             (Refusal.NONE, self.table.find, (1, 255, 0)),
             (Refusal.NONE, self.table.find, (1, 255, 3)),
