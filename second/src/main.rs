@@ -10,7 +10,7 @@ use std::path::Path;
 use std::process::ExitCode;
 
 /// What the program can be asked for.
-const USAGE: &str = "second selfcheck | papers FILE | fields | positions | example LIST | vectors OUTDIR | services DIR | figures DIR | identify | frames | datum SETS POSITIONS | heights LIST | report | reports DIR | samples | write_samples | samples_table | samples_trials DIR | decode FIELDS MESSAGES [--json] | decode_cuts FIELDS MESSAGES | field_table FIELDS MESSAGES FILE | decode_trials DIR | map FILE COMPONENT | datum_step FILE X Y Z";
+const USAGE: &str = "second selfcheck | papers FILE | fields | positions | example LIST | vectors OUTDIR | calls OUTDIR | services DIR | figures DIR | identify | frames | datum SETS POSITIONS | heights LIST | report | reports DIR | samples | write_samples | samples_table | samples_trials DIR | decode FIELDS MESSAGES [--json] | decode_cuts FIELDS MESSAGES | field_table FIELDS MESSAGES FILE | decode_trials DIR | map FILE COMPONENT | datum_step FILE X Y Z";
 
 /// Success or failure from a truth value.
 fn exit(good: bool) -> ExitCode {
@@ -41,6 +41,12 @@ fn compare_tables(fields: &str, messages: &str, file: &str) -> std::io::Result<b
 /// Writes the cases into a folder.
 fn write_vectors(dir: &str) -> std::io::Result<bool> {
     println!("{} cases", vectors::write(Path::new(dir))?);
+    Ok(true)
+}
+
+/// Writes the vectors of the exported calls into a folder.
+fn write_calls(dir: &str) -> std::io::Result<bool> {
+    println!("{} vectors", vectors::lines::write(Path::new(dir))?);
     Ok(true)
 }
 
@@ -95,6 +101,7 @@ fn run(arguments: &[String]) -> std::io::Result<bool> {
         ["positions"] => print(&positions::comment()),
         ["example", list] => print(&example::all(&std::fs::read_to_string(list)?)?),
         ["vectors", dir] => write_vectors(dir),
+        ["calls", dir] => write_calls(dir),
         ["services", dir] => services::write(Path::new(dir)).map(|()| true),
         ["figures", dir] => figures::write(Path::new(dir)).map(|()| true),
         ["identify"] => print(&format!("{}\n", selfcheck::program_line(&standard_input()?))),

@@ -10,7 +10,6 @@ from tarnoklej.library import library
 
 from . import vectors
 from .asked import asked
-from .test_vectors_tables import checksum
 
 FILLED = 0xA5
 
@@ -40,16 +39,3 @@ class Frames(unittest.TestCase):
         written = library().tarnoklej_write_frame(message, len(message), out, length)
         self.assertEqual([str(written.refusal), str(written.length)], case.answer, case.name)
         self.assertEqual(bytes(out), vectors.unhex(case.parts[0]), case.name)
-
-    def test_write_long(self) -> None:
-        for case in vectors.of("longframe"):
-            count, length = map(int, case.arguments)
-            message = bytes((7 * i + 3) % 256 for i in range(count))
-            refusal, frame = asked(write_frame, message)
-            expected, written, *sums = case.answer
-            if expected == "6":
-                continue
-            self.assertEqual(str(refusal), expected, case.name)
-            if frame is not None:
-                self.assertEqual(str(len(frame)), written, case.name)
-                self.assertEqual(checksum(frame + bytes([FILLED]) * (length - len(frame))), sums, case.name)

@@ -4,7 +4,7 @@ from __future__ import annotations
 
 import struct
 import unittest
-from typing import List, Optional, Sequence, Tuple
+from typing import List, Optional
 
 from tarnoklej import MESSAGES, Component, Position, Refused, Shifts, shift_row, shifts_at, write_heights
 from tarnoklej.buffers import numbers, room, room_for_numbers
@@ -31,15 +31,6 @@ def words_of(shifts: Shifts) -> List[str]:
         bits = str(struct.unpack("<Q", struct.pack("<d", part.value))[0])
         words += ["0", str(part.count), kind, bits, bits]
     return words
-
-
-def checksum(values: Sequence[int]) -> Tuple[int, int]:
-    """The two sums over numbers that second/VECTORS.md gives."""
-    a = b = 0
-    for value in values:
-        a = (a + value % 65_521) % 65_521
-        b = (b + a) % 65_521
-    return a, b
 
 
 class Shifting(unittest.TestCase):
@@ -80,7 +71,7 @@ class Shifting(unittest.TestCase):
 
 class Rows(unittest.TestCase):
     def test_rows(self) -> None:
-        for case in vectors.of("row", "longrow"):
+        for case in vectors.of("row"):
             length, component, north, east, step, count = map(int, case.arguments[:6])
             message = vectors.unhex(case.arguments[6])
             row = room_for_numbers(length)
@@ -89,11 +80,8 @@ class Rows(unittest.TestCase):
                 message, len(message), component, north, east, step, count, row, length
             )
             self.assertEqual(refusal, int(case.answer[0]), case.name)
-            if case.command == "row":
-                expected = [] if case.parts[0] == "-" else [int(word) for word in case.parts[0].split(" ")]
-                self.assertEqual(list(row), expected, case.name)
-            else:
-                self.assertEqual(checksum(list(row)), tuple(map(int, case.answer[1:])), case.name)
+            expected = [] if case.parts[0] == "-" else [int(word) for word in case.parts[0].split(" ")]
+            self.assertEqual(list(row), expected, case.name)
 
     def test_rows_as_lists(self) -> None:
         for case in vectors.of("row"):

@@ -12,16 +12,7 @@ from tarnoklej.library import library
 from . import vectors
 from .asked import asked
 
-COMMANDS = ("table", "index", "poke", "pokeindex", "store", "remove", "find", "sum", "indexsum", "agrees", "rebuild")
-
-
-def checksum(data: bytes) -> List[str]:
-    """The two sums over bytes that second/VECTORS.md gives."""
-    a = b = 0
-    for byte in data:
-        a = (a + byte) % 65_521
-        b = (b + a) % 65_521
-    return [str(a), str(b)]
+COMMANDS = ("table", "index", "poke", "pokeindex", "store", "remove", "find", "bytes", "indexbytes", "agrees", "rebuild")
 
 
 class History:
@@ -50,11 +41,11 @@ class History:
         self.index[int(at)] = int(value)
         return ["ok"]
 
-    def do_sum(self) -> List[str]:
-        return checksum(self.table)
+    def do_bytes(self) -> List[str]:
+        return [self.table.hex() or "-"]
 
-    def do_indexsum(self) -> List[str]:
-        return checksum(self.index)
+    def do_indexbytes(self) -> List[str]:
+        return [self.index.hex() or "-"]
 
     def do_store(self, owner: str, message: str) -> List[str]:
         return self.refusal(store, self.table, self.index, int(owner), vectors.unhex(message))

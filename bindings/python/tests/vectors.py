@@ -1,4 +1,4 @@
-"""The second program's cases, whose form second/VECTORS.md gives."""
+"""The second program's vectors of the exported calls and its cases of records, whose forms second/VECTORS.md gives."""
 
 from __future__ import annotations
 
@@ -9,7 +9,17 @@ from typing import List, NamedTuple, Optional, Sequence, Tuple
 
 from .places import second
 
-KINDS = ("--shift", "--table", "--frame", "--row", "--heights")
+# The fewest vectors that there are of a kind.
+FEWEST = {
+    "read": 3_812,
+    "write": 3_976,
+    "shift": 4_893,
+    "store": 1_912,
+    "find": 1_673,
+    "frame": 1_051,
+    "row": 4_366,
+    "heights": 362,
+}
 
 
 class Case(NamedTuple):
@@ -24,17 +34,24 @@ class Case(NamedTuple):
 
 @functools.lru_cache(maxsize=None)
 def cases() -> Tuple[Case, ...]:
-    """All cases in order."""
+    """All cases in order, those of the exported calls first."""
+    return (*_written_by("calls"), *_written_by("vectors"))
+
+
+def _written_by(command: str) -> List[Case]:
     with tempfile.TemporaryDirectory() as folder:
-        second("vectors", folder, *KINDS)
+        second(command, folder)
         given, expected = (Path(folder, name).read_text().splitlines() for name in ("stdin", "stdout"))
-    return tuple(_case(line, answer) for line, answer in zip(given, expected))
+    assert len(given) == len(expected), f"{len(given)} lines of {command} have {len(expected)} answers"
+    return [_case(line, answer) for line, answer in zip(given, expected)]
 
 
 def of(*commands: str) -> List[Case]:
     """The cases of some commands in order."""
     chosen = [case for case in cases() if case.command in commands]
-    assert chosen, f"no case of {commands}"
+    for command in commands:
+        count = sum(case.command == command for case in chosen)
+        assert count >= FEWEST.get(command, 1), f"{count} cases of {command}"
     return chosen
 
 

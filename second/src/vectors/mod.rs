@@ -6,6 +6,7 @@ mod call;
 mod frames;
 mod heights;
 mod indexes;
+pub mod lines;
 mod parts;
 mod points;
 mod reads;
@@ -120,9 +121,13 @@ fn check_lines(cases: &[Case]) {
     }
 }
 
-/// Writes the cases as the files stdin and stdout of a folder.
+/// Writes the cases of the proved program as the files stdin and stdout of a folder.
 pub fn write(dir: &Path) -> std::io::Result<usize> {
-    let cases = cases();
+    write_files(dir, &cases())
+}
+
+/// Writes lines as the files stdin and stdout of a folder, and gives their number.
+fn write_files(dir: &Path, cases: &[Case]) -> std::io::Result<usize> {
     std::fs::create_dir_all(dir)?;
     std::fs::write(dir.join("stdin"), cases.iter().map(Case::input).collect::<String>())?;
     std::fs::write(dir.join("stdout"), cases.iter().map(Case::output).collect::<String>())?;
