@@ -2,9 +2,12 @@
 -- Assumes nothing.
 use Prim.Native.Nat.{ℕ, _-_, _^_, _≤_}
 use mathlib.Core.Path.{_≡_}
-use mathlib.Core.List.{List, _++_}
+use mathlib.Core.Bool.{not, _||_}
+use mathlib.Core.List.{List, [], _∷_, _++_}
+use lib.Dec.{ltb}
 use lib.IntN.{ℤ, pos, natAbs}
 use Rattle.arith.specs.First.{Test}
+use Rattle.arith.specs.Whole.{sameZ}
 use Rattle.field.specs.declared.Reading.the-variants.{Value}
 use Rattle.record_transformations.specs.declared.Parameters.{Parameters}
 use Rattle.record_transformations.specs.declared.Helmert.{Helmert}
@@ -13,7 +16,7 @@ use Rattle.message_records.specs.Kinds.{readHelmert}
 use Rattle.datum_formula.specs.declared.Values.{Values}
 use Rattle.datum_formula.specs.declared.Position.{Position}
 use Rattle.datum_formula.specs.Formula.{Near}
-use Rattle.datum.specs.Step.{stepTests}
+use Rattle.datum.specs.Step.{absent}
 
 -- ---- the answer to a message and a position
 
@@ -22,7 +25,12 @@ helmert s = readHelmert s .value
 
 -- "Refusals: 1 to 5, KIND if not 1021, POSITION, METHOD if DF150 isn't 0, ABSENT if one of the seven parameters has no value"
 abbrev pub inOrder : List ℕ → (x y z : ℤ) → List Test
-inOrder s x y z = kindTests 1021 1021 s ++ stepTests (helmert s .system .computation) (helmert s .parameters) x y z
+inOrder s x y z =
+    kindTests 1021 1021 s
+    ++ ((9, ltb (10 ^ 11) (natAbs x) || ltb (10 ^ 11) (natAbs y) || ltb (10 ^ 11) (natAbs z))
+    ∷ (11, not (sameZ (helmert s .system .computation) (pos 0)))
+    ∷ (15, absent (helmert s .parameters))
+    ∷ [])
 
 -- each of three is within ±limit
 abbrev pub Inside : ℕ → (a b c : ℤ) → Type 0
