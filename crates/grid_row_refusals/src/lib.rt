@@ -17,7 +17,7 @@ ghost use Rattle.arith.specs.First.{first};
 ghost use Rattle.arith.specs.Lists.{allBelow};
 ghost use Rattle.grid_cell.specs.Private.{Within};
 ghost use Rattle.grid_row_refusals.specs.ShiftRow.{eastAt, anyBeyond, misplaced, shiftRowRefusal};
-ghost use Rattle.grid_row_refusals.specs.Inner.{placesIn};
+ghost use Rattle.grid_row_refusals.specs.Inner.{placesIn, Greatest};
 ghost use Rattle.grid_row_refusals.specs.Private.{lackingAt, Ready, Looked, firstRefused};
 
 // Places of a row that stand in one cell, or one place outside: the refusal of the first of them refused, and how many they are.
@@ -28,7 +28,8 @@ struct Run {
 
 // How many of `left` places stand in a cell of width w, the first x steps from its western edge, and each a step further.
 pub fn places_in(left: usize, w: u64, x: u64, step: u64) -> usize
-    ensures { λ r. ⌜ r ≡ placesIn left w x step ⌝ }
+    ensures number { λ r. ⌜ r ≡ placesIn left w x step ⌝ }
+    ensures greatest { λ r. ⌜ Greatest left w x step r ⌝ }
 {
     if w < x {
         return 0;

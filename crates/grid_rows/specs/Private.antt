@@ -14,6 +14,7 @@ use Rattle.grid_place.specs.declared.Located.{Located}
 use Rattle.record_grids.specs.declared.Settings.{Settings}
 use Rattle.grid_shifts.specs.Shift.{messageShift}
 use Rattle.grid_row_refusals.specs.ShiftRow.{eastAt}
+use Rattle.grid_row_refusals.specs.Inner.{placesIn}
 use Rattle.grid_row_refusals.specs.Private.{Ready}
 use Rattle.grid_bilinear.specs.Bilinear.{nearestWhole}
 use Rattle.grid_cell.specs.Inner.{sumOf}
@@ -87,3 +88,7 @@ pub record Filled (f : ℕ → ℤ) (i count : ℕ) (before after : List ℤ) (r
   pub some : i < r
   pub most : r ≤ count
   pub row : after ≡ take i before ++ (upTo (λ j. f (i + j)) (r - i) ++ drop r before)
+
+-- "division only where a row begins or enters a new cell": the run from place i on, in the cell of p, ends where the cell does or the row
+abbrev pub ToTheEdge : Located → (step i count r : ℕ) → Type 0
+ToTheEdge p step i count r = r ≡ i + placesIn (count - i) (p .width) (p .east) step

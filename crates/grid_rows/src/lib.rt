@@ -15,8 +15,9 @@ ghost use Rattle.layout.specs.Layout.{valueIn};
 ghost use Rattle.grid_fields.specs.Inner.{meanSays, cellSays};
 ghost use Rattle.grid_counts.specs.Counts.{nodeFactor, meanFactor};
 ghost use Rattle.grid_counts.specs.Inner.{valuesIn};
-ghost use Rattle.grid_row_refusals.specs.ShiftRow.{shiftRowRefusal, shiftRowFilled};
-ghost use Rattle.grid_rows.specs.Private.{Split, Run, numberOf, cellCounts, Standing, Answered, Filled, countAt};
+ghost use Rattle.grid_place.specs.Inner.{heldPlace};
+ghost use Rattle.grid_row_refusals.specs.ShiftRow.{eastAt, shiftRowRefusal, shiftRowFilled};
+ghost use Rattle.grid_rows.specs.Private.{Split, Run, numberOf, cellCounts, Standing, Answered, Filled, ToTheEdge, countAt};
 
 mod increments;
 
@@ -128,7 +129,8 @@ fn fill_from(
     step: u64,
 ) -> usize
     requires { ⌜ Answered (now message) f component north east step count (length (now row)) × (i < count) ⌝ }
-    ensures { λ r. ⌜ Filled (countAt (now (message .entry)) component north east (pos step)) i count (now (row .entry)) (now (row .exit)) r ⌝ }
+    ensures filled { λ r. ⌜ Filled (countAt (now (message .entry)) component north east (pos step)) i count (now (row .entry)) (now (row .exit)) r ⌝ }
+    ensures reaches { λ r. ⌜ ToTheEdge (heldPlace f component north (eastAt east (pos step) i)) step i count r ⌝ }
 {
     let t = east + (i as u64 * step) as i64;
     let p = grid_place::locate(f, component, north, t);

@@ -25,12 +25,12 @@ add-result c = record { fits = omega (arith, whole-most (c .before)) }
 returns : tie.Need-returns
 returns c =
     let s = c .before in
-    (sym (half-up (s .args .size) (s .args .area) (s .pre .1) (c .if1 .taken)), omega (arith, whole-most s))
+    (sym (half-up (s .args .size) (s .args .area) (s .pre .1) (omega (arith, c .if1 .taken))), omega (arith, whole-most s))
 
 returns-2 : tie.Need-returns-2
 returns-2 c =
     let s = c .before in
-    (sym (half-down (s .args .size) (s .args .area) (s .pre .1) (c .if1 .left)), omega (arith, whole-most s))
+    (sym (half-down (s .args .size) (s .args .area) (s .pre .1) (omega (arith, c .if1 .left))), omega (arith, whole-most s))
 
 pub rounded-spec : {M : Type 1} → statement M
 rounded-spec = tie.close (tie.spec (λ c. search needs) (λ c. search needs) mul-if1 add-result returns returns-2)

@@ -57,7 +57,7 @@ module _ (q : tie.After-places-in) where
 
   reach : Reaches (b .args .left) (p k .width) (p k .east) (b .args .step) (q .places-in .result)
   reach =
-      subst (Reaches (b .args .left) (p k .width) (p k .east) (b .args .step)) (sym (q .places-in .ensures))
+      subst (Reaches (b .args .left) (p k .width) (p k .east) (b .args .step)) (sym (q .places-in .ensures .0))
       (reaches (b .args .left) (p k .width) (p k .east) (b .args .step) (b .pre .1) (within .east))
 
 run-refusal-requires : tie.Need-run-refusal-requires

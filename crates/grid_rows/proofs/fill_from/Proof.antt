@@ -18,6 +18,7 @@ use Rattle.grid_place.specs.declared.Located.{Located}
 use Rattle.grid_counts.specs.Counts.{nodeFactor, meanFactor}
 use Rattle.grid_counts.specs.Inner.{valuesIn}
 use Rattle.grid_row_refusals.specs.ShiftRow.{eastAt}
+use Rattle.grid_row_refusals.specs.Inner.{placesIn}
 use Rattle.grid_row_refusals.proofs.Reaches.{Reaches, reaches}
 use Rattle.grid_row_refusals.proofs.Rest.{stands, way-most}
 use Rattle.grid_rows.specs.Private.{cellCounts, countAt}
@@ -57,7 +58,7 @@ module _ (q : tie.After-places-in) where
 
   reach : Reaches (b .args .count - b .args .i) (p k .width) (p k .east) (b .args .step) n
   reach =
-      subst (Reaches (b .args .count - b .args .i) (p k .width) (p k .east) (b .args .step)) (sym (q .places-in .ensures))
+      subst (Reaches (b .args .count - b .args .i) (p k .width) (p k .east) (b .args .step)) (sym (q .places-in .ensures .0))
       (reaches (b .args .count - b .args .i) (p k .width) (p k .east) (b .args .step) (omega (arith, b .pre .1)) (bounds (b .pre .0) (b .args .i) (b .pre .1) (is k) .within .east))
 
   inside : end ≤ b .args .count
@@ -92,16 +93,18 @@ returns c =
     (valuesIn (cellSays (a .message .now) (a .component) (w .row) (w .column)))) l in
     let filled =
     c .before .fill-run .ensures ∙ (λ i. counts (held (a .f .number) (d .struct-told .given .0 .1) i) (long q i))
-    ∙ counts-are (z .pre .0) (a .i) (z .pre .1) (is (k q)) (n q) (r .most) (r .last) in
-    record {
-      some = omega (arith, r .some);
-      most = inside q;
-      row =
-          ap (putMid (a .i) (a .i + n q - a .i) (a .row .now)) filled
-          ∙ ap (λ (l : List ℤ). take (a .i) (a .row .now) ++ (upTo (λ j. countAt (a .message .now) (a .component) (a .north) (a .east) (pos (a .step)) (a .i + j)) (n q) ++ l))
-          (post-is (a .i) (a .i + n q) (a .row .now) (omega arith))
-          ∙ ap (λ (m : ℕ). take (a .i) (a .row .now) ++ (upTo (λ j. countAt (a .message .now) (a .component) (a .north) (a .east) (pos (a .step)) (a .i + j)) m ++ drop (a .i + n q) (a .row .now))) (sym v);
-    }
+    ∙ counts-are (z .pre .0) (a .i) (z .pre .1) (is (k q)) (n q) (r .most) (r .last) in (
+      record {
+        some = omega (arith, r .some);
+        most = inside q;
+        row =
+            ap (putMid (a .i) (a .i + n q - a .i) (a .row .now)) filled
+            ∙ ap (λ (l : List ℤ). take (a .i) (a .row .now) ++ (upTo (λ j. countAt (a .message .now) (a .component) (a .north) (a .east) (pos (a .step)) (a .i + j)) (n q) ++ l))
+            (post-is (a .i) (a .i + n q) (a .row .now) (omega arith))
+            ∙ ap (λ (m : ℕ). take (a .i) (a .row .now) ++ (upTo (λ j. countAt (a .message .now) (a .component) (a .north) (a .east) (pos (a .step)) (a .i + j)) m ++ drop (a .i + n q) (a .row .now))) (sym v);
+      },
+      ap (λ (m : ℕ). a .i + m) (q .places-in .ensures .0) ∙ ap (λ (l : Located). a .i + placesIn (a .count - a .i) (l .width) (l .east) (a .step)) (is (k q)),
+    )
 
 pub fill-from-spec : {M : Type 1} → statement M
 fill-from-spec =

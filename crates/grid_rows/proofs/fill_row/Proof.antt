@@ -46,7 +46,7 @@ loop-again : tie.Need-loop-again Inv-loop μ-loop
 loop-again c =
     let l = c .before .before .before .before in
     let s = l .before .before in
-    let r = c .before .fill-from .ensures in (
+    let r = c .before .fill-from .ensures .0 in (
       r .most,
       c .before .fill-from .kept .0 ∙ l .loop .inv .1,
       fills-on (counts s) (s .args .row .now) (l .loop .row) (l .loop .i) (l .loop .inv .2) _ _ (r .some) (r .row),
@@ -69,7 +69,7 @@ fill-row-spec =
     μ-loop
     loop-holds
     fill-from-requires
-    (λ c. omega (arith, c .before .fill-from .ensures .some, c .before .fill-from .ensures .most))
+    (λ c. omega (arith, c .before .fill-from .ensures .0 .some, c .before .fill-from .ensures .0 .most))
     loop-again
     (λ c. c .before .loop .inv .1)
     returns)
