@@ -164,7 +164,7 @@ pub fn right_claims(message: &[u8], points: &[Point]) -> Result<Vec<Claim>, Refu
 }
 
 /// Writes the file of a message and points: refusals 1 to 5 and KIND of the message, LENGTH for buffers of different
-/// counts (decision D79), the refusal of the first refused point, LENGTH above 1,000 points, ROOM.
+/// counts (decision D81), the refusal of the first refused point, LENGTH above 1,000 points, ROOM.
 pub fn write(message: &[u8], points: &Points, room: usize) -> Result<Vec<u8>, Refusal> {
     grid_message(message)?;
     let points = points.list().ok_or(Refusal::Length)?;

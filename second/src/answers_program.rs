@@ -1,4 +1,4 @@
-//! The programs samples and write_samples: a file's check as a line, and the file of a text (document 02, A13; decision D83).
+//! The programs samples and write_samples: a file's check as a line, and the file of a text (document 02, A13; decision D85).
 
 use crate::answers::{check, write, Checked, Point, Points};
 

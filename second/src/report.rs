@@ -48,7 +48,7 @@ impl Report {
         numbers
     }
 
-    /// The tally as it is read: with no point answered it has no smallest and no greatest count, whatever stands there (D74).
+    /// The tally as it is read: with no point answered it has no smallest and no greatest count, whatever stands there (D76).
     fn as_read(&self) -> Report {
         match self.answered {
             0 => Report { smallest: 0, greatest: 0, smallest_place: 0, greatest_place: 0, ..*self },
@@ -98,7 +98,7 @@ pub fn report(message: &[u8], component: u8, points: &[Point]) -> Result<Report,
     Ok(report_of(&answers(message, component, points)))
 }
 
-/// The same of two lists, the positions north and those east, which must have one length (decision D71).
+/// The same of two lists, the positions north and those east, which must have one length (decision D73).
 pub fn report_points(message: &[u8], component: u8, north: &[i64], east: &[i64]) -> Result<Report, Refusal> {
     known(component)?;
     if north.len() != east.len() {
@@ -109,7 +109,7 @@ pub fn report_points(message: &[u8], component: u8, north: &[i64], east: &[i64])
 }
 
 /// A tally with one more point: COMPONENT, then LENGTH for a tally of 10,000 points or more or with a sum past 10^11 without
-/// sign (decisions D72 and D73).
+/// sign (decisions D74 and D75).
 pub fn tallied(tally: &Report, message: &[u8], component: u8, point: Point) -> Result<Report, Refusal> {
     let component = known(component)?;
     if tally.points() >= MOST_POINTS as u128 || tally.sum.unsigned_abs() > GREATEST_SUM {

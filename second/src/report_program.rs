@@ -2,7 +2,7 @@
 
 use crate::report::{report, Point};
 
-/// The most bytes of a line, and of the message in the first one (decision D75).
+/// The most bytes of a line, and of the message in the first one (decision D77).
 pub const LONGEST_LINE: usize = 900;
 pub const LONGEST_MESSAGE: usize = 400;
 
