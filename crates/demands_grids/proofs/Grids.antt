@@ -1,4 +1,4 @@
--- The demands on the shift hold: each statement of specs/Grids.antt, from the laws of `bilinear` and `grid`.
+-- The demands on the shift hold: each statement of specs/Grids.antt, from the laws of grid_bilinear and grid_shifts.
 -- Assumes nothing.
 use Prim.Native.Nat.{ℕ, _+_, _-_, _*_}
 use native.Mathlib.Nat.{mul-pos}

@@ -1,4 +1,4 @@
--- The demands on rows of shifts hold: each statement of specs/ShiftRows.antt, from the laws of `shift_row_refusals` and `grid`.
+-- The demands on rows of shifts hold: each statement of specs/ShiftRows.antt, from the laws of grid_row_refusals and grid_shifts.
 -- Assumes nothing.
 use Prim.Native.Nat.{ℕ, zero, suc, _+_, _-_, _≤_, _<_}
 use native.Mathlib.Omega.{arith}

@@ -1,4 +1,4 @@
--- The demands on messages hold: each statement of specs/Messages.antt, from the laws of `layout`, `layouts`, `wire`, the records and `message`.
+-- The demands on messages hold: each statement of specs/Messages.antt, from the laws of layouts, of rows, of the records and of messages.
 -- Assumes nothing.
 use Prim.Native.Nat.{ℕ, _+_, _*_, _≤_, _<_}
 use native.Mathlib.Omega.{arith}

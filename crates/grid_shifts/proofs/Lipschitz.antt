@@ -1,4 +1,4 @@
--- Demand 3 of the answers given: an answer with refusal 0 is the interpolated one, inside the grid, so the bound of `bilinear` holds of it.
+-- Demand 3 of the answers given: an answer with refusal 0 is the interpolated one, inside the grid, so the bound of grid_bilinear holds of it.
 -- Assumes nothing.
 use mathlib.Core.Path.{_≡_, _∙_}
 use mathlib.Core.List.{List}

@@ -1,4 +1,4 @@
--- What private functions ask: `around` of a place, and those of `reports` of prepared numbers and how these serve.
+-- What private functions ask: `around` of a place, and those of report_points of prepared numbers and how these serve.
 -- Assumes nothing.
 use mathlib.Core.Path.{_≡_}
 use mathlib.Core.List.{List}
