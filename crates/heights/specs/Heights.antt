@@ -37,7 +37,7 @@ heightPresent b = upTo (presentWith b) 64
 
 -- ---- refusals
 
--- "counts other than 64, 64 and 16: RANGE", before all else: no record can be read from them
+-- RANGE for counts other than 64, 64 and 16, before all else: no record can be read from them
 abbrev pub countTests : List ℤ → List ℕ → List ℤ → List Test
 countTests z b wanted =
     (5, not (eqb (length z) 64)) ∷ (5, not (eqb (length b) 64)) ∷ (5, not (eqb (length wanted) 16)) ∷ []

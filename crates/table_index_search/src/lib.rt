@@ -201,7 +201,7 @@ fn is_listed(marks: &[u64], index: &[u8], i: usize) -> bool
     entry_place(index, key, i) < ENTRIES
 }
 
-// Whether entry i and slot i are as they agree.
+// Whether entry i and slot i are as in an index and a table that agree.
 fn agree_at(marks: &[u64], index: &[u8], i: usize) -> bool
     requires { ⌜ (length (now marks) ≡ entries) × ((length (now index) ≡ indexSize) × (i < entries)) ⌝ }
     ensures { λ r. ⌜ r ≡ agreeAt (now (marks .entry)) (now (index .entry)) i ⌝ }
@@ -215,7 +215,7 @@ fn agree_at(marks: &[u64], index: &[u8], i: usize) -> bool
     is_listed(marks, index, i)
 }
 
-// Whether all entries and slots are as they agree.
+// Whether all entries and slots are as in an index and a table that agree.
 fn all_agree(marks: &[u64], index: &[u8]) -> bool
     requires { ⌜ (length (now marks) ≡ entries) × (length (now index) ≡ indexSize) ⌝ }
     ensures { λ r. ⌜ r ≡ allBelow (agreeAt (now (marks .entry)) (now (index .entry))) entries ⌝ }
