@@ -47,7 +47,7 @@ pub struct Quantity {
 
 impl Unit {
     /// The unit of a number in the library's shifts, or nothing for that of a refused part.
-    pub(crate) const fn of_shift(number: u8) -> Option<Unit> {
+    pub const fn of_shift(number: u8) -> Option<Unit> {
         match number {
             1 => Some(Unit::ArcSecond),
             2 => Some(Unit::Metre),

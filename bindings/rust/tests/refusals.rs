@@ -39,6 +39,11 @@ fn a_number_is_one_refusal_or_none() {
     }
 }
 
+/// The first number that is read as a unit of a shift, or as none.
+fn number_of(unit: Option<Unit>) -> usize {
+    (0..=255).find(|number| Unit::of_shift(*number) == unit).map(usize::from).expect("a number of the unit")
+}
+
 #[test]
 fn sizes_components_and_groups_are_the_headers() {
     let ours = [
@@ -64,6 +69,9 @@ fn sizes_components_and_groups_are_the_headers() {
         ("TRANSFORMATION", usize::from(Group::Transformation.number())),
         ("GRID", usize::from(Group::Grid.number())),
         ("PROJECTION", usize::from(Group::Projection.number())),
+        ("NO_UNIT", number_of(None)),
+        ("ARC_SECONDS", number_of(Some(Unit::ArcSecond))),
+        ("METRES", number_of(Some(Unit::Metre))),
     ];
     let header = enumerated(&text_of("include/tarnoklej.h"));
     let first = header.iter().position(|(name, _)| name == "TABLE_SIZE").expect("the sizes");
