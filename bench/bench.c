@@ -157,7 +157,8 @@ static int same_parts(const tarnoklej_shifts *one, const tarnoklej_shifts *other
            memcmp(&one->height, &other->height, sizeof one->height) == 0 && one->north_count == other->north_count &&
            one->east_count == other->east_count && one->height_count == other->height_count &&
            one->north_refusal == other->north_refusal && one->east_refusal == other->east_refusal &&
-           one->height_refusal == other->height_refusal;
+           one->height_refusal == other->height_refusal && one->north_unit == other->north_unit &&
+           one->east_unit == other->east_unit && one->height_unit == other->height_unit;
 }
 
 /* Whether the shifts of a message at one position are the library's. */
