@@ -1,4 +1,6 @@
 // The exported interface: include/tarnoklej.h.
+#![tactic(auto)]
+
 ghost use Rattle.std.specs.Prelude.{◌≡◌, length};
 ghost use Rattle.message_rows.specs.Message.{header, row_refusal, values_read, present_read, write_row};
 ghost use Rattle.capi.specs.Exported.{unit_of, exported_shifts};
@@ -50,7 +52,7 @@ pub extern "C" fn tarnoklej_write_fields(
 
 // The three shifts in arc seconds or metres, with their counts, refusal numbers and units.
 #[repr(C)]
-#[derive(Drop)]
+#[derive(Clone, Copy)]
 pub struct Shifts {
     pub north: f64,
     pub east: f64,

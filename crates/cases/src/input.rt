@@ -2,14 +2,14 @@
 use libc::STDIN_FILENO;
 
 // The bytes of the window that are not used up: those from `from` on, below `end`.
-#[derive(Drop)]
+#[derive(Clone, Copy)]
 pub(crate) struct Held {
     pub from: usize,
     pub end: usize,
 }
 
 // A line's place in the window and its length without the newline, and what is held behind it; `ended` where there is no further line.
-#[derive(Drop)]
+#[derive(Clone, Copy)]
 pub(crate) struct Got {
     pub ended: bool,
     pub from: usize,

@@ -1,5 +1,7 @@
 // Reads cases from standard input, one to a line, and prints the answer to each, one to a line: second/VECTORS.md has the forms.
 // It runs what the exported calls do not reach. At most 40,000 lines are read. A line that is no case is answered by its name and `?`.
+#![tactic(auto)]
+
 mod fields;
 mod grids;
 mod input;

@@ -7,13 +7,13 @@ pub(crate) type Values = [i64; 96];
 pub(crate) type Present = [u8; 96];
 
 // A position in whole steps.
-#[derive(Drop)]
+#[derive(Clone, Copy)]
 pub(crate) struct Place {
     pub north: i64,
     pub east: i64,
 }
 
-#[derive(Drop)]
+#[derive(Clone, Copy)]
 pub(crate) enum Asked {
     Is(Place),
     Bad,

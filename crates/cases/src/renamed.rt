@@ -5,7 +5,7 @@ use record_transformations::{Helmert, MolodenskiBadekas, Name};
 use text_numerals::{Byte, Count};
 
 // What a name gets: a length, and a character at a place where the name has that place.
-#[derive(Drop)]
+#[derive(Clone, Copy)]
 struct Change {
     length: usize,
     place: usize,
@@ -46,7 +46,7 @@ fn name_with(r: Name, c: Change) -> Name {
     }
 }
 
-#[derive(Drop)]
+#[derive(Clone, Copy)]
 enum Asked {
     Is(Change),
     Bad,

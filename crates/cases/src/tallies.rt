@@ -5,7 +5,7 @@ use report_update::{Report, Tally};
 use text_numerals::{Byte, Count, Integer};
 
 // A tally in words, `bad` where they spell none.
-#[derive(Drop)]
+#[derive(Clone, Copy)]
 struct Read {
     bad: bool,
     tally: Tally,

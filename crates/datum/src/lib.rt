@@ -1,4 +1,6 @@
 // The datum step of message 1021: its seven parameters applied to a position. It rests on the promises of the reader of a 1021 alone.
+#![tactic(auto)]
+
 ghost use Rattle.std.specs.Prelude.{◌*◌, ◌^◌, cond};
 ghost use Rattle.arith.specs.First.{first};
 ghost use Rattle.datum_formula.specs.Formula.{formula_tests, Answered};

@@ -1,4 +1,6 @@
 // Formula 3.5-1: the linearised seven-parameter transformation of a position, in whole numbers.
+#![tactic(auto)]
+
 ghost use Rattle.arith.specs.First.{first};
 ghost use Rattle.std.specs.Prelude.{◌≡◌, ◌+◌, ◌*◌, ◌^◌, ◌≤◌, nat_abs, ◌*ℤ◌};
 ghost use Rattle.datum_formula.specs.Formula.{rotation, moved, About, Near, Answered, beyond_any, formula_tests, zeros};
@@ -7,7 +9,7 @@ ghost use Rattle.datum_formula.specs.Private.{Held, Inputs, rotated};
 use arith::refusals::{POSITION, RANGE};
 
 // The raw values of the seven parameters.
-#[derive(Drop)]
+#[derive(Clone, Copy)]
 pub struct Values {
     pub dx: i64, // DF156
     pub dy: i64, // DF157
@@ -20,7 +22,7 @@ pub struct Values {
 
 // A refusal number, or 0 with a position in 0.1 mm.
 #[repr(C)]
-#[derive(Drop)]
+#[derive(Clone, Copy)]
 pub struct Position {
     pub refusal: u8,
     pub x: i64,

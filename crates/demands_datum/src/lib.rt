@@ -1,4 +1,6 @@
 // Request A12 as theorems, each the promise of a function, so that none can be taken away unnoticed: four functions make one call each, whose promise they restate, and worked_steps does nothing.
+#![tactic(auto)]
+
 ghost use Rattle.std.specs.Prelude.{◌≡◌, ◌*◌, ◌^◌};
 ghost use Rattle.arith.specs.First.{first};
 ghost use Rattle.datum_formula.specs.Formula.{beyond_any, zeros, formula_tests, Answered};

@@ -1,4 +1,6 @@
 // The theorems of request A1 on streams of frames, the promise of a function that does nothing.
+#![tactic(auto)]
+
 ghost use Rattle.std.specs.Prelude.{ℕ, List};
 ghost use Rattle.frame.specs.Words.{Bytes};
 ghost use Rattle.demands_frames.specs.Frames.{WrittenFound, ReadBack, FoundStays, NeedGoesOn, NeedNotEarlier, Exactly, StepRight, SlideRight, WriterRefusals, PublishedFrames};

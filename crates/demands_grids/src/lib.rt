@@ -1,4 +1,6 @@
 // The demands as theorems, each the promise of a function, so that none can be taken away unnoticed: all but two_answers, which makes two calls, do nothing.
+#![tactic(auto)]
+
 ghost use Rattle.std.specs.Prelude.{ℕ, ◌≡◌, List};
 ghost use Rattle.demands_grids.specs.Worked.{WorkedNumbers, WorkedMetres, GridsRead, GridKPresent};
 ghost use Rattle.demands_grids.specs.Grids.{GridAnswer, SharedEdges, BothCalls, HeldIsWritten, OnlyWeighted, Lossless, SumBound, ThreeParts, ComponentNeverGiven, BoundBetween, Lipschitz, PlainSteps, EastTurned, BothLongitudes};
@@ -43,7 +45,7 @@ pub fn antimeridian()
 {}
 
 // The answers to two positions.
-#[derive(Drop)]
+#[derive(Clone, Copy)]
 pub struct TwoAnswers {
     pub first: grid_shifts::ThreeShifts,
     pub second: grid_shifts::ThreeShifts,

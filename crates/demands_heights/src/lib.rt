@@ -1,4 +1,6 @@
 // Theorems of height grids, each the promise of a function that does nothing, so that none can be taken away unnoticed.
+#![tactic(auto)]
+
 ghost use Rattle.demands_heights.specs.Heights.{ChoosesSmallest, NoMeanExactly, OnlyOthers, NotLookedAt, GivesWanted};
 
 // Request A11: the mean chosen is the smallest that fits, NOMEAN is given exactly if none does, RANGE never for a height, whose fields in the row are not

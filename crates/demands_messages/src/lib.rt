@@ -1,4 +1,6 @@
 // The demands on messages as theorems, each the promise of a function that does nothing, so that none can be taken away unnoticed.
+#![tactic(auto)]
+
 ghost use Rattle.std.specs.Prelude.{ℕ, List};
 ghost use Rattle.demands_messages.specs.Messages.{FirstThatApplies, CounterCut, AcceptedLengths, SinFound, BothTrips};
 

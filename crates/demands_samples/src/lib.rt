@@ -1,4 +1,6 @@
 // Theorems of files of sample answers, each the promise of a function that does nothing, so that none can be taken away unnoticed.
+#![tactic(auto)]
+
 ghost use Rattle.demands_samples.specs.Samples.{NumberBack, BytesBack, WholeBack, WholeBytesBack, FileBack, ShapeExactly, AcceptedExactly, PlaceIsFirst, WrittenAccepted, ClaimChanged};
 
 // Request A13: numbers and files are read back, the shape is that of the bytes of some message and points, a file is accepted exactly when all of it is

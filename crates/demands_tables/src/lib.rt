@@ -1,4 +1,6 @@
 // The demands on the table, and requests A7 to A9, as theorems of the exported calls, each the promise of a function that does nothing, so that none can be taken away unnoticed.
+#![tactic(auto)]
+
 ghost use Rattle.std.specs.Prelude.{ℕ, ◌≡◌, true, List};
 ghost use Rattle.table_history.specs.History.{Call};
 ghost use Rattle.table_index_history.specs.Calls.{byte_calls};

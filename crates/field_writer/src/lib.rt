@@ -1,4 +1,6 @@
 // One field of bytes written, most significant bit first. The functions with a requires are private.
+#![tactic(auto)]
+
 ghost use Rattle.std.specs.Prelude.{◌≡◌, ◌+◌, ◌*◌, ◌^◌, ◌≤◌, ◌<◌, min, length, nat_abs};
 ghost use Rattle.field.specs.Field.{put_bits, set_field, pattern_of};
 ghost use Rattle.field.specs.Inner.{put_field, put_signed};

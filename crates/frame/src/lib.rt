@@ -1,4 +1,6 @@
 // Frames of RTCM 10403.1, section 4, found in a stream of bytes.
+#![tactic(auto)]
+
 ghost use Rattle.std.specs.Prelude.{◌≡◌, ◌+◌, ◌≤◌, length, get_or};
 ghost use Rattle.frame.specs.Frames.{candidate, length_of, three_at, right_crc, found, need, no_frame, find_frame};
 ghost use Rattle.frame.specs.Private.{frame_at};
@@ -7,7 +9,7 @@ use arith::refusals::{NEED, NOFRAME};
 
 // Where a frame stands and the length of its message; with NEED the place alone.
 #[repr(C)]
-#[derive(Drop)]
+#[derive(Clone, Copy)]
 pub struct Frame {
     pub refusal: u8,
     pub at: usize,

@@ -1,4 +1,6 @@
 // CRC-24Q of bytes, four bytes a step.
+#![tactic(auto)]
+
 ghost use Rattle.std.specs.Prelude.{◌≡◌, ◌<◌, ◌^◌, drop};
 ghost use Rattle.frame_crc.specs.Crc.{crc_bits, crc_byte, crc_from, crc};
 ghost use Rattle.frame_crc.specs.Private.{parts};

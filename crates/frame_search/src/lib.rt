@@ -1,11 +1,13 @@
 // The search for frames in a stream of which a window is held.
+#![tactic(auto)]
+
 ghost use Rattle.std.specs.Prelude.{◌≡◌};
 ghost use Rattle.frame_search.specs.Steps.{step_of};
 
 use arith::refusals::NOFRAME;
 
 // What is found at a place, or nothing; the search goes on from `next`, and with `more` where it needs bytes that are not there.
-#[derive(Drop)]
+#[derive(Clone, Copy)]
 pub struct Step {
     pub found: bool,
     pub more: bool,

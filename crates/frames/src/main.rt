@@ -1,6 +1,8 @@
 // Reads a recorded stream from standard input and prints a line for each frame in it: its place in the stream from 0, its message's length, and the
 // message's number, `-` where it has under two bytes; behind these, for 1021 to 1027, `sin` and the system identification number, or `refused` and the
 // refusal number. The last line says how many frames there were, and how many bytes outside them. Places and counts are modulo 2^64.
+#![tactic(auto)]
+
 use frame_search::Step;
 use libc::{STDIN_FILENO, STDOUT_FILENO};
 
@@ -14,7 +16,7 @@ const ROUNDS: usize = 1099511627776;
 
 // The window's place in the stream, where the search goes on in it, how many bytes it holds, whether no more come; then the frames found, the bytes
 // in them, and the bytes in the output's buffer.
-#[derive(Drop)]
+#[derive(Clone, Copy)]
 struct State {
     base: u64,
     from: usize,

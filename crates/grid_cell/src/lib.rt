@@ -1,11 +1,13 @@
 // The arithmetic of a grid in one cell.
+#![tactic(auto)]
+
 ghost use Rattle.std.specs.Prelude.{◌≡◌, cond, ◌+◌, ◌*◌, ◌/◌, ◌≤◌, ◌<◌, leb, pos, nat_abs, ◌+ℤ◌};
 ghost use Rattle.grid_bilinear.specs.Bilinear.{nearest_whole};
 ghost use Rattle.grid_cell.specs.Inner.{weights_of, weights_in, area_of, weighted_by, sum_by, sum_of, place_held, nodes_held, sum_held, sum_in, weights_held, count_by};
 ghost use Rattle.grid_cell.specs.Private.{Within, Weighed, Most, with_sign};
 
 // The raw nodes of a cell.
-#[derive(Drop)]
+#[derive(Clone, Copy)]
 pub struct Corners {
     pub sw: i64,
     pub se: i64,
@@ -14,7 +16,7 @@ pub struct Corners {
 }
 
 // The weights of a cell's nodes, each times the cell's area.
-#[derive(Drop)]
+#[derive(Clone, Copy)]
 pub struct Weights {
     pub sw: u64,
     pub se: u64,

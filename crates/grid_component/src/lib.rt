@@ -1,4 +1,6 @@
 // The shift of one component at a position, by a grid message that is read once.
+#![tactic(auto)]
+
 ghost use Rattle.std.specs.Prelude.{◌≡◌};
 ghost use Rattle.grid_fields.specs.Inner.{cell_says};
 ghost use Rattle.grid_counts.specs.Counts.{refused_with};
@@ -11,7 +13,7 @@ use grid_fields::Nodes;
 use record_grids::Settings;
 
 // What is kept of a message: why it is no grid message, or 0 with its fields besides the shifts.
-#[derive(Drop)]
+#[derive(Clone, Copy)]
 pub struct Kept {
     pub refusal: u8,
     pub settings: Settings,

@@ -1,4 +1,6 @@
 // The count in a cell from what its mean and its nodes say.
+#![tactic(auto)]
+
 ghost use Rattle.std.specs.Prelude.{◌≡◌};
 ghost use Rattle.layout.specs.Layout.{available};
 ghost use Rattle.grid_bilinear.specs.Bilinear.{lacks};
@@ -12,7 +14,7 @@ use grid_cell::{Corners, Weights};
 use grid_fields::Nodes;
 
 // A refusal number, or 0 with the shift in counts.
-#[derive(Drop)]
+#[derive(Clone, Copy)]
 pub struct Counted {
     pub refusal: u8,
     pub count: i64,

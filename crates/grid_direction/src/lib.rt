@@ -1,4 +1,6 @@
 // The arithmetic of a grid along one direction.
+#![tactic(auto)]
+
 ghost use Rattle.std.specs.Prelude.{◌≡◌, ◌≤◌, ◌<◌, nat_abs};
 ghost use Rattle.grid_bilinear.specs.Bilinear.{cell};
 ghost use Rattle.grid_direction.specs.Inner.{along_of};
@@ -6,7 +8,7 @@ ghost use Rattle.grid_direction.specs.Inner.{along_of};
 use arith::refusals::OUTSIDE;
 
 // Where a position stands along one direction: OUTSIDE, or 0 with the steps from the southern or western edge and the cell, 0 to 2 from there.
-#[derive(Drop)]
+#[derive(Clone, Copy)]
 pub struct PlaceAlong {
     pub refusal: u8,
     pub steps: u64,

@@ -1,4 +1,6 @@
 // The place of a position in a grid: COMPONENT to OUTSIDE, or the cell and the steps in it.
+#![tactic(auto)]
+
 ghost use Rattle.std.specs.Prelude.{◌≡◌, true, not, cond, ◌&&◌, ◌*◌, ◌≤◌, leb, pos, nat_abs, ◌-ℤ◌, ◌*ℤ◌};
 ghost use Rattle.std.specs.Int.Signed.{lt_z};
 ghost use Rattle.arith.specs.First.{first};
@@ -13,7 +15,7 @@ use arith::refusals::{OUTSIDE, RANGE};
 use record_grids::Settings;
 
 // A place in a grid: a refusal number, or 0 with its cell, the steps from the cell's southern and western edge, and the cell's height and width.
-#[derive(Drop)]
+#[derive(Clone, Copy)]
 pub struct Located {
     pub refusal: u8,
     pub row: u64,
@@ -25,7 +27,7 @@ pub struct Located {
 }
 
 // What a position gives for the horizontal components, north-south and east-west, and for the height: their refusal numbers, and the place where one of these is 0.
-#[derive(Drop)]
+#[derive(Clone, Copy)]
 pub struct TwoPlaces {
     pub horizontal: u8,
     pub vertical: u8,

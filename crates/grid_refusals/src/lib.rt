@@ -1,4 +1,6 @@
 // The refusals of the shift that a grid without its shifts, a component and a position give before the place in the grid is looked for: COMPONENT to SPACING.
+#![tactic(auto)]
+
 ghost use Rattle.std.specs.Prelude.{◌≡◌, not, ◌&&◌, ◌||◌, [], ◌∷◌, ltb, pos, nat_abs};
 ghost use Rattle.arith.specs.First.{first};
 ghost use Rattle.arith.specs.Whole.{same_z};

@@ -1,4 +1,6 @@
 // The refusal of a row of shifts at equal steps east.
+#![tactic(auto)]
+
 ghost use Rattle.std.specs.Prelude.{◌≡◌, not, cond, [], ◌∷◌, ◌+◌, ◌*◌, ◌-◌, ◌≤◌, ◌<◌, ltb, pos, ◌≤ℤ◌};
 ghost use Rattle.arith.specs.First.{first};
 ghost use Rattle.arith.specs.Lists.{all_below};
@@ -13,7 +15,7 @@ use grid_fields::Nodes;
 use record_grids::Settings;
 
 // Places of a row that stand in one cell, or one place outside: the refusal of the first of them refused, and how many they are.
-#[derive(Drop)]
+#[derive(Clone, Copy)]
 struct Run {
     refusal: u8,
     places: usize,

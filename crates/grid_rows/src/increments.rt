@@ -5,7 +5,7 @@ ghost use Rattle.grid_bilinear.specs.Bilinear.{nearest_whole};
 ghost use Rattle.grid_rows.specs.Private.{Fillable, Next, number_of, half_up, counts_from};
 
 // A whole number of areas and the rest of a sum.
-#[derive(Drop)]
+#[derive(Clone, Copy)]
 pub struct Quotient {
     pub whole: i64,
     pub rest: u64,

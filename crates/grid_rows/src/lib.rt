@@ -1,4 +1,6 @@
 // Rows of shifts: the counts of one component at equal steps east.
+#![tactic(auto)]
+
 ghost use Rattle.std.specs.Prelude.{◌≡◌, ◌++◌, ◌+◌, ◌*◌, ◌-◌, ◌≤◌, ◌<◌, pos, nat_abs, ◌+ℤ◌, ◌-ℤ◌, ◌*ℤ◌, length, drop};
 ghost use Rattle.arith.specs.Lists.{up_to};
 ghost use Rattle.grid_cell.specs.Inner.{sum_of};

@@ -1,4 +1,6 @@
 // The shift at a position from a grid message, 1023 or 1024.
+#![tactic(auto)]
+
 ghost use Rattle.std.specs.Prelude.{◌≡◌, ◌≤◌, ℤ, pos, nat_abs};
 ghost use Rattle.grid_shifts.specs.Shift.{part, node_of, answer_of, outcome, float_of, three_of, message_shifts};
 ghost use Rattle.grid_shifts.specs.Inner.{record_shifts};
@@ -11,7 +13,7 @@ use grid_fields::Nodes;
 use record_grids::{Grid, Shifts};
 
 // What the add-on gets: arc seconds, metres, or the refusal number.
-#[derive(Drop)]
+#[derive(Clone, Copy)]
 pub enum Answer {
     Seconds(f64),
     Metres(f64),
@@ -19,7 +21,7 @@ pub enum Answer {
 }
 
 // One part, the shift of a component: a refusal number, or 0 with the shift in counts; and the same as the add-on gets it.
-#[derive(Drop)]
+#[derive(Clone, Copy)]
 pub struct Shift {
     pub refusal: u8,
     pub count: i64,
@@ -27,7 +29,7 @@ pub struct Shift {
 }
 
 // The three parts, component by component.
-#[derive(Drop)]
+#[derive(Clone, Copy)]
 pub struct Components {
     pub north: Shift,
     pub east: Shift,
@@ -35,7 +37,7 @@ pub struct Components {
 }
 
 // The three shifts in arc seconds or metres, 0.0 where a part is refused, and their counts, refusal numbers and second answers.
-#[derive(Drop)]
+#[derive(Clone, Copy)]
 pub struct ThreeShifts {
     pub north: f64,
     pub east: f64,

@@ -1,4 +1,6 @@
 // Making a height grid: a 1023 message from sixteen wanted heights in millimetres and the rest of its row.
+#![tactic(auto)]
+
 ghost use Rattle.std.specs.Prelude.{◌≡◌, true, ◌≤◌, ◌<◌, length, nat_abs};
 ghost use Rattle.arith.specs.First.{first};
 ghost use Rattle.heights_mean.specs.Means.{less, near, fits};

@@ -1,11 +1,13 @@
 // The mean of a height grid, DF198 in steps of 0.01 m, for sixteen wanted heights in millimetres.
+#![tactic(auto)]
+
 ghost use Rattle.std.specs.Prelude.{◌≡◌, true, ◌≤◌, nat_abs};
 ghost use Rattle.arith.specs.Lists.{at};
 ghost use Rattle.heights_mean.specs.Means.{less, near, fits, smallest_mean};
 ghost use Rattle.heights_mean.specs.Private.{greater, greatest, Least};
 
 // A mean, DF198, or that there is none.
-#[derive(Drop)]
+#[derive(Clone, Copy)]
 pub enum Mean {
     Is(i64),
     Missing,

@@ -1,5 +1,7 @@
 // Reads one message from standard input and prints its number, its length and its SIN, or `refused` and the refusal number.
 // At most 128 bytes are looked at: what stands behind them is ignored.
+#![tactic(auto)]
+
 use libc::{STDIN_FILENO, STDOUT_FILENO};
 
 fn main() {

@@ -1,4 +1,6 @@
 // Messages 1025, 1026 and 1027 checked, read and written by their layouts.
+#![tactic(auto)]
+
 ghost use Rattle.std.specs.Prelude.{◌≡◌, map, ◌++◌, length, take, ◌+◌, ◌≤◌};
 ghost use Rattle.layout.specs.Inner.{refusal_of, decode_refusal, encode_refusal};
 ghost use Rattle.layout.specs.Layout.{decode_all, value_in, present_in, stored, row_takes, row_of, encode_all, answered};
@@ -238,7 +240,7 @@ const TAIL_1022: [u64; 25] = [
 ];
 
 // A layout in the first entries.
-#[derive(Drop)]
+#[derive(Clone, Copy)]
 struct Plan {
     entries: [u64; 96],
     count: usize,

@@ -1,4 +1,6 @@
 // Many fields of a message read into a row. The functions with a requires are private.
+#![tactic(auto)]
+
 ghost use Rattle.std.specs.Prelude.{◌≡◌, ◌&&◌, ◌++◌, map, ◌+◌, ◌*◌, ◌≤◌, leb, length, drop, replicate};
 ghost use Rattle.layout.specs.Layout.{width, total, decode_all, value_in, present_in};
 ghost use Rattle.layout_reader.specs.Inner.{values_loaded, present_loaded};

@@ -1,4 +1,6 @@
 // The seven layouts as definitions and laws, and how the code's tables write an entry: range * 128 + signed * 64 + width.
+#![tactic(auto)]
+
 ghost use Rattle.std.specs.Prelude.{◌≡◌, ◌+◌, ◌*◌, ◌≤◌, ◌++◌, map, length, take, drop};
 ghost use Rattle.layout.specs.Layout.{total, decode_all, value_in, present_in, stored, row_takes, row_of, encode_all, answered};
 ghost use Rattle.layout.specs.Inner.{refusal_of, decode_refusal, encode_refusal};

@@ -1,4 +1,6 @@
 // Rows written by a layout. The functions with a requires are private.
+#![tactic(auto)]
+
 ghost use Rattle.std.specs.Prelude.{◌≡◌, ◌+◌, ◌*◌, ◌≤◌, ◌++◌, T, length, drop};
 ghost use Rattle.field.specs.Field.{set_field, pattern_of};
 ghost use Rattle.layout.specs.Layout.{width, total, size, encode_into, blank, encode_all, reading_in, row_of, place_takes, row_takes, stored, answered};

@@ -1,4 +1,6 @@
 // Records of messages 1021 to 1027, read and written, one kind each.
+#![tactic(auto)]
+
 ghost use Rattle.std.specs.Prelude.{◌≡◌, ◌≤◌, length, take};
 ghost use Rattle.message_rows.specs.Message.{write_kind};
 ghost use Rattle.message_records.specs.Kinds.{read_helmert, write_helmert, read_molodenski_badekas, write_molodenski_badekas, read_grid, write_grid, grid_held, read_projection, write_projection, read_lambert, write_lambert, read_oblique_mercator, write_oblique_mercator};
@@ -20,7 +22,7 @@ fn write_numbers(n: Numbers, lo: u64, hi: u64, out: &mut [u8]) -> Written
 }
 
 // A 1021 as a record; all zero with a refusal.
-#[derive(Drop)]
+#[derive(Clone, Copy)]
 pub struct HelmertRead {
     pub refusal: u8,
     pub value: record_transformations::Helmert,
@@ -47,7 +49,7 @@ pub fn write_helmert(r: record_transformations::Helmert, out: &mut [u8]) -> Writ
 }
 
 // A 1022 as a record; all zero with a refusal.
-#[derive(Drop)]
+#[derive(Clone, Copy)]
 pub struct MolodenskiBadekasRead {
     pub refusal: u8,
     pub value: record_transformations::MolodenskiBadekas,
@@ -77,7 +79,7 @@ pub fn write_molodenski_badekas(
 }
 
 // A 1023 or 1024 as a record; all zero with a refusal.
-#[derive(Drop)]
+#[derive(Clone, Copy)]
 pub struct GridRead {
     pub refusal: u8,
     pub value: record_grids::Grid,
@@ -115,7 +117,7 @@ pub fn grid_held(r: record_grids::Grid) -> bool
 }
 
 // A 1025 as a record; all zero with a refusal.
-#[derive(Drop)]
+#[derive(Clone, Copy)]
 pub struct ProjectionRead {
     pub refusal: u8,
     pub value: record_projections::Projection,
@@ -142,7 +144,7 @@ pub fn write_projection(r: record_projections::Projection, out: &mut [u8]) -> Wr
 }
 
 // A 1026 as a record; all zero with a refusal.
-#[derive(Drop)]
+#[derive(Clone, Copy)]
 pub struct LambertRead {
     pub refusal: u8,
     pub value: record_projections::Lambert,
@@ -169,7 +171,7 @@ pub fn write_lambert(r: record_projections::Lambert, out: &mut [u8]) -> Written
 }
 
 // A 1027 as a record; all zero with a refusal.
-#[derive(Drop)]
+#[derive(Clone, Copy)]
 pub struct ObliqueMercatorRead {
     pub refusal: u8,
     pub value: record_projections::ObliqueMercator,

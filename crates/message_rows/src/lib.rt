@@ -1,4 +1,6 @@
 // Messages 1021 to 1027 on the wire: the header, and rows read of any kind or of one. A row is two buffers side by side, values and presence bytes.
+#![tactic(auto)]
+
 ghost use Rattle.std.specs.Prelude.{◌≡◌, ◌≤◌, length};
 ghost use Rattle.field.specs.Inner.{field_at};
 ghost use Rattle.arith.specs.First.{first};
@@ -106,7 +108,7 @@ pub fn check_kind(s: &[u8], lo: u64, hi: u64) -> u8
 
 // What a message is; zeros with a refusal.
 #[repr(C)]
-#[derive(Drop)]
+#[derive(Clone, Copy)]
 pub struct Header {
     pub refusal: u8,
     pub number: u16,

@@ -1,4 +1,6 @@
 // The records of messages 1023 and 1024, from a row in wire order and back.
+#![tactic(auto)]
+
 ghost use Rattle.std.specs.Prelude.{◌≡◌, true, ◌++◌, ◌+◌, ◌≤◌, length, replicate};
 ghost use Rattle.layout.specs.Layout.{row_of};
 ghost use Rattle.record_rows.specs.Numbers.{says, values_of, present_of};
@@ -11,21 +13,21 @@ use field::Reading;
 use record_rows::{Numbers, Pair};
 
 // The middle of a grid, north-south and east-west: DF192 and DF193 in a 1023, DF202 and DF203 in a 1024.
-#[derive(Drop)]
+#[derive(Clone, Copy)]
 pub struct Origin {
     pub north: Reading, // DF192, DF202
     pub east: Reading, // DF193, DF203
 }
 
 // The spacing of neighbouring nodes, north-south and east-west.
-#[derive(Drop)]
+#[derive(Clone, Copy)]
 pub struct Spacing {
     pub north: i64, // DF194, DF204
     pub east: i64, // DF195, DF205
 }
 
 // A shift of three components: the mean, DF196 to DF198 or DF206 to DF208, or a node.
-#[derive(Drop)]
+#[derive(Clone, Copy)]
 pub struct Shifts {
     pub north: Reading, // DF196, DF206; of a node DF199, DF209
     pub east: Reading, // DF197, DF207; of a node DF200, DF210
@@ -33,7 +35,7 @@ pub struct Shifts {
 }
 
 // 1023 and 1024. Nodes 1 to 16 stand in rows of four, west to east, the northern row first.
-#[derive(Drop)]
+#[derive(Clone, Copy)]
 pub struct Grid {
     pub number: i64, // DF002
     pub sin: i64, // DF147
@@ -48,7 +50,7 @@ pub struct Grid {
 }
 
 // What a grid says besides its shifts, its quality and its day.
-#[derive(Drop)]
+#[derive(Clone, Copy)]
 pub struct Settings {
     pub number: i64, // DF002
     pub indicators: Pair, // DF190, DF191

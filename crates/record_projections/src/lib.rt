@@ -1,4 +1,6 @@
 // The records of messages 1025, 1026 and 1027, from a row in wire order and back.
+#![tactic(auto)]
+
 ghost use Rattle.std.specs.Prelude.{◌≡◌, true};
 ghost use Rattle.layout.specs.Layout.{row_of};
 ghost use Rattle.record_rows.specs.Numbers.{says};
@@ -9,7 +11,7 @@ use field::Reading;
 use record_rows::Numbers;
 
 // 1025.
-#[derive(Drop)]
+#[derive(Clone, Copy)]
 pub struct Projection {
     pub number: i64, // DF002
     pub sin: i64, // DF147
@@ -22,7 +24,7 @@ pub struct Projection {
 }
 
 // 1026.
-#[derive(Drop)]
+#[derive(Clone, Copy)]
 pub struct Lambert {
     pub number: i64, // DF002
     pub sin: i64, // DF147
@@ -36,7 +38,7 @@ pub struct Lambert {
 }
 
 // 1027.
-#[derive(Drop)]
+#[derive(Clone, Copy)]
 pub struct ObliqueMercator {
     pub number: i64, // DF002
     pub sin: i64, // DF147

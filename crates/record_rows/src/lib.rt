@@ -1,4 +1,6 @@
 // What the records of all messages share over a row, two buffers side by side: what a place says, numbers, a pair of indicators and counters.
+#![tactic(auto)]
+
 ghost use Rattle.std.specs.Prelude.{◌≡◌, false, ◌&&◌, [], ◌+◌, ◌≤◌, leb, eqb, length};
 ghost use Rattle.arith.specs.Whole.{natural};
 ghost use Rattle.layout.specs.Layout.{row_of};
@@ -9,7 +11,7 @@ ghost use Rattle.record_rows.specs.Private.{Appended};
 use field::Reading;
 
 // An indicator for the horizontal and one for the vertical: DF190 and DF191, DF212 and DF213, DF214 and DF215, DF216 and DF217.
-#[derive(Drop)]
+#[derive(Clone, Copy)]
 pub struct Pair {
     pub horizontal: i64,
     pub vertical: i64,
@@ -76,7 +78,7 @@ pub fn pair_at(values: &[i64], present: &[u8], k: usize) -> Pair
 // The row of a record in two buffers side by side, and one list stored in another.
 
 // The row of a record in both buffers: how many places, and behind them values 0 that are present. A record with a bad name has none.
-#[derive(Drop)]
+#[derive(Clone, Copy)]
 pub struct Numbers {
     pub good: bool,
     pub count: usize,

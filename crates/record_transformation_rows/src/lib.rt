@@ -1,4 +1,6 @@
 // The rows of messages 1021 and 1022, in wire order, from their records.
+#![tactic(auto)]
+
 ghost use Rattle.std.specs.Prelude.{◌≡◌, ◌&&◌, ◌++◌, ◌+◌, ◌≤◌, ◌<◌, length, pos};
 ghost use Rattle.arith.specs.Lists.{up_to};
 ghost use Rattle.record_rows.specs.Numbers.{values_of, present_of};

@@ -1,4 +1,6 @@
 // The records of messages 1021 and 1022, from a row in wire order.
+#![tactic(auto)]
+
 ghost use Rattle.std.specs.Prelude.{◌≡◌, ◌+◌, ◌%◌, ◌≤◌, ◌<◌};
 ghost use Rattle.arith.specs.Whole.{natural};
 ghost use Rattle.layout.specs.Layout.{row_of};
@@ -9,14 +11,14 @@ use field::Reading;
 use record_rows::Pair;
 
 // DF143 and DF144, or DF145 and DF146: a length of 0 to 31; the unused characters are zero.
-#[derive(Drop)]
+#[derive(Clone, Copy)]
 pub struct Name {
     pub length: usize, // DF143, DF145
     pub chars: [u8; 31], // DF144, DF146
 }
 
 // The system that a transformation is of.
-#[derive(Drop)]
+#[derive(Clone, Copy)]
 pub struct System {
     pub sin: i64, // DF147
     pub messages: i64, // DF148
@@ -26,7 +28,7 @@ pub struct System {
 }
 
 // The area of validity: its origin and its extension from there.
-#[derive(Drop)]
+#[derive(Clone, Copy)]
 pub struct Area {
     pub latitude: Reading, // DF152
     pub longitude: Reading, // DF153
@@ -35,7 +37,7 @@ pub struct Area {
 }
 
 // Translation, rotation and scale.
-#[derive(Drop)]
+#[derive(Clone, Copy)]
 pub struct Parameters {
     pub dx: Reading, // DF156
     pub dy: Reading, // DF157
@@ -47,7 +49,7 @@ pub struct Parameters {
 }
 
 // The rotation point.
-#[derive(Drop)]
+#[derive(Clone, Copy)]
 pub struct RotationPoint {
     pub x: Reading, // DF163
     pub y: Reading, // DF164
@@ -55,7 +57,7 @@ pub struct RotationPoint {
 }
 
 // The axes of the source and of the target ellipsoid.
-#[derive(Drop)]
+#[derive(Clone, Copy)]
 pub struct Ellipsoids {
     pub source_major: i64, // DF166
     pub source_minor: i64, // DF167
@@ -64,7 +66,7 @@ pub struct Ellipsoids {
 }
 
 // 1021.
-#[derive(Drop)]
+#[derive(Clone, Copy)]
 pub struct Helmert {
     pub number: i64, // DF002
     pub source: Name, // DF143, DF144
@@ -77,7 +79,7 @@ pub struct Helmert {
 }
 
 // 1022.
-#[derive(Drop)]
+#[derive(Clone, Copy)]
 pub struct MolodenskiBadekas {
     pub number: i64, // DF002
     pub source: Name, // DF143, DF144

@@ -2,6 +2,8 @@
 // under 1 to 15, the smallest and the greatest count, their first places, and the sum of counts; or `refused` and the refusal number.
 // The first line has the message in hexadecimal digits, `-` for none, the second the component, each further line a point: north and east in whole steps.
 // Empty lines at the end are ignored; any other bad line is answered by `bad input: line` and its number alone.
+#![tactic(auto)]
+
 mod input;
 
 use input::{Got, Place, Window};
@@ -18,7 +20,7 @@ type Out = [u8; 441];
 const ROUNDS: usize = 1099511627776;
 
 // The tally of the points so far, its refusal number or 0, the lines read, and two numbers of lines or 0: the first empty one, and a bad one.
-#[derive(Drop)]
+#[derive(Clone, Copy)]
 struct State {
     tally: Tally,
     refusal: u8,

@@ -1,4 +1,6 @@
 // The report of a list of points and one component.
+#![tactic(auto)]
+
 ghost use Rattle.std.specs.Prelude.{◌≡◌, length};
 ghost use Rattle.report_points.specs.Reports.{report_of, points_of, lists_report};
 ghost use Rattle.report_points.specs.Private.{start_of, step_of, report_from};
@@ -11,7 +13,7 @@ use report_update::Report;
 mod prepared;
 
 // A position in whole steps.
-#[derive(Drop)]
+#[derive(Clone, Copy)]
 pub struct Point {
     pub north: i64,
     pub east: i64,

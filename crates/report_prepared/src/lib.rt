@@ -1,4 +1,6 @@
 // The numbers of a grid message and a component that are the same at all positions: its nodes, its edges and the others.
+#![tactic(auto)]
+
 ghost use Rattle.std.specs.Prelude.{◌≡◌};
 ghost use Rattle.layout.specs.Layout.{available};
 ghost use Rattle.report_prepared.specs.Inner.{node_value, nodes_available, node_values, middle_of, no_edges, around_of, edges_at, prepared_of};
@@ -9,7 +11,7 @@ use grid_component::Kept;
 use grid_place::Located;
 
 // The edges of a grid in steps, the height and the width of a cell, the mean in counts, and the counts in a raw number of a node.
-#[derive(Drop)]
+#[derive(Clone, Copy)]
 pub struct Prepared {
     pub south: i64,
     pub north: i64,

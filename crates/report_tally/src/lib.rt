@@ -1,4 +1,6 @@
 // A running tally of points and one component, updated point by point.
+#![tactic(auto)]
+
 ghost use Rattle.std.specs.Prelude.{◌≡◌, cond, ◌+◌, ltb};
 ghost use Rattle.report_update.specs.Numbers.{total};
 ghost use Rattle.report_tally.specs.Next.{next_of};

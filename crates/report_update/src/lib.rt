@@ -1,4 +1,6 @@
 // A tally of points and one component, and one point more.
+#![tactic(auto)]
+
 ghost use Rattle.std.specs.Prelude.{◌≡◌, cond, ◌||◌, [], ◌-◌, ◌≤◌, ◌<◌, eqb, nat_abs, get_or};
 ghost use Rattle.std.specs.Int.Signed.{lt_z};
 ghost use Rattle.report_update.specs.Numbers.{report_with};
@@ -7,7 +9,7 @@ ghost use Rattle.report_update.specs.Inner.{countable, refusable, grown_by};
 
 // Points answered, points refused under 1 to 15, the smallest and the greatest count, their first places, and the sum of counts.
 #[repr(C)]
-#[derive(Drop)]
+#[derive(Clone, Copy)]
 pub struct Tally {
     pub answered: u64,
     pub refused: [u64; 15],
@@ -20,7 +22,7 @@ pub struct Tally {
 
 // A refusal number, or 0, and a tally.
 #[repr(C)]
-#[derive(Drop)]
+#[derive(Clone, Copy)]
 pub struct Report {
     pub refusal: u8,
     pub tally: Tally,

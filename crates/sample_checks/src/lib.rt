@@ -1,4 +1,6 @@
 // Checking a vendor's sample answers against the shifts of their message. The functions with a requires are private.
+#![tactic(auto)]
+
 ghost use Rattle.std.specs.Prelude.{◌≡◌};
 ghost use Rattle.grid_component.specs.Inner.{kept_of};
 ghost use Rattle.sample_files.specs.File.{points_of};
@@ -10,7 +12,7 @@ use sample_files::SamplePoint;
 
 // A refusal number, or 0; and with CLAIM the place, from 1, of the first bad point.
 #[repr(C)]
-#[derive(Drop)]
+#[derive(Clone, Copy)]
 pub struct Checked {
     pub refusal: u8,
     pub place: usize,

@@ -1,4 +1,6 @@
 // Files of sample answers: a grid message, and points each with the count that it claims. The functions with a requires are private.
+#![tactic(auto)]
+
 ghost use Rattle.std.specs.Prelude.{◌≡◌, ◌+◌, ◌*◌, ◌≤◌, length, drop};
 ghost use Rattle.sample_files.specs.File.{point_size, point_of, points_of, shape};
 ghost use Rattle.sample_files.specs.Inner.{end_in, point_at};
@@ -9,7 +11,7 @@ const POINT_SIZE: usize = 28;
 const MOST_POINTS: usize = 1000;
 
 // A component, a position and the count that is claimed there.
-#[derive(Drop)]
+#[derive(Clone, Copy)]
 pub struct SamplePoint {
     pub component: u8,
     pub north: i64,

@@ -1,4 +1,6 @@
 // Numbers in bytes, high byte first. The functions with a requires are private.
+#![tactic(auto)]
+
 ghost use Rattle.std.specs.Prelude.{◌≡◌, ◌+◌, ◌≤◌, leb, length, drop};
 ghost use Rattle.field.specs.Field.{twos, pattern_of};
 ghost use Rattle.field.specs.declared.Reading.TheVariants.{Value};

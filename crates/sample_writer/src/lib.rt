@@ -1,4 +1,6 @@
 // Why no samples are made of a message and points. The functions with a requires are private.
+#![tactic(auto)]
+
 ghost use Rattle.std.specs.Prelude.{◌≡◌, length, map, ◌+◌, ◌*◌};
 ghost use Rattle.grid_component.specs.Inner.{kept_of};
 ghost use Rattle.sample_writer.specs.Refusals.{asked_of, first_refused, points_refusal};

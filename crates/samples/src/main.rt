@@ -1,5 +1,7 @@
 // Reads a file of sample answers from standard input and checks it. Prints `accepted` and its number of points, or `refused` and the refusal number,
 // behind CLAIM also the place, from 1, of the first bad point.
+#![tactic(auto)]
+
 use libc::{STDIN_FILENO, STDOUT_FILENO};
 
 fn main() {

@@ -1,4 +1,6 @@
 // An index beside the table in 128 bytes: 32 entries of owner, SIN, group and slot, sorted. What is read of it: the binary search, and whether it agrees with a table.
+#![tactic(auto)]
+
 ghost use Rattle.std.specs.Prelude.{◌≡◌, ◌<◌, length, eqb, ltb};
 ghost use Rattle.arith.specs.Lists.{all_below};
 ghost use Rattle.table_index_search.specs.Index.{entries, entry_size, index_size, byte_at, number_at, key_at};
@@ -16,7 +18,7 @@ pub const INDEX_SIZE: usize = ENTRIES * ENTRY_SIZE;
 
 // What a search gives: the slot of the entry that has the key, 0 where none has it, and how many entries were looked at.
 #[repr(C)]
-#[derive(Drop)]
+#[derive(Clone, Copy)]
 pub struct Probe {
     pub found: bool,
     pub slot: u8,
@@ -269,7 +271,7 @@ fn has_key(index: &[u8], j: usize, key: u64) -> bool
 
 // Where a key stands or belongs: the first entry that is not below it, 32 where all are; and whether it stands there.
 #[repr(C)]
-#[derive(Drop)]
+#[derive(Clone, Copy)]
 pub struct KeyPlace {
     pub at: usize,
     pub has: bool,

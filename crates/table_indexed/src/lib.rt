@@ -1,4 +1,6 @@
 // The table of messages with its index: each call takes both buffers. Find reads the entries of a binary search and one slot.
+#![tactic(auto)]
+
 ghost use Rattle.std.specs.Prelude.{◌≡◌, length};
 ghost use Rattle.arith.specs.Lists.{up_to};
 ghost use Rattle.table_slots.specs.Slots.{slots, table_size};
@@ -133,7 +135,7 @@ pub fn remove(table: &mut [u8], index: &mut [u8], owner: u8, sin: u8, group: u8)
 
 // Where a message stands in the table: its first byte and its length, and how many entries the search looked at; zeros with a refusal.
 #[repr(C)]
-#[derive(Drop)]
+#[derive(Clone, Copy)]
 pub struct Found {
     pub refusal: u8,
     pub at: usize,

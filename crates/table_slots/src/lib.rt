@@ -1,4 +1,6 @@
 // The slots of the table that two owners share: 32 of 132 bytes, an owner byte, a length byte, 127 message bytes and three zeros. What stands in them is read into a row of marks.
+#![tactic(auto)]
+
 ghost use Rattle.std.specs.Prelude.{◌≡◌, ◌&&◌, suc, ◌<◌, ◌≤◌, eqb, length, get_or};
 ghost use Rattle.table_slots.specs.Slots.{slots, slot_size, table_size, is_owner, group_of, key, joined, all_zero};
 ghost use Rattle.table_slots.specs.Inner.{no_tag, mark, mark_at, marks, mark_place, flawed_mark, sound_marks, mark_or_free};

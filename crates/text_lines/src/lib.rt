@@ -1,9 +1,11 @@
 // Lines in the part of a text that is at hand, and a window that moves over a stream.
+#![tactic(auto)]
+
 ghost use Rattle.std.specs.Prelude.{◌+◌, ◌≤◌, ◌≡◌, ◌++◌, length, take, drop};
 ghost use Rattle.text_lines.specs.Inner.{line_at, kept, slid};
 
 // A line without its newline; `whole` where a newline ends it, and the place behind that.
-#[derive(Drop)]
+#[derive(Clone, Copy)]
 pub struct Line {
     pub whole: bool,
     pub from: usize,

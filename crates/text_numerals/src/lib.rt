@@ -1,23 +1,25 @@
 // Numbers in decimal digits and bytes in hexadecimal ones, read from a text and put into one.
+#![tactic(auto)]
+
 ghost use Rattle.std.specs.Prelude.{◌+◌, ◌*◌, ◌/◌, ◌≤◌, ◌<◌, true, ◌∷◌, ◌++◌, ◌≡◌, nat_abs, length, take, drop};
 ghost use Rattle.std.proofs.Math.Seq.{paste};
 ghost use Rattle.text_words.specs.Inner.{put, place_behind};
 ghost use Rattle.text_numerals.specs.Inner.{natural, byte_of, positive, negative, whole, decimal, whole_decimal, digit, glyph, pairs, bytes_of, hex_count, hex_filled, pairs_of, hexadecimal};
 
 // A natural number, or how many were read.
-#[derive(Drop)]
+#[derive(Clone, Copy)]
 pub enum Count {
     Is(usize),
     Bad,
 }
 
-#[derive(Drop)]
+#[derive(Clone, Copy)]
 pub enum Integer {
     Is(i64),
     Bad,
 }
 
-#[derive(Drop)]
+#[derive(Clone, Copy)]
 pub enum Byte {
     Is(u8),
     Bad,

@@ -1,4 +1,6 @@
 // The words of a line: what stands between single spaces. Bytes put into a buffer.
+#![tactic(auto)]
+
 ghost use Rattle.std.specs.Prelude.{◌+◌, ◌≤◌, length, take, drop, ◌≡◌};
 ghost use Rattle.std.proofs.Math.Seq.{paste};
 ghost use Rattle.text_words.specs.Inner.{find, word, rest, Next, words, place_in, put, place_behind};

@@ -6,14 +6,14 @@ use text_lines::Line;
 pub(crate) type Window = [u8; 4096];
 
 // Where the next line begins, and the end of the bytes that are held.
-#[derive(Drop)]
+#[derive(Clone, Copy)]
 pub(crate) struct Place {
     pub(crate) from: usize,
     pub(crate) held: usize,
 }
 
 // A line's place and length in the window, and the place behind it; `ended` where there is no further line.
-#[derive(Drop)]
+#[derive(Clone, Copy)]
 pub(crate) struct Got {
     pub(crate) ended: bool,
     pub(crate) from: usize,

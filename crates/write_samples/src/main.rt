@@ -1,6 +1,8 @@
 // Reads a message and points from standard input and writes the file of sample answers to standard output. The first line is the message in hexadecimal,
 // at most 400 bytes, `-` for none, each further line a point: COMPONENT NORTH EAST. On a refusal standard output stays empty, and standard error has `refused` and the
 // refusal number, or, where a line is no such line, `bad input: line` and its number from 1.
+#![tactic(auto)]
+
 mod input;
 mod points;
 
