@@ -1,0 +1,98 @@
+-- `datum_formula::target_of` meets its contract: each coordinate is called with its row of the matrix.
+-- Assumes nothing.
+use mathlib.Core.Path.{◌≡◌, refl, sym, subst}
+use Prim.Native.Nat.{◌*◌, ◌<◌, ◌^◌}
+use native.Mathlib.Omega.{arith}
+use borrow.Author.Rules.{rules}
+use lib.IntN.{ℤ, pos, ◌*ℤ◌, ◌+ℤ◌, ◌-ℤ◌}
+use lib.Signed.{mag}
+use mir.Syntax.{w64}
+use mir.Val.{to_z, of_z}
+use Rattle.arith.proofs.Back.{held}
+use Rattle.arith.proofs.Int.{ring, at, ◌⊞◌, ◌⊟◌}
+use Rattle.datum_formula.specs.declared.Values.{Values}
+use Rattle.datum_formula.specs.Formula.{rotation, rotated_x, rotated_y, rotated_z, moved, About}
+use Rattle.datum_formula.specs.Private.{rotated}
+use Rattle.arith.proofs.Machine.{Num, arg}
+use Rattle.datum_formula.proofs.target_of.Goals as goal
+
+-- the bound of each coordinate
+abbrev Bound : (answer target : ℤ) → Type 0
+Bound answer target = About (10 ^ 35) answer target (521 * 10 ^ 32)
+
+-- what a call of `coordinate` answers, its arguments and its result read back from their bits
+answered : (own a b ra rb ds d : Num) (r : ℤ) {m : ℤ} → mag r < 2 ^ 63
+    → Bound r (moved (to_z w64 ds.bits) (rotated (to_z w64 own.bits) (to_z w64 a.bits) (to_z w64 b.bits) (to_z w64 ra.bits) (to_z w64 rb.bits)) (to_z w64 d.bits))
+    → rotated own.z a.z b.z ra.z rb.z ≡ m → Bound (to_z w64 (of_z w64 r)) (moved ds.z m d.z)
+answered own a b ra rb ds d r f h e =
+    subst (λ (m : ℤ). Bound (to_z w64 (of_z w64 r)) (moved ds.z m d.z)) e
+    (subst (λ (z : ℤ). Bound z (moved ds.z (rotated own.z a.z b.z ra.z rb.z) d.z)) (sym (held r f))
+    (subst (Bound r) (λ i. moved (ds.held i) (rotated (own.held i) (a.held i) (b.held i) (ra.held i) (rb.held i)) (d.held i)) h))
+
+module _ (p : Values) (x y z : ℤ) where
+  row-x : rotated x y z p.rz p.ry ≡ rotated_x p x y z
+  unfolding rotated_x
+  row-x = refl
+
+  row-y : rotated y z x p.rx p.rz ≡ rotated_y p x y z
+  unfolding rotated_y
+  row-y = exchange (pos (10 ^ 24) *ℤ y) (rotation p.rx *ℤ z) (rotation p.rz *ℤ x)
+    where
+      exchange : (a b c : ℤ) → a +ℤ b -ℤ c ≡ a -ℤ c +ℤ b
+      exchange a b c = ring (at a ⊞ at b ⊟ at c) (at a ⊟ at c ⊞ at b) (omega arith)
+
+  row-z : rotated z x y p.ry p.rx ≡ rotated_z p x y z
+  unfolding rotated_z
+  row-z = refl
+
+module _ (s : tie.Start) where
+  abbrev x : Num
+  x = arg s.args.x (10 ^ 11) s.requires.1 tt
+
+  abbrev y : Num
+  y = arg s.args.y (10 ^ 11) s.pre.2 tt
+
+  abbrev z : Num
+  z = arg s.args.z (10 ^ 11) s.pre.3 tt
+
+  abbrev rx : Num
+  rx = arg s.args.v.rx (2 ^ 31) s.pre.0.rx tt
+
+  abbrev ry : Num
+  ry = arg s.args.v.ry (2 ^ 31) s.pre.0.ry tt
+
+  abbrev rz : Num
+  rz = arg s.args.v.rz (2 ^ 31) s.pre.0.rz tt
+
+  abbrev ds : Num
+  ds = arg s.args.v.ds (2 ^ 24) s.pre.0.ds tt
+
+  abbrev dx : Num
+  dx = arg s.args.v.dx (2 ^ 22) s.pre.0.dx tt
+
+  abbrev dy : Num
+  dy = arg s.args.v.dy (2 ^ 22) s.pre.0.dy tt
+
+  abbrev dz : Num
+  dz = arg s.args.v.dz (2 ^ 22) s.pre.0.dz tt
+
+pub coordinate-requires : goal.coordinate-requires
+coordinate-requires c = search rules
+
+pub coordinate-requires-2 : goal.coordinate-requires-2
+coordinate-requires-2 c = search rules
+
+pub coordinate-requires-3 : goal.coordinate-requires-3
+coordinate-requires-3 c = search rules
+
+pub returns : goal.returns
+returns c = let a = c.coordinate in
+    let b = c.coordinate-2 in
+    let d = c.coordinate-3 in (
+      refl,
+      record {
+        at_x = answered (x c) (y c) (z c) (rz c) (ry c) (ds c) (dx c) a.result a.type-inv a.ensures (row-x c.args.v c.args.x c.args.y c.args.z);
+        at_y = answered (y c) (z c) (x c) (rx c) (rz c) (ds c) (dy c) b.result b.type-inv b.ensures (row-y c.args.v c.args.x c.args.y c.args.z);
+        at_z = answered (z c) (x c) (y c) (ry c) (rx c) (ds c) (dz c) d.result d.type-inv d.ensures (row-z c.args.v c.args.x c.args.y c.args.z);
+      },
+    )

@@ -1,0 +1,17 @@
+-- `field::four_bytes` meets its contract.
+-- Assumes nothing.
+use native.Mathlib.Omega.{arith}
+use borrow.Author.Rules.{rules}
+use Prim.Native.Nat.{◌+◌, ◌*◌}
+use Rattle.field.proofs.Bit.{field_lt, bytes-join}
+use Rattle.field.proofs.four_bytes.Goals as goal
+
+pub overflow_mul-result : goal.overflow_mul-result
+overflow_mul-result c = let a = c.args in omega (arith, c.three_bytes.ensures, field_lt a.s.now (8 * a.q) 24)
+
+pub overflow_add-result : goal.overflow_add-result
+overflow_add-result c = let a = c.args in
+    omega (arith, c.three_bytes.ensures, c.one_byte.ensures, field_lt a.s.now (8 * a.q) 24, field_lt a.s.now (8 * (a.q + 3)) 8)
+
+pub returns : goal.returns
+returns c = let a = c.args in rw (c.three_bytes.ensures, c.one_byte.ensures) (bytes-join a.s.now a.q 3 1)

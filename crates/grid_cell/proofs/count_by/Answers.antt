@@ -1,0 +1,79 @@
+-- `grid_cell::count_by` meets its contract.
+-- Assumes nothing.
+use mathlib.Core.Path.{◌≡◌, sym, ap, ◌∙◌}
+use mathlib.Core.Bool.{Bool, true}
+use borrow.Author.Rules.{rules}
+use borrow.Author.Tests.{not-true, not-false, leb-true, le-leb, lt-leb}
+use lib.Dec.{leb}
+use lib.IntN.{ℤ, nat_abs, ◌+ℤ◌}
+use Rattle.arith.proofs.Machine.{is-back}
+use Rattle.arith.proofs.Back.{held}
+use Rattle.grid_bilinear.specs.Bilinear.{nearest_whole}
+use Rattle.grid_cell.specs.Inner.{nodes_held, area_of, weights_held, in_bounds, sum_by}
+use Rattle.grid_cell.proofs.Held.{weighed-of, most-of, count_held, count_none}
+use Rattle.grid_cell.proofs.count_by.Goals as goal
+
+module _ (k : tie.After-weights-held) where
+  weights : {b : Bool} → k.weights-held.result ≡ b → weights_held k.before.args.k ≡ b
+  weights e = sym k.weights-held.ensures ∙ e
+
+module _ (k : tie.After-no-larger) where
+  abbrev s : tie.Start
+  s = k.before.before.before.before
+
+  small : {b : Bool} → k.no-larger.result ≡ b → leb (nat_abs s.args.mean) 1638400 ≡ b
+  small e = sym (k.no-larger.ensures ∙ ap (λ (z : ℤ). leb (nat_abs z) 1638400) (is-back s.fits.mean)) ∙ e
+
+module _ (k : tie.After-nodes-held) where
+  fit : {b : Bool} → k.nodes-held.result ≡ b → nodes_held (s k.before.before).args.n ≡ b
+  fit e = sym k.nodes-held.ensures ∙ e
+
+pub returns-then-not-weights_held : goal.returns-then-not-weights_held
+unfolding in_bounds
+returns-then-not-weights_held c = let a = c.args in
+    count_none a.mean a.factor a.n a.k (rw (weights c (not-true _ c.if-not-weights_held.true)))
+
+pub returns-then-factor-gt10 : goal.returns-then-factor-gt10
+unfolding in_bounds
+returns-then-factor-gt10 c = let a = c.args in
+    count_none a.mean a.factor a.n a.k
+    (rw (weights c (not-false _ c.if-not-weights_held.false), lt-leb a.factor 10 c.if-factor-gt10.true))
+
+pub returns-then-not-no_larger : goal.returns-then-not-no_larger
+unfolding in_bounds
+returns-then-not-no_larger c = let a = (s c).args in
+    count_none a.mean a.factor a.n a.k
+    (rw (weights c (not-false _ c.if-not-weights_held.false), le-leb a.factor 10 c.if-factor-gt10.false, small c (not-true _ c.if-not-no_larger.true)))
+
+pub returns-then-not-nodes_held : goal.returns-then-not-nodes_held
+unfolding in_bounds
+returns-then-not-nodes_held c = let a = (s c).args in
+    count_none a.mean a.factor a.n a.k
+    (rw (
+      weights c (not-false _ c.if-not-weights_held.false),
+      le-leb a.factor 10 c.if-factor-gt10.false,
+      small c (not-false _ c.if-not-no_larger.false),
+      fit c (not-true _ c.if-not-nodes_held.true),
+    ))
+
+pub count_of-requires : goal.count_of-requires
+count_of-requires c = (
+  weighed-of (s c).args.k (weights c (not-false _ c.if-not-weights_held.false)),
+  most-of (fit c (not-false _ c.if-not-nodes_held.false)),
+  rw (is-back (s c).ranges.mean) (leb-true _ _ (small c (not-false _ c.if-not-no_larger.false))),
+  c.if-factor-gt10.false,
+)
+
+pub returns : goal.returns
+returns c = let bounded : let a = (s c).args in in_bounds a.mean a.factor a.n a.k ≡ true = rw (
+  weights c (not-false _ c.if-not-weights_held.false),
+  le-leb (s c).args.factor 10 c.if-factor-gt10.false,
+  small c (not-false _ c.if-not-no_larger.false),
+  fit c (not-false _ c.if-not-nodes_held.false),
+) in
+    let k = s c in
+    let a = k.args in
+    held c.count_of.result c.count_of.type-inv
+    ∙ c.count_of.ensures
+    ∙ ap (λ (z : ℤ). z +ℤ nearest_whole (sum_by a.factor a.k a.n) (area_of a.k)) (is-back k.fits.mean)
+    ∙ count_held a.mean a.factor a.n a.k (bounded)

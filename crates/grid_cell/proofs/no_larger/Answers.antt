@@ -1,0 +1,29 @@
+-- `grid_cell::no_larger` meets its contract.
+-- Assumes nothing.
+use mathlib.Core.Path.{sym}
+use borrow.Author.Rules.{rules}
+use Rattle.arith.proofs.Machine.{Num, any, cast, lit, sub, fits, less, not-less}
+use Rattle.grid_cell.proofs.Held.{below, above, between}
+use Rattle.grid_cell.proofs.no_larger.Goals as goal
+
+module _ (c : tie.Start) where
+  abbrev z : Num
+  z = any c.args.z c.ranges.z
+
+  abbrev b : Num
+  b = cast c.args.bound 10000000000000 c.requires tt
+
+  abbrev least : Num
+  least = sub (lit 0 tt) b tt
+
+pub returns-then-z-b : goal.returns-then-z-b
+returns-then-z-b c = sym (below c.args.z c.args.bound (less (z c) (least c) c.if-z-b.true))
+
+pub returns-then-b-z : goal.returns-then-b-z
+returns-then-b-z c = sym (above c.args.z c.args.bound (less (b c) (z c) c.if-b-z.true))
+
+pub returns : goal.returns
+returns c = sym (between c.args.z c.args.bound (not-less (z c) (least c) c.if-z-b.false) (not-less (b c) (z c) c.if-b-z.false))
+
+pub overflow_sub-b : goal.overflow_sub-b
+overflow_sub-b c = fits (least c)

@@ -1,0 +1,9 @@
+-- `grid_component::keep` meets its contract.
+-- Assumes nothing.
+use borrow.Author.Rules.{rules}
+use Rattle.grid_component.specs.Inner.{kept_of}
+use Rattle.grid_component.proofs.keep.Goals as goal
+
+pub returns : goal.returns
+unfolding kept_of
+returns c = record { refusal = c.check_kind.ensures i; settings = c.settings_at.ensures i }

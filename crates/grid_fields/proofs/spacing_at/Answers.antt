@@ -1,0 +1,12 @@
+-- `grid_fields::spacing_at` meets its contract.
+-- Assumes nothing.
+use mathlib.Core.Path.{◌∙◌}
+use borrow.Author.Rules.{rules}
+use Rattle.arith.proofs.Back.{held}
+use Rattle.grid_fields.proofs.spacing_at.Goals as goal
+
+pub returns : goal.returns
+returns c = λ i. record {
+  north = (held _ c.number_at.type-inv ∙ c.number_at.ensures) i;
+  east = (held _ c.number_at-2.type-inv ∙ c.number_at-2.ensures) i;
+}

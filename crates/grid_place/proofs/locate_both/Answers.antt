@@ -1,0 +1,43 @@
+-- `grid_place::locate_both` meets its contract.
+-- Assumes nothing.
+use mathlib.Core.Path.{◌≡◌, sym, ◌∙◌}
+use mathlib.Core.Bool.{true, false}
+use Prim.Native.Nat.{ℕ}
+use borrow.Author.Rules.{rules}
+use borrow.Author.Tests.{not-true, not-false}
+use mir.Syntax.{w64}
+use mir.Val.{to_z, of_z}
+use Rattle.arith.proofs.Machine.{is-back}
+use Rattle.grid_place.specs.Inner.{settings_held, located, held_place, two_places_of, held_two_places}
+use Rattle.grid_place.specs.declared.Located.{Located}
+use Rattle.grid_place.proofs.Held.{held-fields, place-held, no-frame}
+use Rattle.grid_place.proofs.locate_both.Goals as goal
+
+pub returns-then-not-settings_held : goal.returns-then-not-settings_held
+unfolding held_two_places
+returns-then-not-settings_held c = let a = c.args in
+    let h : settings_held a.f ≡ false = sym c.settings_held.ensures ∙ not-true _ c.if-not-settings_held.true in
+    c.two_places_of.ensures
+    ∙ (λ i. two_places_of ((c.no_place.ensures ∙ no-frame a.f h 0 a.north a.east) i) ((c.no_place-then-not-settings_held.ensures ∙ no-frame a.f h 2 a.north a.east) i))
+
+pub place_of-h-requires : goal.place_of-h-requires
+place_of-h-requires c = let framed : settings_held c.args.f ≡ true = sym c.settings_held.ensures ∙ not-false _ c.if-not-settings_held.false in
+    held-fields c.args.f (framed)
+
+pub vertical_of-v-requires : goal.vertical_of-v-requires
+vertical_of-v-requires c = let framed : settings_held c.args.f ≡ true = sym c.settings_held.ensures ∙ not-false _ c.if-not-settings_held.false in
+    (held-fields c.args.f (framed), c.place_of-h.ensures)
+
+module _ (c : tie.Else1) where
+  abbrev s : tie.Start
+  s = c.before.before
+
+  placed : (k : ℕ) {r : Located} → r ≡ located s.args.f k (to_z w64 (of_z w64 s.args.north)) (to_z w64 (of_z w64 s.args.east)) → r ≡ held_place s.args.f k s.args.north s.args.east
+  placed k h =
+      h
+      ∙ (λ i. located s.args.f k (is-back s.fits.north i) (is-back s.fits.east i))
+      ∙ place-held s.args.f (framed c) k s.args.north s.args.east
+
+pub returns : goal.returns
+unfolding held_two_places
+returns c = c.two_places_of-2.ensures ∙ (λ i. two_places_of (placed c 0 c.place_of-h.ensures i) (placed c 2 c.vertical_of-v.ensures i))

@@ -1,0 +1,26 @@
+-- `grid_refusals::field_refusal` meets its contract.
+-- Assumes nothing.
+use borrow.Author.Rules.{rules}
+use Rattle.arith.proofs.Order.{signed-tests}
+use Rattle.grid_refusals.proofs.field_refusal.Goals as goal
+
+pub returns-then-indicator-eq0 : goal.returns-then-indicator-eq0
+returns-then-indicator-eq0 c = search signed-tests
+
+pub returns-then-method-ne0 : goal.returns-then-method-ne0
+returns-then-method-ne0 c = search signed-tests
+
+pub returns-in_default : goal.returns-in_default
+returns-in_default c = rw c.enum_told-in_default-1.given.1 (search signed-tests)
+
+pub returns-in_default-east : goal.returns-in_default-east
+returns-in_default-east c = rw (c.enum_told-1.given.1, c.enum_told-in_default-east-1.given.1) (search signed-tests)
+
+pub returns-then-rows-eq0 : goal.returns-then-rows-eq0
+returns-then-rows-eq0 c = rw (c.enum_told-1.given.1, c.enum_told-in-Value-east-1.given.1) (search signed-tests)
+
+pub returns-then-columns-eq0 : goal.returns-then-columns-eq0
+returns-then-columns-eq0 c = rw (c.enum_told-1.given.1, c.enum_told-in-Value-east-1.given.1) (search signed-tests)
+
+pub returns : goal.returns
+returns c = rw (c.enum_told-1.given.1, c.enum_told-in-Value-east-1.given.1) (search signed-tests)

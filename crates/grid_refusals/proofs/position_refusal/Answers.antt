@@ -1,0 +1,43 @@
+-- `grid_refusals::position_refusal` meets its contract.
+-- Assumes nothing.
+use mathlib.Core.Path.{◌≡◌, sym, ap, ◌∙◌}
+use borrow.Author.Tests.{le-ltb}
+use lib.IntN.{nat_abs}
+use Rattle.arith.proofs.Order.{signed-tests}
+use Rattle.arith.proofs.Machine.{is-back}
+use Rattle.grid_refusals.proofs.position_refusal.Goals as goal
+
+-- what both calls answer
+module _ (k : tie.After-magnitude2) where
+  n : nat_abs k.before.before.args.north ≡ k.before.magnitude.result
+  n = sym (k.before.magnitude.ensures ∙ ap nat_abs (is-back k.before.before.ranges.north))
+
+  e : nat_abs k.before.before.args.east ≡ k.magnitude2.result
+  e = sym (k.magnitude2.ensures ∙ ap nat_abs (is-back k.before.before.fits.east))
+
+pub returns-then-component-gt2 : goal.returns-then-component-gt2
+returns-then-component-gt2 c = search signed-tests
+
+pub returns-then-n-gt3240000000 : goal.returns-then-n-gt3240000000
+returns-then-n-gt3240000000 c = rw (n c, e c) (search signed-tests)
+
+pub returns-then-e-gt6480000000 : goal.returns-then-e-gt6480000000
+returns-then-e-gt6480000000 c = rw (n c, e c) (search (signed-tests, le-ltb _ _ c.if-n-gt3240000000.false))
+
+pub returns-then-number-eq1023 : goal.returns-then-number-eq1023
+returns-then-number-eq1023 c = rw (n c, e c) (search (signed-tests, le-ltb _ _ c.if-n-gt3240000000.false, le-ltb _ _ c.if-e-gt6480000000.false))
+
+pub returns-then-n-gt1000000000000 : goal.returns-then-n-gt1000000000000
+returns-then-n-gt1000000000000 c = rw (n c, e c) (search signed-tests)
+
+pub returns-then-e-gt1000000000000 : goal.returns-then-e-gt1000000000000
+returns-then-e-gt1000000000000 c = rw (n c, e c) (search (signed-tests, le-ltb _ _ c.if-n-gt1000000000000.false))
+
+pub returns : goal.returns
+returns c = rw (n c, e c) (search (signed-tests, le-ltb _ _ c.if-n-gt1000000000000.false, le-ltb _ _ c.if-e-gt1000000000000.false))
+
+pub magnitude-n-requires : goal.magnitude-n-requires
+magnitude-n-requires c = tt
+
+pub magnitude-e-requires : goal.magnitude-e-requires
+magnitude-e-requires c = tt

@@ -1,0 +1,55 @@
+-- `grid_rows::increments::nearest` meets its contract: a negative sum is rounded as its opposite.
+-- Assumes nothing.
+use mathlib.Core.Path.{◌≡◌, ◌∙◌, ap}
+use Prim.Native.Nat.{ℕ, ◌-◌, ◌≤◌, ◌<◌}
+use native.Mathlib.Omega.{arith}
+use borrow.Author.Rules.{rules}
+use lib.IntN.{ℤ, nat_abs}
+use Rattle.arith.proofs.Back.{held}
+use Rattle.arith.proofs.Machine.{Num, arg, lit, add, sub, result, passed, fits, less, not-less}
+use Rattle.grid_rows.specs.Private.{half_up}
+use Rattle.grid_rows.proofs.Halves.{rounds-above, rounds-below, half-most}
+use Rattle.grid_rows.proofs.increments.nearest.Goals as goal
+
+module _ (s : tie.Start) where
+  abbrev whole : Num
+  whole = arg s.args.whole 10000000000 s.requires.1 tt
+
+  abbrev more : Num
+  more = add whole (lit 1 tt) tt
+
+  abbrev opposite : Num
+  opposite = sub (lit 0 tt) more tt
+
+module _ (c : tie.After-rounded) where
+  abbrev b : tie.Start
+  b = c.before.before
+
+  abbrev back : Num
+  back =
+      sub (lit 0 tt)
+      (result c.rounded.result 10000000002 (c.rounded.ensures ∙ ap (λ (z : ℤ). half_up b.args.area z (b.args.area - b.args.rest)) (opposite b).held)
+      (half-most b.args.area (opposite b).z (b.args.area - b.args.rest) (opposite b).le) tt) tt
+
+pub rounded-requires : goal.rounded-requires
+rounded-requires c = (omega arith, passed (opposite c) (λ (z : ℤ). nat_abs z ≤ 10000000001) (opposite c).le)
+
+pub returns-then-whole-lt0 : goal.returns-then-whole-lt0
+returns-then-whole-lt0 c = let s = b c in
+    (back c).held ∙ rounds-below s.args.area s.args.whole s.args.rest s.pre.0 (less (whole s) (lit 0 tt) c.if-whole-lt0.true)
+
+pub rounded-requires-2 : goal.rounded-requires-2
+rounded-requires-2 c = (omega (arith, c.requires.0), passed (whole c) (λ (z : ℤ). nat_abs z ≤ 10000000001) (omega (arith, c.requires.1)))
+
+pub returns : goal.returns
+returns c = held c.rounded-2.result c.rounded-2.type-inv ∙ c.rounded-2.ensures ∙ ap (λ (z : ℤ). half_up c.args.area z c.args.rest) (whole c).held
+    ∙ rounds-above c.args.area c.args.whole c.args.rest c.requires.0 (not-less (whole c) (lit 0 tt) c.if-whole-lt0.false)
+
+pub overflow_add-whole : goal.overflow_add-whole
+overflow_add-whole c = fits (more c)
+
+pub overflow_sub-whole : goal.overflow_sub-whole
+overflow_sub-whole c = fits (opposite c)
+
+pub overflow_sub-result : goal.overflow_sub-result
+overflow_sub-result c = fits (back c)

@@ -1,0 +1,68 @@
+-- `heights::value_with` meets its contract: each return is a case of the definition.
+-- Assumes nothing.
+use Prim.Native.Nat.{ℕ, ◌-◌, ◌/◌, ◌<◌}
+use mathlib.Core.Path.{◌≡◌, ◌∙◌}
+use mathlib.Core.Bool.{true}
+use native.Mathlib.Omega.{arith}
+use borrow.Author.Rules.{rules}
+use borrow.Author.Tests.{le-leb, lt-leb, eq-eqb, ne_eqb}
+use lib.IntN.{ℤ}
+use mir.Syntax.{w64}
+use mir.Val.{to_z, of_z}
+use Rattle.arith.specs.Lists.{at}
+use Rattle.arith.proofs.Back.{held}
+use Rattle.arith.proofs.Machine.{is-back}
+use Rattle.arith.proofs.Tests.{all-at}
+use Rattle.heights_mean.specs.Means.{less, near, near_at, fits}
+use Rattle.heights.specs.Heights.{value_with}
+use Rattle.heights.proofs.value_with.Goals as goal
+
+-- one of the row's own values
+module _ (s : tie.Start) where
+  abbrev z : ℤ
+  z = at s.args.values.now s.args.k
+
+pub returns-then-k-lt10 : goal.returns-then-k-lt10
+unfolding value_with
+returns-then-k-lt10 c = held (z c) c.result-1.given ∙ rw (lt-leb 10 _ c.if-k-lt10.true)
+
+pub returns-then-k-gt58 : goal.returns-then-k-gt58
+unfolding value_with
+returns-then-k-gt58 c = held (z c) c.result-then-k-gt58-1.given ∙ rw (le-leb 10 _ c.if-k-lt10.false, lt-leb _ 58 c.if-k-gt58.true)
+
+pub returns-then-k-ne1 : goal.returns-then-k-ne1
+unfolding value_with
+returns-then-k-ne1 c = held (z c) c.result-then-k-ne1-1.given
+    ∙ rw (le-leb 10 _ c.if-k-lt10.false, le-leb _ 58 c.if-k-gt58.false, ne_eqb _ 1 c.if-k-ne1.true)
+
+pub returns-then-k-eq10 : goal.returns-then-k-eq10
+unfolding value_with
+returns-then-k-eq10 c = is-back c.ranges.mean
+    ∙ rw (le-leb 10 _ c.if-k-lt10.false, le-leb _ 58 c.if-k-gt58.false, eq-eqb _ 1 c.if-k-ne1.false, eq-eqb _ 10 c.if-k-eq10.true)
+
+-- a wanted height
+module _ (c : tie.After-height-at) where
+  abbrev s : tie.Start
+  s = c.before.before.before.before.before
+
+  abbrev i : ℕ
+  i = (s.args.k - 13) / 3
+
+  small : i < 16
+  small = omega arith
+
+  known : to_z w64 (of_z w64 c.height-at.result) ≡ at s.args.wanted.now i
+  known = held c.height-at.result c.height-at.type-inv ∙ c.height-at.ensures
+
+  near-at : near s.args.mean (at s.args.wanted.now i) ≡ true
+  unfolding fits
+  near-at = all-at (near_at s.args.wanted.now s.args.mean) 16 s.pre.1.1 i small
+
+pub height_less-requires : goal.height_less-requires
+height_less-requires c = rw (is-back (s c).ranges.mean, known c) ((s c).requires.1.0, near-at c)
+
+pub returns : goal.returns
+unfolding value_with
+returns c = held c.height_less.result c.height_less.type-inv ∙ c.height_less.ensures
+    ∙ (λ x. less (known c x) (is-back (s c).ranges.mean x))
+    ∙ rw (le-leb 10 _ c.if-k-lt10.false, le-leb _ 58 c.if-k-gt58.false, eq-eqb _ 1 c.if-k-ne1.false, ne_eqb _ 10 c.if-k-eq10.false)

@@ -1,0 +1,7 @@
+-- `layout_by_number::check_named` meets its contract.
+-- Assumes nothing.
+use borrow.Author.Rules.{rules}
+use Rattle.layout_by_number.proofs.check_named.Goals as goal
+
+pub returns : goal.returns
+returns c = rw (c.check_place.ensures, c.check_place-r.ensures, c.check_size-r.ensures)

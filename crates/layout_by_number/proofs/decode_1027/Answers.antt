@@ -1,0 +1,10 @@
+-- `layout_by_number::decode_1027` meets its contract: the table equals its layout by computation.
+-- Assumes nothing.
+use Rattle.layout_tables.specs.Layouts.{layout1027}
+use Rattle.layout_by_number.proofs.Checked.{read_by}
+use borrow.Author.Rules.{rules}
+use Rattle.layout_by_number.proofs.decode_1027.Goals as goal
+
+pub returns : goal.returns
+unfolding layout1027
+returns c = let a = c.args in let p = read_by _ layout1027 a.s.now a.values.now a.present.now c.check_1027.ensures c.decode_checked.ensures in record { answer = p.0; values = p.1.0; present = p.1.1 }

@@ -1,0 +1,9 @@
+-- `layout_by_number::encode_1025` meets its contract: the table equals its layout by computation.
+-- Assumes nothing.
+use borrow.Author.Rules.{rules}
+use Rattle.layout_tables.specs.Layouts.{layout1025}
+use Rattle.layout_by_number.proofs.encode_1025.Goals as goal
+
+pub returns : goal.returns
+unfolding layout1025
+returns c = let p = c.encode.ensures in record { answer = p.0; output = p.1 }

@@ -1,0 +1,15 @@
+-- `layout_tables::check_1024` meets its contract: its fields with a declared range, and their bits, by computation.
+-- Assumes nothing.
+use mathlib.Core.Path.{sym}
+use native.Mathlib.Omega.{arith}
+use borrow.Author.Rules.{rules}
+use Rattle.layout.specs.Layout.{total}
+use Rattle.layout.specs.Private.{places_refusal}
+use Rattle.layout.proofs.Places.{ranged_at, ranged, ranged-check}
+use Rattle.layout_tables.specs.Layouts.{layout1024}
+use Rattle.layout_tables.proofs.Length.{length-1024}
+use Rattle.layout_tables.proofs.check_1024.Goals as goal
+
+pub returns : goal.returns
+unfolding layout1024 total ranged_at ranged places_refusal
+returns c = rw c.check_size.ensures (sym (ranged-check layout1024 c.args.s.now (omega (arith, length-1024))))

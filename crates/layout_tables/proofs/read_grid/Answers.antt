@@ -1,0 +1,20 @@
+-- `layout_tables::read_grid` meets its contract.
+-- Assumes nothing.
+use mathlib.Core.Path.{sym, ◌∙◌}
+use native.Mathlib.Omega.{arith}
+use lib.ListN.{length}
+use Rattle.layout.specs.Layout.{value_in, present_in}
+use Rattle.layout_reader.proofs.Answer.{loads}
+use Rattle.layout_tables.proofs.Parts.{grid-read}
+use borrow.Author.Rules.{rules}
+use Rattle.layout_tables.proofs.read_grid.Goals as goal
+
+pub returns : goal.returns
+returns c = let a = c.args in
+    let Q = c.requires in
+    let h = a.head.now in
+    let t = loads h 0 a.s.now a.values.now a.present.now (omega arith) (omega arith) (omega arith) (omega arith) (omega arith) in
+    let u = rw Q.0.0 at t in
+    let f = c.read.ensures in
+    let g = c.read_points.ensures in
+    let k = c.read_tail.ensures in record { values = grid-read value_in a.s.now a.values.now h a.p _ _ _ Q.0.0 Q.0.1.0 (f.0 ∙ sym u.0) g.0 k.0; present = grid-read present_in a.s.now a.present.now h a.p _ _ _ Q.0.0 Q.0.1.0 (f.1 ∙ sym u.1) g.1 k.1 }

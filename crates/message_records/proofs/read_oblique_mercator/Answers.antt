@@ -1,0 +1,23 @@
+-- `message_records::read_oblique_mercator` meets its contract.
+-- Assumes nothing.
+use mathlib.Core.Path.{◌∙◌}
+use borrow.Author.Rules.{rules}
+use Rattle.record_projections.specs.Projections.{oblique_mercator_of}
+use Rattle.message_records.specs.Kinds.{read_oblique_mercator}
+use Rattle.message_records.proofs.RecordNumbers.{read-refusal, read-record}
+use Rattle.message_records.proofs.read_oblique_mercator.Goals as goal
+
+pub returns : goal.returns
+unfolding read_oblique_mercator
+returns c = let s = c.args.s.now in
+    let r = c.read_kind-refusal.ensures in
+    λ i. record {
+      refusal = read-refusal 1027 1027 s r.0 i;
+      value = (c.oblique_mercator_of.ensures ∙ read-record 1027 1027 s oblique_mercator_of r.1.0 r.1.1) i;
+    }
+
+pub read_kind-refusal-requires : goal.read_kind-refusal-requires
+read_kind-refusal-requires c = tt
+
+pub oblique_mercator_of-requires : goal.oblique_mercator_of-requires
+oblique_mercator_of-requires c = tt

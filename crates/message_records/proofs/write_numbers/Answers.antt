@@ -1,0 +1,21 @@
+-- `message_records::write_numbers` meets its contract.
+-- Assumes nothing.
+use mathlib.Core.Path.{sym}
+use native.Mathlib.Omega.{arith}
+use lib.Seq.{length-take-le}
+use borrow.Author.Rules.{rules}
+use Rattle.message_records.proofs.write_numbers.Goals as goal
+
+pub slice_bounds-write_kind-end : goal.slice_bounds-write_kind-end
+slice_bounds-write_kind-end c = let n = c.args.n in
+    sym (length-take-le n.count n.values (omega arith))
+
+pub slice_bounds-write_kind-end-2 : goal.slice_bounds-write_kind-end-2
+slice_bounds-write_kind-end-2 c = let n = c.args.n in
+    sym (length-take-le n.count n.present (omega arith))
+
+pub returns : goal.returns
+returns c = let p = c.write_kind.ensures in record { answer = p.0; output = p.1 }
+
+pub write_kind-requires : goal.write_kind-requires
+write_kind-requires c = tt

@@ -1,0 +1,11 @@
+-- `message_rows::sin_bit` meets its contract.
+-- Assumes nothing.
+use borrow.Author.Tests.{lt-leb, le-leb}
+use borrow.Author.Rules.{rules}
+use Rattle.message_rows.proofs.sin_bit.Goals as goal
+
+pub returns-then-number-gt1022 : goal.returns-then-number-gt1022
+returns-then-number-gt1022 c = rw (lt-leb c.args.number 1022 c.if-number-gt1022.true)
+
+pub returns : goal.returns
+returns c = rw (le-leb c.args.number 1022 c.if-number-gt1022.false)

@@ -1,0 +1,23 @@
+-- `record_grids::grid_of` meets its contract: each part is read where the definition reads it.
+-- Assumes nothing.
+use mathlib.Core.Path.{◌∙◌}
+use Rattle.arith.proofs.Back.{held}
+use Rattle.record_grids.specs.Grids.{grid_of}
+use borrow.Author.Rules.{rules}
+use Rattle.record_grids.proofs.grid_of.Goals as goal
+
+pub returns : goal.returns
+unfolding grid_of
+returns c = let number = c in
+    λ i. record {
+      number = (held _ number.number-at.type-inv ∙ number.number-at.ensures) i;
+      c = (held _ c.number_at-2.type-inv ∙ c.number_at-2.ensures) i;
+      c = c.pair_at.ensures i;
+      c = c.origin_at.ensures i;
+      c = c.spacing_at.ensures i;
+      c = c.shifts_at.ensures i;
+      c = c.nodes_at.ensures i;
+      c = c.pair_at-2.ensures i;
+      c = c.pair_at-3.ensures i;
+      day = (held _ c.number_at-3.type-inv ∙ c.number_at-3.ensures) i;
+    }

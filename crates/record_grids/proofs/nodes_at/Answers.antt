@@ -1,0 +1,34 @@
+-- `record_grids::nodes_at` meets its contract: a loop that fills the nodes from the front.
+-- Assumes nothing.
+use Prim.Native.Nat.{ℕ, ◌+◌, ◌*◌, ◌-◌, ◌≤◌}
+use mathlib.Core.Path.{◌≡◌, refl}
+use mathlib.Core.List.{List, ◌++◌}
+use native.Mathlib.Omega.{arith}
+use lib.IntN.{ℤ}
+use lib.ListN.{drop}
+use Rattle.arith.specs.Lists.{up_to}
+use Rattle.arith.proofs.Lists.{fill-turn, fill_done}
+use Rattle.layout.specs.Layout.{row_of}
+use Rattle.record_rows.specs.Numbers.{says}
+use Rattle.record_grids.specs.declared.Shifts.{Shifts}
+use Rattle.record_grids.specs.Grids.{shifts_at, nodes_at}
+use Rattle.record_grids.proofs.Appends.{zero_shifts}
+use Rattle.record_grids.proofs.nodes_at.Goals as goal
+
+-- node j of the nodes from place k on
+abbrev node : List ℤ → List ℕ → ℕ → ℕ → Shifts
+node values present k j = shifts_at (says (row_of values present)) (k + 3 * j)
+
+pub loop-i-init : goal.loop-i-init
+loop-i-init c = (omega arith, refl)
+
+pub loop-i-preserved : goal.loop-i-preserved
+loop-i-preserved c = let l = c.loop-i in
+    let a = c.args in
+    (omega arith, fill-turn (node a.values.now a.present.now a.k) _ _ l.i _ zero_shifts l.invariant.1 c.shifts_at.ensures (omega arith))
+
+pub returns : goal.returns
+unfolding nodes_at
+returns c = let l = c.loop-i in
+    let a = c.args in
+    fill_done (node a.values.now a.present.now a.k) _ _ l.i 16 l.invariant.1 (omega arith) (omega arith)

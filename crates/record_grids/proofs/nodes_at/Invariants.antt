@@ -1,0 +1,22 @@
+-- `record_grids::nodes_at` meets its contract: a loop that fills the nodes from the front.
+-- Assumes nothing.
+use Prim.Native.Nat.{ℕ, ◌+◌, ◌*◌, ◌-◌, ◌≤◌}
+use mathlib.Core.Path.{◌≡◌, refl}
+use mathlib.Core.List.{List, ◌++◌}
+use native.Mathlib.Omega.{arith}
+use lib.IntN.{ℤ}
+use lib.ListN.{drop}
+use Rattle.arith.specs.Lists.{up_to}
+use Rattle.arith.proofs.Lists.{fill-turn, fill_done}
+use Rattle.layout.specs.Layout.{row_of}
+use Rattle.record_rows.specs.Numbers.{says}
+use Rattle.record_grids.specs.declared.Shifts.{Shifts}
+use Rattle.record_grids.specs.Grids.{shifts_at, nodes_at}
+use Rattle.record_grids.proofs.Appends.{zero_shifts}
+use Rattle.record_grids.proofs.nodes_at.Given as goal
+
+abbrev pub invariant-loop-i : goal.invariant-loop-i
+invariant-loop-i l = (l.i ≤ 16) × (l.nodes ≡ up_to (node l.values l.present l.k) l.i ++ drop l.i l.initial.nodes)
+
+abbrev pub decreases-loop-i : goal.decreases-loop-i
+decreases-loop-i l = 16 - l.i

@@ -1,0 +1,9 @@
+-- `record_grids::origin_at` meets its contract: each place of the row is read for the field that the definition names.
+-- Assumes nothing.
+use Rattle.record_grids.specs.Grids.{origin_at}
+use borrow.Author.Rules.{rules}
+use Rattle.record_grids.proofs.origin_at.Goals as goal
+
+pub returns : goal.returns
+unfolding origin_at
+returns c = λ i. record { north = c.says_at.ensures i; east = c.says_at-2.ensures i }

@@ -1,0 +1,9 @@
+-- `record_grids::shifts_at` meets its contract: each place of the row is read for the field that the definition names.
+-- Assumes nothing.
+use Rattle.record_grids.specs.Grids.{shifts_at}
+use borrow.Author.Rules.{rules}
+use Rattle.record_grids.proofs.shifts_at.Goals as goal
+
+pub returns : goal.returns
+unfolding shifts_at
+returns c = λ i. record { c = c.says_at.ensures i; c = c.says_at-2.ensures i; height = c.says_at-3.ensures i }

@@ -1,0 +1,21 @@
+-- `record_projections::lambert_of` meets its contract: each place of the row is read for the field that the definition names.
+-- Assumes nothing.
+use mathlib.Core.Path.{◌∙◌}
+use Rattle.arith.proofs.Back.{held}
+use Rattle.record_projections.specs.Projections.{lambert_of}
+use borrow.Author.Rules.{rules}
+use Rattle.record_projections.proofs.lambert_of.Goals as goal
+
+pub returns : goal.returns
+unfolding lambert_of
+returns c = λ i. record {
+  c = (held _ c.number_at.type-inv ∙ c.number_at.ensures) i;
+  c = (held _ c.number_at-2.type-inv ∙ c.number_at-2.ensures) i;
+  c = (held _ c.number_at-3.type-inv ∙ c.number_at-3.ensures) i;
+  c = c.says_at.ensures i;
+  c = c.says_at-2.ensures i;
+  c = c.says_at-3.ensures i;
+  c = c.says_at-4.ensures i;
+  c = (held _ c.number_at-4.type-inv ∙ c.number_at-4.ensures) i;
+  northing = c.says_at-5.ensures i;
+}

@@ -1,0 +1,24 @@
+-- `report_points::step` meets its contract: the code's test is the definition's.
+-- Assumes nothing.
+use mathlib.Core.Path.{◌∙◌}
+use borrow.Author.Rules.{rules}
+use borrow.Author.Tests.{ne_eqb}
+use Rattle.arith.proofs.Back.{held}
+use Rattle.grid_component.specs.Inner.{counted_by}
+use Rattle.report_update.specs.Inner.{grown_by}
+use Rattle.report_points.specs.Private.{step_of}
+use Rattle.report_points.proofs.Walk.{stepped}
+use Rattle.report_points.proofs.step.Goals as goal
+
+pub returns-then-r-ne0 : goal.returns-then-r-ne0
+unfolding step_of
+returns-then-r-ne0 c = rw (ne_eqb _ 0 c.if-r-ne0.true)
+
+pub returns : goal.returns
+returns c = let a = c.args in
+    let o = c.count_at-o.result in
+    (λ i. record { refusal = 0; tally = (c.with_outcome.ensures ∙ (λ j. grown_by a.r.tally o.refusal (held o.count c.type_inv.o.1.0.1 j) a.before)) i })
+    ∙ stepped a.r a.message.now a.kept a.component a.p a.before
+    (c.count_at-o.ensures
+    ∙ (λ i. counted_by a.message.now a.kept a.component (held a.p.north c.type_inv.p.0.1 i) (held a.p.east c.type_inv.p.1.0.1 i)))
+    c.if-r-ne0.false

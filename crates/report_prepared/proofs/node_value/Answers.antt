@@ -1,0 +1,10 @@
+-- `report_prepared::node_value` meets its contract.
+-- Assumes nothing.
+use mathlib.Core.Path.{ap, ◌∙◌}
+use borrow.Author.Rules.{rules}
+use Rattle.arith.proofs.Back.{held}
+use Rattle.layout.specs.Layout.{value_in}
+use Rattle.report_prepared.proofs.node_value.Goals as goal
+
+pub returns : goal.returns
+returns c = held c.value_in.result c.value_in.type-inv ∙ c.value_in.ensures ∙ ap value_in c.node_at.ensures

@@ -1,0 +1,46 @@
+-- `sample_checks::first_bad` meets its contract: the points passed are right.
+-- Assumes nothing.
+use Prim.Native.Nat.{◌-◌, ◌≤◌}
+use mathlib.Core.Path.{◌≡◌, refl, sym, ap, ◌∙◌}
+use native.Mathlib.Omega.{arith}
+use borrow.Author.Tests.{not-true, not-false}
+use lib.ListN.{length}
+use Rattle.sample_files.specs.File.{points_of}
+use Rattle.sample_files.specs.Inner.{point_at}
+use Rattle.sample_checks.specs.Check.{right}
+use Rattle.sample_checks.proofs.Checks.{bad_from, round-bad, round-right, none-bad}
+use Rattle.sample_checks.proofs.first_bad.Goals as goal
+
+pub loop-i-init : goal.loop-i-init
+loop-i-init c = (c.point_count-n.ensures, (omega arith, refl))
+
+pub right_point-requires : goal.right_point-requires
+right_point-requires c = c.requires
+
+module _ (c : tie.After-right-point invariant-loop decreases-loop) where
+  abbrev s : tie.Start invariant-loop decreases-loop
+  s = c.before.before.before.before.before.before.before
+
+  abbrev l : tie.At-loop invariant-loop decreases-loop
+  l = c.before.before.before
+
+  tested : c.right-point.result ≡ right s.args.message.now (point_at s.args.file.now l.loop.i)
+  tested = c.right-point.ensures ∙ ap (right s.args.message.now) c.before.point_at.ensures
+
+pub returns-then-not-right_point : goal.returns-then-not-right_point
+returns-then-not-right_point c = round-bad (s c).args.message.now (s c).args.file.now (l c).loop.i (omega (arith, c.loop-i-test.true, (l c).loop.invariant.0))
+    (sym (tested c) ∙ not-true _ c.if-not-right_point.true) (l c).loop.invariant.1.1
+
+pub loop-i-preserved : goal.loop-i-preserved
+loop-i-preserved c = let v = (l c).loop.invariant in
+    (v.0, (omega arith, v.1.1 ∙ round-right (s c).args.message.now (s c).args.file.now (l c).loop.i (omega (arith, c.loop-i-test.true, v.0)) (sym (tested c) ∙ not-false _ c.if-not-right_point.false)))
+
+pub returns : goal.returns
+returns c = let v = c.loop-i.invariant in
+    none-bad _ _ c.loop-i.i (omega (arith, c.loop-i-test.false, v.0)) v.1.1
+
+pub point_count-n-requires : goal.point_count-n-requires
+point_count-n-requires c = tt
+
+pub point_at-requires : goal.point_at-requires
+point_at-requires c = tt

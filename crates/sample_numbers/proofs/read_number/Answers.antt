@@ -1,0 +1,49 @@
+-- `sample_numbers::read_number` meets its contract: the bytes passed are the number so far.
+-- Assumes nothing.
+use Prim.Native.Nat.{ℕ, ◌+◌, ◌-◌, ◌*◌, ◌^◌, ◌≤◌, ◌<◌}
+use mathlib.Core.Path.{◌≡◌, refl, ap, ◌∙◌}
+use native.Mathlib.Omega.{arith}
+use mathlib.Core.List.{List}
+use lib.ListN.{get_or, drop}
+use Rattle.sample_numbers.specs.Number.{number}
+use Rattle.sample_numbers.proofs.Word.{fits_word, round_room, round_number}
+use Rattle.sample_numbers.proofs.read_number.Goals as goal
+
+pub loop-i-init : goal.loop-i-init
+unfolding number
+loop-i-init c = (omega arith, (omega arith, refl))
+
+pub overflow_mul-r : goal.overflow_mul-r
+overflow_mul-r c = let l = c.loop-i in
+    let h = fits_word (l.r * 256 + 0) (l.i + 1) (omega arith) (round_room l.r 0 l.i l.invariant.1.0 (omega arith)) in
+    record { fits = omega arith }
+
+module _ (c : tie.After-shared-slice-known invariant-loop decreases-loop) where
+  abbrev i : ℕ
+  i = c.before.before.loop.i
+
+  abbrev r : ℕ
+  r = c.before.before.loop.r
+
+  abbrev at : ℕ
+  at = c.before.before.before.args.a + i
+
+  abbrev s : List ℕ
+  s = c.before.before.before.args.s.now
+
+  next : r * 256 + get_or s at 0 < 2 ^ (8 * (i + 1))
+  next = round_room r (get_or s at 0) i c.before.before.loop.invariant.1.0 (c.shared-slice-known.given at).fits
+
+pub overflow_add-r-in-loop-i : goal.overflow_add-r-in-loop-i
+overflow_add-r-in-loop-i c = record { fits = fits_word _ (i c + 1) (omega arith) (next c) }
+
+pub loop-i-preserved : goal.loop-i-preserved
+loop-i-preserved c = (omega arith, (next c, round_number (s c) c.args.a (r c) (i c) c.loop-i.invariant.1.1))
+
+pub returns : goal.returns
+returns c = let a = c.args in
+    let l = c.loop-i in
+    l.invariant.1.1 ∙ ap (λ i. number i (drop a.a a.s.now)) (omega arith)
+
+pub overflow_cast-r : goal.overflow_cast-r
+overflow_cast-r c = omega (arith, c.type_inv.s (c.args.a + c.loop-i.i))

@@ -1,0 +1,17 @@
+-- `table_slots::zeros` meets its contract: the greatest of the bytes passed, and what is left.
+-- Assumes nothing.
+use Prim.Native.Nat.{◌-◌, ◌≤◌}
+use native.Mathlib.Omega.{arith}
+use mathlib.Core.Path.{◌≡◌, refl, sym, ap, ◌∙◌}
+use mathlib.Core.Bool.{Bool, true, false, ◌&&◌, and_assoc}
+use lib.Dec.{eqb}
+use lib.ListN.{length, drop, get_or}
+use Rattle.table_slots.specs.Slots.{all_zero}
+use Rattle.table_slots.proofs.Slot.{zero-on, zero-end}
+use Rattle.table_slots.proofs.zeros.Given as goal
+
+abbrev pub invariant-loop-i : goal.invariant-loop-i
+invariant-loop-i l = (l.i ≤ length l.s) × (all_zero l.s ≡ (eqb l.n 0 && all_zero (drop l.i l.s)))
+
+abbrev pub decreases-loop-i : goal.decreases-loop-i
+decreases-loop-i l = length l.s - l.i
