@@ -36,6 +36,19 @@ class Names:
             (old, new), variables = loop
             self.loops[norm(old)] = (new, variables, changed)
         self.asked = {norm(k): v for k, v in entry["asked"].items()}
+        self.clause_names = {}
+        for place, clause in zip(entry["places"], entry["clauses"]):
+            if clause and clause.get("fields") and len(clause["fields"]) > 1 and place[2][0]:
+                self.clause_names[norm(place[2][0])] = clause["fields"]
+        pre = entry.get("pre")
+        self.pre = pre["fields"] if pre and len(pre.get("fields") or []) > 1 else None
+        self.arms = {}
+        for arm in entry["arms"]:
+            if not arm:
+                continue
+            for field, step, path in arm[2]:
+                if not field.endswith("-own") and path:
+                    self.arms.setdefault((norm(step), tuple(path)), f"{arm[0]}.{field}")
         self.given = {}
         for typed in entry["typed"]:
             for var, step in typed:
@@ -103,6 +116,23 @@ def commas(t):
     return [p.strip() for p in out if p.strip()]
 
 
+def clause_path(names, digits):
+    """What the digits 0 and 1 of a nested pair select, as the clause's name and the digits that are left."""
+    i, digits = 0, list(digits)
+    while digits and digits[0] == "1" and i < len(names) - 1:
+        digits.pop(0)
+        i += 1
+    if i < len(names) - 1:
+        if not digits or digits[0] != "0":
+            return None
+        digits.pop(0)
+    return [names[i]] + digits
+
+
+PLAIN = {"type-inv": "type_inv", "well-formed": "well_formed"}
+SAME = {"entry_isplace": "entry_place", "has_key_lem": "has_key", "store_bytes": "store_bytes"}
+
+
 class Turn:
     def __init__(self, names, said):
         self.n = names
@@ -125,19 +155,44 @@ class Turn:
                     break
             if not found:
                 break
+        # a let that names one step is written out
+        for _ in range(20):
+            names = "|".join(re.escape(a) for a in sorted(aliases, key=len, reverse=True))
+            m = re.search(r"let\s+(" + ID + r"+)\s*=\s*((?:" + names + r")(?:\.before)*\.(" + ID + r"+)(\.ensures)?)\s+in\b", body)
+            while m and (m[3] in ("args", "requires", "ranges") or (m[4] and norm(m[3]) not in self.n.clause_names) or re.match(r"loop(_?\d*)$", norm(m[3]))):
+                m = re.compile(r"let\s+(" + ID + r"+)\s*=\s*((?:" + names + r")(?:\.before)*\.(" + ID + r"+)(\.ensures)?)\s+in\b").search(body, m.end())
+            if not m:
+                break
+            head, tail = body[: m.start()], body[m.end() :]
+            tail = re.sub(r"(?<![A-Za-z0-9_'.₀-₉-])" + re.escape(m[1]) + r"(?![A-Za-z0-9_'₀-₉-])", lambda q: m[2], tail)
+            body = head + tail.lstrip(" ") if not tail.startswith("\n") else re.sub(r"[ ]*$", "", head) + (tail if head.strip() and not head.rstrip(" ").endswith("\n") else tail.lstrip("\n"))
         names = "|".join(re.escape(a) for a in sorted(aliases, key=len, reverse=True))
 
         def one(m):
             rest = m[2]
-            fields = [f for f in rest.split(".") if f]
+            fields = [PLAIN.get(f, f) for f in rest.split(".") if f]
             while fields and fields[0] == "before":
                 fields.pop(0)
             if not fields:
                 return "c" if not rest else "c"
             first = norm(fields[0])
+            first = SAME.get(first, first)
+            for k in range(len(fields), 1, -1):
+                if (first, tuple(fields[1:k])) in self.n.arms:
+                    return ".".join(["c", self.n.arms[(first, tuple(fields[1:k]))]] + fields[k:])
+            if fields[0] == "requires" and self.n.pre and len(fields) > 1:
+                got = clause_path(self.n.pre, fields[1:])
+                if got:
+                    return ".".join(["c", "requires"] + got)
+                self.said("requires " + ".".join(fields))
+            if len(fields) > 2 and fields[1] == "ensures" and first in self.n.clause_names and fields[2] in ("0", "1"):
+                got = clause_path(self.n.clause_names[first], fields[2:])
+                if got:
+                    return ".".join(["c", self.n.steps.get(first, fields[0]), "ensures"] + got)
+                self.said("ensures " + ".".join(fields))
             if len(fields) > 1 and fields[1] in ("given",) and first in self.n.given:
                 return ".".join(["c.type_inv", self.n.given[first]] + fields[2:])
-            if fields[0] in ("args", "requires", "ranges", "lifetimes", "type_inv"):
+            if fields[0] in ("args", "requires", "ranges", "lifetimes", "type_inv", "well_formed"):
                 return ".".join(["c"] + fields)
             if first in self.n.steps:
                 new = self.n.steps[first]
@@ -145,7 +200,9 @@ class Turn:
             self.said(f"step {fields[0]} is not known")
             return ".".join(["c"] + fields)
 
-        return re.sub(r"(?<![A-Za-z0-9_'.₀-₉-])(" + names + r")((?:\.[A-Za-z0-9_'«»-]*[A-Za-z0-9_'«»])*)(?![A-Za-z0-9_'₀-₉])", one, body)
+        body = re.sub(r"(?<![A-Za-z0-9_'.₀-₉-])(" + names + r")((?:\.[A-Za-z0-9_'«»-]*[A-Za-z0-9_'«»])*)(?![A-Za-z0-9_'₀-₉])", one, body)
+        # a test of `!x` says today what x is
+        return re.sub(r"(?<![A-Za-z0-9_'.-])not-(?:true|false) (?:_|\([^()]*\)|[A-Za-z0-9_.'-]+) (c\.(?:if|loop)-not-[A-Za-z0-9_.'-]*\.(?:true|false))", r"\1", body)
 
     # ---- helpers that take a context
     def with_helpers(self, body):

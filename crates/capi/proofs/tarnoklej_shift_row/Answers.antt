@@ -10,8 +10,8 @@ use Rattle.capi.proofs.tarnoklej_shift_row.Goals as goal
 pub returns : goal.returns
 returns c = let a = c.args in
     let f = c.ranges in record {
-      answer = c.shift_row.ensures.0
+      answer = c.shift_row.ensures.answer
           ∙ (λ i. shift_row_refusal a.s.now a.component (is-back f.north i) (is-back f.east i) (is-back f.step i) a.count (length a.row.now));
-      output = c.shift_row.ensures.1
+      output = c.shift_row.ensures.output
           ∙ (λ i. shift_row_filled a.s.now a.component (is-back f.north i) (is-back f.east i) (is-back f.step i) a.count a.row.now);
     }

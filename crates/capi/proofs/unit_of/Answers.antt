@@ -7,12 +7,12 @@ use Rattle.capi.proofs.unit_of.Goals as goal
 
 pub returns-in-Seconds : goal.returns-in-Seconds
 unfolding unit_of
-returns-in-Seconds c = sym (ap unit_of c.enum_told-1.given.1)
+returns-in-Seconds c = sym (ap unit_of c.in-Seconds.is)
 
 pub returns-in-Metres : goal.returns-in-Metres
 unfolding unit_of
-returns-in-Metres c = sym (ap unit_of c.enum_told-in-Metres-1.given.1)
+returns-in-Metres c = sym (ap unit_of c.in-Metres.is)
 
 pub returns-in-Refused : goal.returns-in-Refused
 unfolding unit_of
-returns-in-Refused c = sym (ap unit_of c.enum_told-in-Refused-1.given.1)
+returns-in-Refused c = sym (ap unit_of c.in-Refused.is)

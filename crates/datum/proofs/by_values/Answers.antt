@@ -97,25 +97,25 @@ module _ (t : tie.After-known-told7) where
   ds = has t.before.ds.given.1 t.known-told7.given.0.1
 
 pub returns-in_default : goal.returns-in_default
-returns-in_default c = refuses c.refused.ensures (λ e. omega arith) (rw (ap is_absent c.enum_told-1.given.1))
+returns-in_default c = refuses c.refused.ensures (λ e. omega arith) (rw (ap is_absent c.in_default.is))
 
 pub returns-in_default-dy : goal.returns-in_default-dy
-returns-in_default-dy c = refuses c.refused-in_default-dy.ensures (λ e. omega arith) (rw ((dx c).value, ap is_absent c.enum_told-in_default-dy-1.given.1))
+returns-in_default-dy c = refuses c.refused-in_default-dy.ensures (λ e. omega arith) (rw ((dx c).value, ap is_absent c.in_default-dy.is))
 
 pub returns-in_default-dz : goal.returns-in_default-dz
-returns-in_default-dz c = refuses c.refused-in_default-dz.ensures (λ e. omega arith) (rw ((dx (k1 c)).value, (dy c).value, ap is_absent c.enum_told-in_default-dz-1.given.1))
+returns-in_default-dz c = refuses c.refused-in_default-dz.ensures (λ e. omega arith) (rw ((dx (k1 c)).value, (dy c).value, ap is_absent c.in_default-dz.is))
 
 pub returns-in_default-rx : goal.returns-in_default-rx
-returns-in_default-rx c = refuses c.refused-in_default-rx.ensures (λ e. omega arith) (rw ((dx (k1 (k2 c))).value, (dy (k2 c)).value, (dz c).value, ap is_absent c.enum_told-in_default-rx-1.given.1))
+returns-in_default-rx c = refuses c.refused-in_default-rx.ensures (λ e. omega arith) (rw ((dx (k1 (k2 c))).value, (dy (k2 c)).value, (dz c).value, ap is_absent c.in_default-rx.is))
 
 pub returns-in_default-ry : goal.returns-in_default-ry
-returns-in_default-ry c = refuses c.refused-in_default-ry.ensures (λ e. omega arith) (rw ((dx (k1 (k2 (k3 c)))).value, (dy (k2 (k3 c))).value, (dz (k3 c)).value, (rx c).value, ap is_absent c.enum_told-in_default-ry-1.given.1))
+returns-in_default-ry c = refuses c.refused-in_default-ry.ensures (λ e. omega arith) (rw ((dx (k1 (k2 (k3 c)))).value, (dy (k2 (k3 c))).value, (dz (k3 c)).value, (rx c).value, ap is_absent c.in_default-ry.is))
 
 pub returns-in_default-rz : goal.returns-in_default-rz
-returns-in_default-rz c = refuses c.refused-in_default-rz.ensures (λ e. omega arith) (rw ((dx (k1 (k2 (k3 (k4 c))))).value, (dy (k2 (k3 (k4 c)))).value, (dz (k3 (k4 c))).value, (rx (k4 c)).value, (ry c).value, ap is_absent c.enum_told-in_default-rz-1.given.1))
+returns-in_default-rz c = refuses c.refused-in_default-rz.ensures (λ e. omega arith) (rw ((dx (k1 (k2 (k3 (k4 c))))).value, (dy (k2 (k3 (k4 c)))).value, (dz (k3 (k4 c))).value, (rx (k4 c)).value, (ry c).value, ap is_absent c.in_default-rz.is))
 
 pub returns-in_default-ds : goal.returns-in_default-ds
-returns-in_default-ds c = refuses c.refused-in_default-ds.ensures (λ e. omega arith) (rw ((dx (k1 (k2 (k3 (k4 (k5 c)))))).value, (dy (k2 (k3 (k4 (k5 c))))).value, (dz (k3 (k4 (k5 c)))).value, (rx (k4 (k5 c))).value, (ry (k5 c)).value, (rz c).value, ap is_absent c.enum_told-in_default-ds-1.given.1))
+returns-in_default-ds c = refuses c.refused-in_default-ds.ensures (λ e. omega arith) (rw ((dx (k1 (k2 (k3 (k4 (k5 c)))))).value, (dy (k2 (k3 (k4 (k5 c))))).value, (dz (k3 (k4 (k5 c)))).value, (rx (k4 (k5 c))).value, (ry (k5 c)).value, (rz c).value, ap is_absent c.in_default-ds.is))
 
 module _ (t : tie.After-known-told7) where
   taken : ◌≡◌ {A = Values}

@@ -79,7 +79,7 @@ nearest-requires c = passed (sum c) (λ z. nat_abs z ≤ 2 * 10 ^ 18) (le_trans 
 
 pub returns : goal.returns
 returns c = let i = s c in
-    passed (any c.nearest.result (record { sfits = c.nearest.type-inv }))
+    passed (any c.nearest.result (record { sfits = c.nearest.type_inv }))
     (λ z. About (10 ^ 35) z (moved i.args.ds (rotated i.args.own_val i.args.a i.args.b i.args.ra i.args.rb) i.args.d) (521 * 10 ^ 32))
     (answer-about i.args.own_val i.args.a i.args.b i.args.ra i.args.rb i.args.ds i.args.d (first c).z (second c).z
     (rotated-by-by (ra i) (a i) c.rotated_by.ensures.0) (rotated-by-by (rb i) (b i) c.rotated_by-2.ensures.0) i.pre.scale c.nearest.result

@@ -86,13 +86,11 @@ pub coordinate-requires-3 : goal.coordinate-requires-3
 coordinate-requires-3 c = search rules
 
 pub returns : goal.returns
-returns c = let a = c.coordinate in
-    let b = c.coordinate-2 in
-    let d = c.coordinate-3 in (
-      refl,
-      record {
-        at_x = answered (x c) (y c) (z c) (rz c) (ry c) (ds c) (dx c) a.result a.type-inv a.ensures (row-x c.args.v c.args.x c.args.y c.args.z);
-        at_y = answered (y c) (z c) (x c) (rx c) (rz c) (ds c) (dy c) b.result b.type-inv b.ensures (row-y c.args.v c.args.x c.args.y c.args.z);
-        at_z = answered (z c) (x c) (y c) (ry c) (rx c) (ds c) (dz c) d.result d.type-inv d.ensures (row-z c.args.v c.args.x c.args.y c.args.z);
-      },
-    )
+returns c = (
+  refl,
+  record {
+    at_x = answered (x c) (y c) (z c) (rz c) (ry c) (ds c) (dx c) c.coordinate.result c.coordinate.type_inv c.coordinate.ensures (row-x c.args.v c.args.x c.args.y c.args.z);
+    at_y = answered (y c) (z c) (x c) (rx c) (rz c) (ds c) (dy c) c.coordinate-2.result c.coordinate-2.type_inv c.coordinate-2.ensures (row-y c.args.v c.args.x c.args.y c.args.z);
+    at_z = answered (z c) (x c) (y c) (ry c) (rx c) (ds c) (dz c) c.coordinate-3.result c.coordinate-3.type_inv c.coordinate-3.ensures (row-z c.args.v c.args.x c.args.y c.args.z);
+  },
+)

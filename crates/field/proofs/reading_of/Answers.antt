@@ -17,4 +17,4 @@ pub returns : goal.returns
 unfolding signed_of
 returns c = let a = c.args in
     rw (ne_eqb a.u (none_of a.w) (rw c.pow2.ensures at c.if-u-pow2.false))
-    (ap Value (to_z-of_z w64 c.signed_of.result (record { sfits = c.signed_of.type-inv }) ∙ c.signed_of.ensures))
+    (ap Value (to_z-of_z w64 c.signed_of.result (record { sfits = c.signed_of.type_inv }) ∙ c.signed_of.ensures))

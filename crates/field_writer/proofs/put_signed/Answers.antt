@@ -12,21 +12,21 @@ pub returns-then-w-gt63 : goal.returns-then-w-gt63
 returns-then-w-gt63 c = let a = c.args in sym (put-wide a.s.now a.p a.w a.r c.if-w-gt63.true)
 
 pub returns-then-magnitude-h : goal.returns-then-magnitude-h
-returns-then-magnitude-h c = let z = c.r-1.given.0.0 in
+returns-then-magnitude-h c = let z = c.in-Value.z in
     let back = bits-z z (record { sfits = c.known_told-1.given.0.1 }) in
     let m = c.magnitude.ensures ∙ ap nat_abs back in
     let h = c.pow2-h.ensures in
-    rw (c.r-1.given.1, put-value c.args.s.now c.args.p c.args.w z (rw (m, h) at c.if-magnitude-h.true))
+    rw (c.in-Value.is, put-value c.args.s.now c.args.p c.args.w z (rw (m, h) at c.if-magnitude-h.true))
     (rw (c.pattern_of.ensures, back) at c.put_field.ensures)
 
 pub returns-else-magnitude-h : goal.returns-else-magnitude-h
-returns-else-magnitude-h c = let z = c.r-1.given.0.0 in
+returns-else-magnitude-h c = let z = c.in-Value.z in
     let m = c.magnitude.ensures ∙ ap nat_abs (bits-z z (record { sfits = c.known_told-1.given.0.1 })) in
     let h = c.pow2-h.ensures in
-    rw c.r-1.given.1 (sym (put-nothing c.args.s.now c.args.p c.args.w z (rw (m, h) at c.if-magnitude-h.false)))
+    rw c.in-Value.is (sym (put-nothing c.args.s.now c.args.p c.args.w z (rw (m, h) at c.if-magnitude-h.false)))
 
 pub returns-in-Absent : goal.returns-in-Absent
 unfolding put_signed
 returns-in-Absent c = let a = c.args in
     let p = c.pow2-h.ensures in
-    rw c.enum_told-1.given.1 (rw p at c.put_field-in-Absent.ensures)
+    rw c.in-Absent.is (rw p at c.put_field-in-Absent.ensures)

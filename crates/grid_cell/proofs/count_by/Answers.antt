@@ -31,49 +31,49 @@ module _ (k : tie.After-nodes-held) where
 pub returns-then-not-weights_held : goal.returns-then-not-weights_held
 unfolding in_bounds
 returns-then-not-weights_held c = let a = c.args in
-    count_none a.mean a.factor a.n a.k (rw (weights c (not-true _ c.if-not-weights_held.true)))
+    count_none a.mean a.factor a.n a.k (rw (weights c (c.if-not-weights_held.true)))
 
 pub returns-then-factor-gt10 : goal.returns-then-factor-gt10
 unfolding in_bounds
 returns-then-factor-gt10 c = let a = c.args in
     count_none a.mean a.factor a.n a.k
-    (rw (weights c (not-false _ c.if-not-weights_held.false), lt-leb a.factor 10 c.if-factor-gt10.true))
+    (rw (weights c (c.if-not-weights_held.false), lt-leb a.factor 10 c.if-factor-gt10.true))
 
 pub returns-then-not-no_larger : goal.returns-then-not-no_larger
 unfolding in_bounds
 returns-then-not-no_larger c = let a = (s c).args in
     count_none a.mean a.factor a.n a.k
-    (rw (weights c (not-false _ c.if-not-weights_held.false), le-leb a.factor 10 c.if-factor-gt10.false, small c (not-true _ c.if-not-no_larger.true)))
+    (rw (weights c (c.if-not-weights_held.false), le-leb a.factor 10 c.if-factor-gt10.false, small c (c.if-not-no_larger.true)))
 
 pub returns-then-not-nodes_held : goal.returns-then-not-nodes_held
 unfolding in_bounds
 returns-then-not-nodes_held c = let a = (s c).args in
     count_none a.mean a.factor a.n a.k
     (rw (
-      weights c (not-false _ c.if-not-weights_held.false),
+      weights c (c.if-not-weights_held.false),
       le-leb a.factor 10 c.if-factor-gt10.false,
-      small c (not-false _ c.if-not-no_larger.false),
-      fit c (not-true _ c.if-not-nodes_held.true),
+      small c (c.if-not-no_larger.false),
+      fit c (c.if-not-nodes_held.true),
     ))
 
 pub count_of-requires : goal.count_of-requires
 count_of-requires c = (
-  weighed-of (s c).args.k (weights c (not-false _ c.if-not-weights_held.false)),
-  most-of (fit c (not-false _ c.if-not-nodes_held.false)),
-  rw (is-back (s c).ranges.mean) (leb-true _ _ (small c (not-false _ c.if-not-no_larger.false))),
+  weighed-of (s c).args.k (weights c (c.if-not-weights_held.false)),
+  most-of (fit c (c.if-not-nodes_held.false)),
+  rw (is-back (s c).ranges.mean) (leb-true _ _ (small c (c.if-not-no_larger.false))),
   c.if-factor-gt10.false,
 )
 
 pub returns : goal.returns
 returns c = let bounded : let a = (s c).args in in_bounds a.mean a.factor a.n a.k ≡ true = rw (
-  weights c (not-false _ c.if-not-weights_held.false),
+  weights c (c.if-not-weights_held.false),
   le-leb (s c).args.factor 10 c.if-factor-gt10.false,
-  small c (not-false _ c.if-not-no_larger.false),
-  fit c (not-false _ c.if-not-nodes_held.false),
+  small c (c.if-not-no_larger.false),
+  fit c (c.if-not-nodes_held.false),
 ) in
     let k = s c in
     let a = k.args in
-    held c.count_of.result c.count_of.type-inv
+    held c.count_of.result c.count_of.type_inv
     ∙ c.count_of.ensures
     ∙ ap (λ (z : ℤ). z +ℤ nearest_whole (sum_by a.factor a.k a.n) (area_of a.k)) (is-back k.fits.mean)
     ∙ count_held a.mean a.factor a.n a.k (bounded)

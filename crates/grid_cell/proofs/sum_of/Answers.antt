@@ -18,4 +18,4 @@ sum_by-requires c = (light c.weights_of.ensures (weighed c.requires.0).most, c.r
 
 pub returns : goal.returns
 unfolding weighted
-returns c = held c.sum_by.result c.sum_by.type-inv ∙ c.sum_by.ensures ∙ ap (λ (k : Weights). sum_by c.args.factor k c.args.n) c.weights_of.ensures
+returns c = held c.sum_by.result c.sum_by.type_inv ∙ c.sum_by.ensures ∙ ap (λ (k : Weights). sum_by c.args.factor k c.args.n) c.weights_of.ensures

@@ -26,7 +26,7 @@ module _ (s : tie.Start) where
   ws = s.args.k
 
 pub returns-in_default : goal.returns-in_default
-returns-in_default c = mean-out c.args.number c.args.component c.args.mean (n c) (ws c) c.refused.result (ap available c.enum_told-1.given.1) c.refused.ensures
+returns-in_default c = mean-out c.args.number c.args.component c.args.mean (n c) (ws c) c.refused.result (ap available c.in_default.is) c.refused.ensures
 
 module _ (t : tie.After-known-told) where
   abbrev s : tie.Start
@@ -48,7 +48,7 @@ module _ (k : tie.After-needed) where
 pub returns-in_default-needed : goal.returns-in_default-needed
 returns-in_default-needed c = let s = s1 c in
     sw-out s.args.number s.args.component s.args.mean (n s) (ws s) c.refused-in_default-needed.result
-    (mean-has c) (missing (ws s).sw (n s).sw (sw-says c) c.enum_told-in_default-needed-1.given.1)
+    (mean-has c) (missing (ws s).sw (n s).sw (sw-says c) c.in_default-needed.is)
     c.refused-in_default-needed.ensures
 
 module _ (t : tie.After-known-told2) where
@@ -73,7 +73,7 @@ module _ (k : tie.After-needed2) where
 pub returns-in_default-needed-2 : goal.returns-in_default-needed-2
 returns-in_default-needed-2 c = let s = s2 c in
     se-out s.args.number s.args.component s.args.mean (n s) (ws s) c.refused-in_default-needed-2.result
-    (mean-has c) (sw-has c) (missing (ws s).se (n s).se (se-says c) c.enum_told-in_default-needed-2-1.given.1)
+    (mean-has c) (sw-has c) (missing (ws s).se (n s).se (se-says c) c.in_default-needed-2.is)
     c.refused-in_default-needed-2.ensures
 
 module _ (t : tie.After-known-told3) where
@@ -98,7 +98,7 @@ module _ (k : tie.After-needed3) where
 pub returns-in_default-needed-3 : goal.returns-in_default-needed-3
 returns-in_default-needed-3 c = let s = s3 c in
     nw-out s.args.number s.args.component s.args.mean (n s) (ws s) c.refused-in_default-needed-3.result
-    (mean-has c) (sw-has c) (se-has c) (missing (ws s).nw (n s).nw (nw-says c) c.enum_told-in_default-needed-3-1.given.1)
+    (mean-has c) (sw-has c) (se-has c) (missing (ws s).nw (n s).nw (nw-says c) c.in_default-needed-3.is)
     c.refused-in_default-needed-3.ensures
 
 module _ (t : tie.After-known-told4) where
@@ -123,7 +123,7 @@ module _ (k : tie.After-needed4) where
 pub returns-in_default-needed-4 : goal.returns-in_default-needed-4
 returns-in_default-needed-4 c = let s = s4 c in
     ne-out s.args.number s.args.component s.args.mean (n s) (ws s) c.refused-in_default-needed-4.result
-    (mean-has c) (sw-has c) (se-has c) (nw-has c) (missing (ws s).ne (n s).ne (ne-says c) c.enum_told-in_default-needed-4-1.given.1)
+    (mean-has c) (sw-has c) (se-has c) (nw-has c) (missing (ws s).ne (n s).ne (ne-says c) c.in_default-needed-4.is)
     c.refused-in_default-needed-4.ensures
 
 module _ (t : tie.After-known-told5) where
@@ -162,4 +162,4 @@ pub returns : goal.returns
 returns c = let a = (s (b c)).args in
     all_in a.number a.component a.mean a.n a.k _
     (mean-has (b c)) (sw-has c) (se-has c) (nw-has c) (ne-has c)
-    refl (held c.count_in-count.result c.count_in-count.type-inv) c.count_in-count.ensures (is-back (s (b c)).fits.number) (mean-is (b c)) (values c)
+    refl (held c.count_in-count.result c.count_in-count.type_inv) c.count_in-count.ensures (is-back (s (b c)).fits.number) (mean-is (b c)) (values c)

@@ -8,7 +8,7 @@ use Rattle.grid_bilinear.specs.Bilinear.{lacks}
 use Rattle.grid_counts.proofs.cell_lacks.Goals as goal
 
 pub returns-in_default : goal.returns-in_default
-returns-in_default c = rw (ap available c.enum_told-in_default-1.given.1)
+returns-in_default c = rw (ap available c.in_default.is)
 
 -- what each call has known
 module _ (k : tie.After-node-lacks) where

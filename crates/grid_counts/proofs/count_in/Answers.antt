@@ -37,7 +37,7 @@ module _ (k : tie.After-factor-of) where
 
 pub returns : goal.returns
 returns c = let a = (s (b c)).args in
-    held c.count_by.result c.count_by.type-inv ∙ c.count_by.ensures ∙ (λ i. count_by ((means c).held i) (factor c i) a.n a.k)
+    held c.count_by.result c.count_by.type_inv ∙ c.count_by.ensures ∙ (λ i. count_by ((means c).held i) (factor c i) a.n a.k)
 
 pub overflow_mul-mean : goal.overflow_mul-mean
 overflow_mul-mean c = fits (means c)

@@ -10,7 +10,7 @@ pub returns-then-weight-ne0 : goal.returns-then-weight-ne0
 returns-then-weight-ne0 c = rw (ne_eqb c.args.weight 0 c.if-weight-ne0.true)
 
 pub returns : goal.returns
-returns c = ap Value (held c.value_in.result c.value_in.type-inv ∙ c.value_in.ensures) ∙ rw (eq-eqb c.args.weight 0 c.if-weight-ne0.false)
+returns c = ap Value (held c.value_in.result c.value_in.type_inv ∙ c.value_in.ensures) ∙ rw (eq-eqb c.args.weight 0 c.if-weight-ne0.false)
 
 pub value_in-requires : goal.value_in-requires
 value_in-requires c = tt

@@ -13,8 +13,8 @@ returns-then-weight-eq0 c = rw (eq-eqb c.args.weight 0 c.if-weight-eq0.true)
 
 pub returns-in_default : goal.returns-in_default
 unfolding lacks
-returns-in_default c = rw (ne_eqb c.args.weight 0 c.if-weight-eq0.false, ap available c.enum_told-in_default-1.given.1)
+returns-in_default c = rw (ne_eqb c.args.weight 0 c.if-weight-eq0.false, ap available c.in_default.is)
 
 pub returns : goal.returns
 unfolding lacks
-returns c = rw (ne_eqb c.args.weight 0 c.if-weight-eq0.false, ap available c.enum_told-1.given.1)
+returns c = rw (ne_eqb c.args.weight 0 c.if-weight-eq0.false, ap available c.in-Value.is)

@@ -15,7 +15,7 @@ use Rattle.grid_fields.proofs.settings_1023.Goals as goal
 pub returns : goal.returns
 unfolding settings_at pair_at origin_at spacing_at field_says layout1023 total signed_at
 returns c = λ i. record {
-  number = (held _ c.number_at.type-inv ∙ c.number_at.ensures) i;
+  number = (held _ c.number_at.type_inv ∙ c.number_at.ensures) i;
   indicators = c.pair_at.ensures i;
   origin = record { north = c.signed_at.ensures i; east = c.signed_at-2.ensures i };
   spacing = c.spacing_at.ensures i;

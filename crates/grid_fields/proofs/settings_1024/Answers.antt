@@ -16,9 +16,9 @@ use Rattle.grid_fields.proofs.settings_1024.Goals as goal
 pub returns : goal.returns
 unfolding settings_at pair_at origin_at spacing_at field_says layout1024 total signed_at
 returns c = λ i. record {
-  number = (held _ c.number_at.type-inv ∙ c.number_at.ensures) i;
+  number = (held _ c.number_at.type_inv ∙ c.number_at.ensures) i;
   indicators = c.pair_at.ensures i;
-  origin = record { north = c.signed_at.ensures i; east = Value ((held _ c.number_at-2.type-inv ∙ c.number_at-2.ensures) i) };
+  origin = record { north = c.signed_at.ensures i; east = Value ((held _ c.number_at-2.type_inv ∙ c.number_at-2.ensures) i) };
   spacing = c.spacing_at.ensures i;
   methods = c.pair_at-2.ensures i;
 }

@@ -7,6 +7,6 @@ use Rattle.grid_fields.proofs.spacing_at.Goals as goal
 
 pub returns : goal.returns
 returns c = λ i. record {
-  north = (held _ c.number_at.type-inv ∙ c.number_at.ensures) i;
-  east = (held _ c.number_at-2.type-inv ∙ c.number_at-2.ensures) i;
+  north = (held _ c.number_at.type_inv ∙ c.number_at.ensures) i;
+  east = (held _ c.number_at-2.type_inv ∙ c.number_at-2.ensures) i;
 }

@@ -39,7 +39,7 @@ plain b x e = rw e
 
 pub returns-then-kind-eq1023 : goal.returns-then-kind-eq1023
 returns-then-kind-eq1023 c = let longitudes : ellipsoidal c.args.kind ≡ true = search signed-tests in
-    held c.by_turns.result c.by_turns.type-inv
+    held c.by_turns.result c.by_turns.type_inv
     ∙ c.by_turns.ensures ∙ ap by_turns (difference c) ∙ turned (ellipsoidal (s c).args.kind) (u c) (longitudes)
 
 pub returns : goal.returns

@@ -16,16 +16,16 @@ use Rattle.grid_place.proofs.locate_both.Goals as goal
 pub returns-then-not-settings_held : goal.returns-then-not-settings_held
 unfolding held_two_places
 returns-then-not-settings_held c = let a = c.args in
-    let h : settings_held a.f ≡ false = sym c.settings_held.ensures ∙ not-true _ c.if-not-settings_held.true in
+    let h : settings_held a.f ≡ false = sym c.settings_held.ensures ∙ c.if-not-settings_held.true in
     c.two_places_of.ensures
     ∙ (λ i. two_places_of ((c.no_place.ensures ∙ no-frame a.f h 0 a.north a.east) i) ((c.no_place-then-not-settings_held.ensures ∙ no-frame a.f h 2 a.north a.east) i))
 
 pub place_of-h-requires : goal.place_of-h-requires
-place_of-h-requires c = let framed : settings_held c.args.f ≡ true = sym c.settings_held.ensures ∙ not-false _ c.if-not-settings_held.false in
+place_of-h-requires c = let framed : settings_held c.args.f ≡ true = sym c.settings_held.ensures ∙ c.if-not-settings_held.false in
     held-fields c.args.f (framed)
 
 pub vertical_of-v-requires : goal.vertical_of-v-requires
-vertical_of-v-requires c = let framed : settings_held c.args.f ≡ true = sym c.settings_held.ensures ∙ not-false _ c.if-not-settings_held.false in
+vertical_of-v-requires c = let framed : settings_held c.args.f ≡ true = sym c.settings_held.ensures ∙ c.if-not-settings_held.false in
     (held-fields c.args.f (framed), c.place_of-h.ensures)
 
 module _ (c : tie.Else1) where

@@ -33,7 +33,7 @@ module _ (k : tie.After-origin-held) where
 
 pub returns-then-not-origin_held : goal.returns-then-not-origin_held
 unfolding settings_held
-returns-then-not-origin_held c = rw (origin c (not-true _ c.if-not-origin_held.true))
+returns-then-not-origin_held c = rw (origin c (c.if-not-origin_held.true))
 
 module _ (k : tie.After-spacing-held) where
   abbrev o : tie.After-origin-held
@@ -44,9 +44,9 @@ module _ (k : tie.After-spacing-held) where
 
 pub returns-then-not-spacing_held : goal.returns-then-not-spacing_held
 unfolding settings_held
-returns-then-not-spacing_held c = rw (origin (o c) (not-false _ c.if-not-origin_held.false), rows c (not-true _ c.if-not-spacing_held.true))
+returns-then-not-spacing_held c = rw (origin (o c) (c.if-not-origin_held.false), rows c (c.if-not-spacing_held.true))
 
 pub returns : goal.returns
 unfolding settings_held
-returns c = rw (origin (o c) (not-false _ c.if-not-origin_held.false), rows c (not-false _ c.if-not-spacing_held.false))
+returns c = rw (origin (o c) (c.if-not-origin_held.false), rows c (c.if-not-spacing_held.false))
     (c.spacing_held-2.ensures ∙ ap spacing_held (held (f (o c)).spacing.east c.type_inv.spacing.1.0.1))

@@ -11,16 +11,16 @@ pub returns-then-method-ne0 : goal.returns-then-method-ne0
 returns-then-method-ne0 c = search signed-tests
 
 pub returns-in_default : goal.returns-in_default
-returns-in_default c = rw c.enum_told-in_default-1.given.1 (search signed-tests)
+returns-in_default c = rw c.in_default.is (search signed-tests)
 
 pub returns-in_default-east : goal.returns-in_default-east
-returns-in_default-east c = rw (c.enum_told-1.given.1, c.enum_told-in_default-east-1.given.1) (search signed-tests)
+returns-in_default-east c = rw (c.in-Value.is, c.in_default-east.is) (search signed-tests)
 
 pub returns-then-rows-eq0 : goal.returns-then-rows-eq0
-returns-then-rows-eq0 c = rw (c.enum_told-1.given.1, c.enum_told-in-Value-east-1.given.1) (search signed-tests)
+returns-then-rows-eq0 c = rw (c.in-Value.is, c.in-Value-east.is) (search signed-tests)
 
 pub returns-then-columns-eq0 : goal.returns-then-columns-eq0
-returns-then-columns-eq0 c = rw (c.enum_told-1.given.1, c.enum_told-in-Value-east-1.given.1) (search signed-tests)
+returns-then-columns-eq0 c = rw (c.in-Value.is, c.in-Value-east.is) (search signed-tests)
 
 pub returns : goal.returns
-returns c = rw (c.enum_told-1.given.1, c.enum_told-in-Value-east-1.given.1) (search signed-tests)
+returns c = rw (c.in-Value.is, c.in-Value-east.is) (search signed-tests)

@@ -97,7 +97,7 @@ returns c = let z = b c in
             (Post-is a.i (a.i + n c) a.row.now (omega arith))
             ∙ ap (λ (m : ℕ). take a.i a.row.now ++ (up_to (λ j. count_at a.message.now a.component a.north a.east (pos a.step) (a.i + j)) m ++ drop (a.i + n c) a.row.now)) (sym v);
       };
-      reaches = ap (λ (m : ℕ). a.i + m) c.places_in.ensures.0 ∙ ap (λ (l : Located). a.i + places_in (a.count - a.i) l.width l.east a.step) (is (k c));
+      reaches = ap (λ (m : ℕ). a.i + m) c.places_in.ensures.number ∙ ap (λ (l : Located). a.i + places_in (a.count - a.i) l.width l.east a.step) (is (k c));
     }
 
 pub overflow_mul-t : goal.overflow_mul-t

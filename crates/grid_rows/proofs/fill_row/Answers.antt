@@ -33,7 +33,7 @@ pub fill_from-i-requires : goal.fill_from-i-requires
 fill_from-i-requires c = (answered c c.loop-i.invariant.1, c.loop-i-test.true)
 
 pub loop-i-preserved : goal.loop-i-preserved
-loop-i-preserved c = let r = c.fill_from-i.ensures.0 in (
+loop-i-preserved c = let r = c.fill_from-i.ensures.filled in (
   r.most,
   c.fill_from-i.auto.0 ∙ c.loop-i.invariant.1,
   fills-on (counts c) c.args.row.now c.loop-i.row c.loop-i.i c.loop-i.invariant.2 _ _ r.some r.row,
@@ -47,7 +47,7 @@ returns c = let a = c.args in
     ∙ (λ j. up_to (count_at a.message.now a.component (is-back c.ranges.north j) (is-back c.ranges.east j) (pos a.step)) (e j) ++ drop (e j) a.row.now)
 
 pub loop-i-smaller : goal.loop-i-smaller
-loop-i-smaller c = omega (arith, c.fill_from-i.ensures.0.some, c.fill_from-i.ensures.0.most)
+loop-i-smaller c = omega (arith, c.fill_from-i.ensures.filled.some, c.fill_from-i.ensures.filled.most)
 
 pub shape_of-row : goal.shape_of-row
 shape_of-row c = c.loop-i.invariant.1

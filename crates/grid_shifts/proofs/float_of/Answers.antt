@@ -9,11 +9,11 @@ use Rattle.grid_shifts.proofs.float_of.Goals as goal
 
 pub returns-in-Seconds : goal.returns-in-Seconds
 unfolding float_of
-returns-in-Seconds c = sym (ap float_of c.a-1.given.1)
+returns-in-Seconds c = sym (ap float_of c.in-Seconds.is)
 
 pub returns-in-Metres : goal.returns-in-Metres
 unfolding float_of
-returns-in-Metres c = sym (ap float_of c.a-in-Metres-1.given.1)
+returns-in-Metres c = sym (ap float_of c.in-Metres.is)
 
 zero : of_bits binary64 0 ≡ of_int binary64 (pos 0)
 unfolding of_bits of_int
@@ -21,4 +21,4 @@ zero = refl
 
 pub returns-in-Refused : goal.returns-in-Refused
 unfolding float_of
-returns-in-Refused c = zero ∙ sym (ap float_of c.enum_told-1.given.1)
+returns-in-Refused c = zero ∙ sym (ap float_of c.in-Refused.is)

@@ -44,7 +44,7 @@ five z = omega arith
 
 pub returns-then-not-grid_held : goal.returns-then-not-grid_held
 unfolding record_shifts
-returns-then-not-grid_held c = let h : grid_held (g c) ≡ false = sym c.grid_held.ensures ∙ not-true _ c.if-not-grid_held.true in
+returns-then-not-grid_held c = let h : grid_held (g c) ≡ false = sym c.grid_held.ensures ∙ c.if-not-grid_held.true in
     c.all_refused.ensures (g c).number
     ∙ (λ i. three_of (record-none-given 0 (n c) (e c) (g c) refl five h i) (record-none-given 1 (n c) (e c) (g c) refl five h i) (record-none-given 2 (n c) (e c) (g c) refl five h i))
 

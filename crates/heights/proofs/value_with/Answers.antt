@@ -63,6 +63,6 @@ height_less-requires c = rw (is-back (s c).ranges.mean, known c) ((s c).requires
 
 pub returns : goal.returns
 unfolding value_with
-returns c = held c.height_less.result c.height_less.type-inv ∙ c.height_less.ensures
+returns c = held c.height_less.result c.height_less.type_inv ∙ c.height_less.ensures
     ∙ (λ x. less (known c x) (is-back (s c).ranges.mean x))
     ∙ rw (le-leb 10 _ c.if-k-lt10.false, le-leb _ 58 c.if-k-gt58.false, eq-eqb _ 1 c.if-k-ne1.false, ne_eqb _ 10 c.if-k-eq10.false)

@@ -26,7 +26,7 @@ loop-k-preserved c = let l = c.loop-k in
     let a = c.args in (
       omega arith,
       fill-turn (value_with a.values.now a.wanted.now (to_z w64 (of_z w64 a.mean))) _ _ l.k _ (pos 0) l.invariant.1
-          (held c.value_with.result c.value_with.type-inv ∙ c.value_with.ensures) (omega arith),
+          (held c.value_with.result c.value_with.type_inv ∙ c.value_with.ensures) (omega arith),
     )
 
 pub returns : goal.returns

@@ -44,8 +44,8 @@ returns-then-wanted-ne16 c = let p = refused _ 5 (heights_message (z c) (b c) (w
     (wanted-out (z c) (b c) (w c) (length (out c)) c.if-values-ne64.false c.if-present-ne64.false c.if-wanted-ne16.true) (λ e. omega arith) in record { answer = p.0; output = p.1 }
 
 pub returns-then-early-ne0 : goal.returns-then-early-ne0
-returns-then-early-ne0 c = let k = c.record_refusal-early in let p = refused _ k.result (heights_message (z c) (b c) (w c)) (out c)
-    (record-out (z c) (b c) (w c) (length (out c)) c.if-values-ne64.false c.if-present-ne64.false c.if-wanted-ne16.false k.ensures c.if-early-ne0.true) c.if-early-ne0.true in record { answer = p.0; output = p.1 }
+returns-then-early-ne0 c = let p = refused _ c.record_refusal-early.result (heights_message (z c) (b c) (w c)) (out c)
+    (record-out (z c) (b c) (w c) (length (out c)) c.if-values-ne64.false c.if-present-ne64.false c.if-wanted-ne16.false c.record_refusal-early.ensures c.if-early-ne0.true) c.if-early-ne0.true in record { answer = p.0; output = p.1 }
 
 -- the counts are right and the record passed
 module _ (k : tie.After-smallest-mean) where
@@ -65,7 +65,7 @@ module _ (k : tie.After-smallest-mean) where
       written_out (z s) (b s) (w s) (length (out s)) k.before.before.before.before.before.if1.left k.before.before.before.before.if2.left k.before.before.before.if3.left record-passed m f
 
 pub returns-in_default : goal.returns-in_default
-returns-in_default c = let p = refused _ 23 (heights_message (z (s c)) (b (s c)) (w (s c))) (out (s c)) (missing c (sym c.smallest_mean-chosen.ensures ∙ c.enum_told-1.given.1)) (λ e. omega arith) in record { answer = p.0; output = p.1 }
+returns-in_default c = let p = refused _ 23 (heights_message (z (s c)) (b (s c)) (w (s c))) (out (s c)) (missing c (sym c.smallest_mean-chosen.ensures ∙ c.in_default.is)) (λ e. omega arith) in record { answer = p.0; output = p.1 }
 
 -- a mean was found
 module _ (c : tie.After-known-told) where

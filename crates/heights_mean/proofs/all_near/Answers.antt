@@ -37,12 +37,12 @@ module _ (c : tie.After-is-near invariant-loop decreases-loop) where
       c.is-near.ensures ∙ ap (near (to_z w64 (of_z w64 mean))) (held h.result h.type-inv ∙ h.ensures)
 
 pub loop-i-preserved : goal.loop-i-preserved
-loop-i-preserved c = (omega arith, all_more (near_at (wanted c) (to_z w64 (of_z w64 (mean c)))) (l c).loop.i (l c).loop.invariant.1 (is (known c) (not-false _ c.if-not-is_near.false)))
+loop-i-preserved c = (omega arith, all_more (near_at (wanted c) (to_z w64 (of_z w64 (mean c)))) (l c).loop.i (l c).loop.invariant.1 (is (known c) (c.if-not-is_near.false)))
 
 pub returns-then-not-is_near : goal.returns-then-not-is_near
 unfolding fits
 returns-then-not-is_near c = sym (all-stops (near_at (wanted c) (mean c)) (l c).loop.i 16
-    (subst (λ (m : ℤ). near_at (wanted c) m (l c).loop.i ≡ false) (mean-back c) (is (known c) (not-true _ c.if-not-is_near.true))) (omega arith))
+    (subst (λ (m : ℤ). near_at (wanted c) m (l c).loop.i ≡ false) (mean-back c) (is (known c) (c.if-not-is_near.true))) (omega arith))
 
 pub returns : goal.returns
 unfolding fits

@@ -13,16 +13,15 @@ use Rattle.heights_mean.proofs.greatest_of.Goals as goal
 
 pub loop-i-init : goal.loop-i-init
 unfolding greatest
-loop-i-init c = (omega arith, held c.height_at-r.result c.height_at-r.type-inv ∙ c.height_at-r.ensures)
+loop-i-init c = (omega arith, held c.height_at-r.result c.height_at-r.type_inv ∙ c.height_at-r.ensures)
 
 pub loop-i-preserved : goal.loop-i-preserved
 unfolding greatest
-loop-i-preserved c = let h = c.height_at in
-    let l = c.loop-i in (
-      omega arith,
-      held c.greater_of-r.result c.greater_of-r.type-inv ∙ c.greater_of-r.ensures
-          ∙ (λ k. greater (l.invariant.1 k) ((held h.result h.type-inv ∙ h.ensures) k)) ∙ rw (add-one l.i),
-    )
+loop-i-preserved c = let l = c.loop-i in (
+  omega arith,
+  held c.greater_of-r.result c.greater_of-r.type_inv ∙ c.greater_of-r.ensures
+      ∙ (λ k. greater (l.invariant.1 k) ((held c.height_at.result c.height_at.type_inv ∙ c.height_at.ensures) k)) ∙ rw (add-one l.i),
+)
 
 pub returns : goal.returns
 returns c = let l = c.loop-i in

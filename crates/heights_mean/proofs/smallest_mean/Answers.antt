@@ -44,5 +44,5 @@ least_mean-m-requires c = tt
 
 pub all_near-requires : goal.all_near-requires
 all_near-requires c =
-    let mean-before : to_z w64 (of_z w64 c.least_mean-m.result) ≡ c.least_mean-m.result = held c.least_mean-m.result c.least_mean-m.type-inv in
+    let mean-before : to_z w64 (of_z w64 c.least_mean-m.result) ≡ c.least_mean-m.result = held c.least_mean-m.result c.least_mean-m.type_inv in
     rw (mean-before) c.least_mean-m.ensures.range

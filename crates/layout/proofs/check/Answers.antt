@@ -27,15 +27,15 @@ fill_is_zero-requires c = let m = total-most c.args.layout.now in
 pub returns-then-not-fill_is_zero : goal.returns-then-not-fill_is_zero
 returns-then-not-fill_is_zero c = let a = c.args in
     let n = c.total_bits-n.ensures in
-    sym (fill-set a.layout.now a.s.now c.if-layout-gt96.false (rw n at c.if-s-n.false) (rw n at (sym c.fill_is_zero.ensures ∙ not-true _ c.if-not-fill_is_zero.true)))
+    sym (fill-set a.layout.now a.s.now c.if-layout-gt96.false (rw n at c.if-s-n.false) (rw n at (sym c.fill_is_zero.ensures ∙ c.if-not-fill_is_zero.true)))
 
 pub returns-then-not-all_in_range : goal.returns-then-not-all_in_range
 returns-then-not-all_in_range c = let a = c.args in
     let n = c.total_bits-n.ensures in
     sym
     (out_of_range a.layout.now a.s.now c.if-layout-gt96.false (rw n at c.if-s-n.false)
-    (rw n at (sym c.fill_is_zero.ensures ∙ not-false _ c.if-not-fill_is_zero.false))
-    (sym c.all_in_range.ensures ∙ not-true _ c.if-not-all_in_range.true))
+    (rw n at (sym c.fill_is_zero.ensures ∙ c.if-not-fill_is_zero.false))
+    (sym c.all_in_range.ensures ∙ c.if-not-all_in_range.true))
 
 pub returns : goal.returns
 returns c = let a = c.args in
@@ -45,6 +45,6 @@ returns c = let a = c.args in
     (record {
       few = c.if-layout-gt96.false;
       sized = rw n at c.if-s-n.false;
-      filled = rw n at (sym c.fill_is_zero.ensures ∙ not-false _ c.if-not-fill_is_zero.false);
-      ranged = sym c.all_in_range.ensures ∙ not-false _ c.if-not-all_in_range.false;
+      filled = rw n at (sym c.fill_is_zero.ensures ∙ c.if-not-fill_is_zero.false);
+      ranged = sym c.all_in_range.ensures ∙ c.if-not-all_in_range.false;
     }))

@@ -12,8 +12,8 @@ returns-then-r-ne0 c = rw (ne_eqb c.args.r 0 c.if-r-ne0.true)
 
 pub returns-then-not-takes_read : goal.returns-then-not-takes_read
 unfolding place_refusal
-returns-then-not-takes_read c = rw (eq-eqb _ 0 c.if-r-ne0.false, sym c.takes_read.ensures ∙ not-true _ c.if-not-takes_read.true)
+returns-then-not-takes_read c = rw (eq-eqb _ 0 c.if-r-ne0.false, sym c.takes_read.ensures ∙ c.if-not-takes_read.true)
 
 pub returns : goal.returns
 unfolding place_refusal
-returns c = rw (eq-eqb _ 0 c.if-r-ne0.false, sym c.takes_read.ensures ∙ not-false _ c.if-not-takes_read.false)
+returns c = rw (eq-eqb _ 0 c.if-r-ne0.false, sym c.takes_read.ensures ∙ c.if-not-takes_read.false)

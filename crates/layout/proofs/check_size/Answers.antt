@@ -19,7 +19,7 @@ unfolding size_refusal
 returns-then-not-fill_is_zero c = rw (
   le-ltb 65535 c.args.bits c.if-bits-gt65535.false,
   eq-eqb _ _ c.if-s-bits.false,
-  sym c.fill_is_zero.ensures ∙ not-true _ c.if-not-fill_is_zero.true,
+  sym c.fill_is_zero.ensures ∙ c.if-not-fill_is_zero.true,
 )
 
 pub returns : goal.returns
@@ -27,5 +27,5 @@ unfolding size_refusal
 returns c = rw (
   le-ltb 65535 c.args.bits c.if-bits-gt65535.false,
   eq-eqb _ _ c.if-s-bits.false,
-  sym c.fill_is_zero.ensures ∙ not-false _ c.if-not-fill_is_zero.false,
+  sym c.fill_is_zero.ensures ∙ c.if-not-fill_is_zero.false,
 )

@@ -14,8 +14,8 @@ returns-then-e-eq0 c = let a = c.args in
     sym (plain-takes a.e (field_at a.s.now a.p (width a.e)) (field_at-lt a.s.now a.p (width a.e)) c.if-e-eq0.true)
 
 pub returns-in-Value : goal.returns-in-Value
-returns-in-Value c = let z = bits-z c.r-1.given.0.0 (record { sfits = c.known_told-1.given.0.1 }) in
-    rw (sym c.read_entry-r.ensures ∙ c.r-1.given.1) (rw z at c.takes_value.ensures)
+returns-in-Value c = let z = bits-z c.in-Value.z (record { sfits = c.known_told-1.given.0.1 }) in
+    rw (sym c.read_entry-r.ensures ∙ c.in-Value.is) (rw z at c.takes_value.ensures)
 
 pub returns-in-Absent : goal.returns-in-Absent
-returns-in-Absent c = rw (sym c.read_entry-r.ensures ∙ c.enum_told-1.given.1)
+returns-in-Absent c = rw (sym c.read_entry-r.ensures ∙ c.in-Absent.is)

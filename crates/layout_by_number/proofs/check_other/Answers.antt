@@ -13,13 +13,13 @@ pub returns-in-1021 : goal.returns-in-1021
 unfolding layout_by layout_of
 returns-in-1021 c = let n = c.counter_of.ensures in
     let m = c.counter_of-in-1021.ensures in
-    rw (c.in-1021.keys1, ← n.0, ← m.0) (c.check_named.ensures ∙ sym (check-1021 _ _ _ n.1 m.1))
+    rw (c.in-1021.is, ← n.0, ← m.0) (c.check_named.ensures ∙ sym (check-1021 _ _ _ n.1 m.1))
 
 pub returns-in-1022 : goal.returns-in-1022
 unfolding layout_by layout_of
 returns-in-1022 c = let n = c.counter_of-in-1022.ensures in
     let m = c.counter_of-in-1022-2.ensures in
-    rw (c.in-1021.keys2, ← n.0, ← m.0) (c.check_named-in-1022.ensures ∙ sym (check-1022 _ _ _ n.1 m.1))
+    rw (c.in-1022.is, ← n.0, ← m.0) (c.check_named-in-1022.ensures ∙ sym (check-1022 _ _ _ n.1 m.1))
 
 pub returns-in_default : goal.returns-in_default
 unfolding layout_by layout_of

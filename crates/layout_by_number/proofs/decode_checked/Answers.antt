@@ -16,5 +16,4 @@ returns-then-present-layout c = let a = c.args in let p = few_bytes a.r a.layout
 
 pub returns : goal.returns
 returns c = let a = c.args in
-    let t = all_read a.r a.layout.now a.s.now a.values.now a.present.now c.if-r-ne0.false c.if-values-layout.false c.if-present-layout.false in
-    let f = c.read.ensures in record { answer = t.0; values = f.0 ∙ t.1.0; present = f.1 ∙ t.1.1 }
+    let t = all_read a.r a.layout.now a.s.now a.values.now a.present.now c.if-r-ne0.false c.if-values-layout.false c.if-present-layout.false in record { answer = t.0; values = c.read.ensures.values ∙ t.1.0; present = c.read.ensures.present ∙ t.1.1 }

@@ -10,11 +10,11 @@ use Rattle.layout_by_number.proofs.other_plan.Goals as goal
 
 pub returns-in-1021 : goal.returns-in-1021
 unfolding layout_by layout_of layout1021 tail1021
-returns-in-1021 c = rw (c.in-1021.keys1, ← c.counter_of.ensures.0, ← c.counter_of-in-1021.ensures.0) c.named_plan.ensures
+returns-in-1021 c = rw (c.in-1021.is, ← c.counter_of.ensures.0, ← c.counter_of-in-1021.ensures.0) c.named_plan.ensures
 
 pub returns-in-1022 : goal.returns-in-1022
 unfolding layout_by layout_of layout1022 tail1022
-returns-in-1022 c = rw (c.in-1021.keys2, ← c.counter_of-in-1022.ensures.0, ← c.counter_of-in-1022-2.ensures.0) c.named_plan-in-1022.ensures
+returns-in-1022 c = rw (c.in-1022.is, ← c.counter_of-in-1022.ensures.0, ← c.counter_of-in-1022-2.ensures.0) c.named_plan-in-1022.ensures
 
 pub returns-in_default : goal.returns-in_default
 unfolding layout_by layout_of

@@ -8,19 +8,19 @@ use Rattle.layout_by_number.proofs.Tables.{table-1023, table-1024, table-1025, t
 use Rattle.layout_by_number.proofs.taken_by.Goals as goal
 
 pub returns-in-1023 : goal.returns-in-1023
-returns-in-1023 c = rw (table-1023 _ _ _ c.in-1023.keys1) c.taken_1023.ensures
+returns-in-1023 c = rw (table-1023 _ _ _ c.in-1023.is) c.taken_1023.ensures
 
 pub returns-in-1024 : goal.returns-in-1024
-returns-in-1024 c = rw (table-1024 _ _ _ c.in-1023.keys2) c.taken_1024.ensures
+returns-in-1024 c = rw (table-1024 _ _ _ c.in-1024.is) c.taken_1024.ensures
 
 pub returns-in-1025 : goal.returns-in-1025
-returns-in-1025 c = rw (table-1025 _ _ _ c.in-1023.keys3) c.taken_1025.ensures
+returns-in-1025 c = rw (table-1025 _ _ _ c.in-1025.is) c.taken_1025.ensures
 
 pub returns-in-1026 : goal.returns-in-1026
-returns-in-1026 c = rw (table-1026 _ _ _ c.in-1023.keys4) c.taken_1026.ensures
+returns-in-1026 c = rw (table-1026 _ _ _ c.in-1026.is) c.taken_1026.ensures
 
 pub returns-in-1027 : goal.returns-in-1027
-returns-in-1027 c = rw (table-1027 _ _ _ c.in-1023.keys5) c.taken_1027.ensures
+returns-in-1027 c = rw (table-1027 _ _ _ c.in-1027.is) c.taken_1027.ensures
 
 pub slice_bounds-row_taken-end : goal.slice_bounds-row_taken-end
 slice_bounds-row_taken-end c = let p = c.other_plan-p.ensures in sym (length-take-le _ _ (omega (arith, p.0, p.1.0)))

@@ -33,7 +33,7 @@ loop-i-preserved c = let a = c.args in
     let f = row_fits a.layout.now a.p a.s.now a.values.now a.present.now l.values l.present l.at l.i l.invariant e refl (omega arith) in
     row-goes-on a.layout.now a.p a.s.now a.values.now a.present.now l.values l.present l.at l.i l.invariant
     e _ _ _ refl (omega arith) (omega (arith, l.invariant.values.sized)) (omega (arith, l.invariant.present.sized))
-    (c.read_entry-r.ensures ∙ ap (reading_of e) (field-inside a.s.now l.at (width e) (omega arith) (omega arith) (omega arith))) (to_z-of_z w64 _ (record { sfits = c.value_in.type-inv }) ∙ c.value_in.ensures) c.present_in.ensures
+    (c.read_entry-r.ensures ∙ ap (reading_of e) (field-inside a.s.now l.at (width e) (omega arith) (omega arith) (omega arith))) (to_z-of_z w64 _ (record { sfits = c.value_in.type_inv }) ∙ c.value_in.ensures) c.present_in.ensures
 
 pub returns : goal.returns
 returns c = let a = c.args in

@@ -34,7 +34,7 @@ loop-i-preserved c = let a = c.args in
     let l = c.loop-i in
     let f = same-fits a.e a.p a.s.now a.values.now a.present.now l.values l.present l.at l.i l.invariant (omega arith) in
     same-goes-on a.e a.p a.s.now a.values.now a.present.now l.values l.present l.at l.i l.invariant _ _ _ (omega arith) (omega (arith, l.invariant.values.sized, l.invariant.present.sized))
-    (c.read_entry-r.ensures ∙ ap (reading_of a.e) (field-inside a.s.now l.at (width a.e) (omega arith) (omega arith) (omega arith))) (to_z-of_z w64 _ (record { sfits = c.value_in.type-inv }) ∙ c.value_in.ensures) c.present_in.ensures
+    (c.read_entry-r.ensures ∙ ap (reading_of a.e) (field-inside a.s.now l.at (width a.e) (omega arith) (omega arith) (omega arith))) (to_z-of_z w64 _ (record { sfits = c.value_in.type_inv }) ∙ c.value_in.ensures) c.present_in.ensures
 
 pub returns : goal.returns
 returns c = let a = c.args in

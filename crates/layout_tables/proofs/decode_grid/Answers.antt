@@ -38,6 +38,5 @@ read_grid-requires c = let a = c.args in
 
 pub returns : goal.returns
 returns c = let a = c.args in
-    let n = fields a.head.now c.requires.1.0 in
-    let f = c.read_grid.ensures in let p = decoded (a.head.now ++ points) a.s.now a.values.now a.present.now (sym c.requires.0 ∙ c.if-r-ne0.false) _ _ (omega arith) (omega arith)
-    (rw n f.0) (rw n f.1) in record { answer = p.0; values = p.1.0; present = p.1.1 }
+    let n = fields a.head.now c.requires.1.0 in let p = decoded (a.head.now ++ points) a.s.now a.values.now a.present.now (sym c.requires.0 ∙ c.if-r-ne0.false) _ _ (omega arith) (omega arith)
+    (rw n c.read_grid.ensures.values) (rw n c.read_grid.ensures.present) in record { answer = p.0; values = p.1.0; present = p.1.1 }

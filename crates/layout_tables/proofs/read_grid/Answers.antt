@@ -14,7 +14,4 @@ returns c = let a = c.args in
     let Q = c.requires in
     let h = a.head.now in
     let t = loads h 0 a.s.now a.values.now a.present.now (omega arith) (omega arith) (omega arith) (omega arith) (omega arith) in
-    let u = rw Q.0.0 at t in
-    let f = c.read.ensures in
-    let g = c.read_points.ensures in
-    let k = c.read_tail.ensures in record { values = grid-read value_in a.s.now a.values.now h a.p _ _ _ Q.0.0 Q.0.1.0 (f.0 ∙ sym u.0) g.0 k.0; present = grid-read present_in a.s.now a.present.now h a.p _ _ _ Q.0.0 Q.0.1.0 (f.1 ∙ sym u.1) g.1 k.1 }
+    let u = rw Q.0.0 at t in record { values = grid-read value_in a.s.now a.values.now h a.p _ _ _ Q.0.0 Q.0.1.0 (c.read.ensures.values ∙ sym u.0) c.read_points.ensures.values c.read_tail.ensures.values; present = grid-read present_in a.s.now a.present.now h a.p _ _ _ Q.0.0 Q.0.1.0 (c.read.ensures.present ∙ sym u.1) c.read_points.ensures.present c.read_tail.ensures.present }

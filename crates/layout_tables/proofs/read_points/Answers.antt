@@ -20,6 +20,5 @@ same n e = ap (λ (k : ℕ). replicate k 73) e
 
 pub returns : goal.returns
 returns c = let a = c.args in
-    let f = c.read_times.ensures in
     let e = same (length (mid_of 11 48 a.values.now)) (mid-length 11 48 a.values.now (omega arith)) in
-    let t = part-loaded nodes 11 48 a.p a.s.now a.values.now a.present.now length-nodes (omega arith) (omega arith) (omega (arith, total-nodes)) (omega arith) (omega arith) in record { values = ap (put_mid 11 48 a.values.now) (f.0 ∙ ap (λ (es : List ℕ). values_loaded es a.p a.s.now (mid_of 11 48 a.values.now) (mid_of 11 48 a.present.now)) e) ∙ t.0; present = ap (put_mid 11 48 a.present.now) (f.1 ∙ ap (λ (es : List ℕ). present_loaded es a.p a.s.now (mid_of 11 48 a.values.now) (mid_of 11 48 a.present.now)) e) ∙ t.1 }
+    let t = part-loaded nodes 11 48 a.p a.s.now a.values.now a.present.now length-nodes (omega arith) (omega arith) (omega (arith, total-nodes)) (omega arith) (omega arith) in record { values = ap (put_mid 11 48 a.values.now) (c.read_times.ensures.values ∙ ap (λ (es : List ℕ). values_loaded es a.p a.s.now (mid_of 11 48 a.values.now) (mid_of 11 48 a.present.now)) e) ∙ t.0; present = ap (put_mid 11 48 a.present.now) (c.read_times.ensures.present ∙ ap (λ (es : List ℕ). present_loaded es a.p a.s.now (mid_of 11 48 a.values.now) (mid_of 11 48 a.present.now)) e) ∙ t.1 }

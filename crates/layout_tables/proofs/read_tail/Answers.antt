@@ -12,5 +12,4 @@ use Rattle.layout_tables.proofs.read_tail.Goals as goal
 pub returns : goal.returns
 unfolding behind total
 returns c = let a = c.args in
-    let f = c.read.ensures in
-    let t = part-loaded behind 59 5 a.p a.s.now a.values.now a.present.now refl (omega arith) (omega arith) (omega arith) (omega arith) (omega arith) in record { values = ap (put_mid 59 5 a.values.now) f.0 ∙ t.0; present = ap (put_mid 59 5 a.present.now) f.1 ∙ t.1 }
+    let t = part-loaded behind 59 5 a.p a.s.now a.values.now a.present.now refl (omega arith) (omega arith) (omega arith) (omega arith) (omega arith) in record { values = ap (put_mid 59 5 a.values.now) c.read.ensures.values ∙ t.0; present = ap (put_mid 59 5 a.present.now) c.read.ensures.present ∙ t.1 }

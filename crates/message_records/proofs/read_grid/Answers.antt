@@ -10,10 +10,9 @@ use Rattle.message_records.proofs.read_grid.Goals as goal
 pub returns : goal.returns
 unfolding read_grid
 returns c = let s = c.args.s.now in
-    let r = c.read_kind-refusal.ensures in
     λ i. record {
-      refusal = read-refusal 1023 1024 s r.0 i;
-      value = (c.grid_of.ensures ∙ read-record 1023 1024 s grid_of r.1.0 r.1.1) i;
+      refusal = read-refusal 1023 1024 s c.read_kind-refusal.ensures.answer i;
+      value = (c.grid_of.ensures ∙ read-record 1023 1024 s grid_of c.read_kind-refusal.ensures.values c.read_kind-refusal.ensures.present) i;
     }
 
 pub read_kind-refusal-requires : goal.read_kind-refusal-requires

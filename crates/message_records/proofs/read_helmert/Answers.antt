@@ -10,10 +10,9 @@ use Rattle.message_records.proofs.read_helmert.Goals as goal
 pub returns : goal.returns
 unfolding read_helmert
 returns c = let s = c.args.s.now in
-    let r = c.read_kind-refusal.ensures in
     λ i. record {
-      refusal = read-refusal 1021 1021 s r.0 i;
-      value = (c.helmert_of.ensures ∙ read-record 1021 1021 s helmert_of r.1.0 r.1.1) i;
+      refusal = read-refusal 1021 1021 s c.read_kind-refusal.ensures.answer i;
+      value = (c.helmert_of.ensures ∙ read-record 1021 1021 s helmert_of c.read_kind-refusal.ensures.values c.read_kind-refusal.ensures.present) i;
     }
 
 pub read_kind-refusal-requires : goal.read_kind-refusal-requires

@@ -10,10 +10,9 @@ use Rattle.message_records.proofs.read_lambert.Goals as goal
 pub returns : goal.returns
 unfolding read_lambert
 returns c = let s = c.args.s.now in
-    let r = c.read_kind-refusal.ensures in
     λ i. record {
-      refusal = read-refusal 1026 1026 s r.0 i;
-      value = (c.lambert_of.ensures ∙ read-record 1026 1026 s lambert_of r.1.0 r.1.1) i;
+      refusal = read-refusal 1026 1026 s c.read_kind-refusal.ensures.answer i;
+      value = (c.lambert_of.ensures ∙ read-record 1026 1026 s lambert_of c.read_kind-refusal.ensures.values c.read_kind-refusal.ensures.present) i;
     }
 
 pub read_kind-refusal-requires : goal.read_kind-refusal-requires

@@ -10,10 +10,9 @@ use Rattle.message_records.proofs.read_molodenski_badekas.Goals as goal
 pub returns : goal.returns
 unfolding read_molodenski_badekas
 returns c = let s = c.args.s.now in
-    let r = c.read_kind-refusal.ensures in
     λ i. record {
-      refusal = read-refusal 1022 1022 s r.0 i;
-      value = (c.molodenski_badekas_of.ensures ∙ read-record 1022 1022 s molodenski_badekas_of r.1.0 r.1.1) i;
+      refusal = read-refusal 1022 1022 s c.read_kind-refusal.ensures.answer i;
+      value = (c.molodenski_badekas_of.ensures ∙ read-record 1022 1022 s molodenski_badekas_of c.read_kind-refusal.ensures.values c.read_kind-refusal.ensures.present) i;
     }
 
 pub read_kind-refusal-requires : goal.read_kind-refusal-requires

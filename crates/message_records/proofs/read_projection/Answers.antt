@@ -10,10 +10,9 @@ use Rattle.message_records.proofs.read_projection.Goals as goal
 pub returns : goal.returns
 unfolding read_projection
 returns c = let s = c.args.s.now in
-    let r = c.read_kind-refusal.ensures in
     λ i. record {
-      refusal = read-refusal 1025 1025 s r.0 i;
-      value = (c.projection_of.ensures ∙ read-record 1025 1025 s projection_of r.1.0 r.1.1) i;
+      refusal = read-refusal 1025 1025 s c.read_kind-refusal.ensures.answer i;
+      value = (c.projection_of.ensures ∙ read-record 1025 1025 s projection_of c.read_kind-refusal.ensures.values c.read_kind-refusal.ensures.present) i;
     }
 
 pub read_kind-refusal-requires : goal.read_kind-refusal-requires

@@ -5,4 +5,4 @@ use borrow.Author.Rules.{rules}
 use Rattle.record_grids.proofs.append.Goals as goal
 
 pub returns : goal.returns
-returns c = appends c.requires c.append.ensures.0 c.append.ensures.1
+returns c = appends c.requires c.append.ensures.answer c.append.ensures.output

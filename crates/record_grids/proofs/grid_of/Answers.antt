@@ -8,16 +8,15 @@ use Rattle.record_grids.proofs.grid_of.Goals as goal
 
 pub returns : goal.returns
 unfolding grid_of
-returns c = let number = c in
-    λ i. record {
-      number = (held _ number.number-at.type-inv ∙ number.number-at.ensures) i;
-      c = (held _ c.number_at-2.type-inv ∙ c.number_at-2.ensures) i;
-      c = c.pair_at.ensures i;
-      c = c.origin_at.ensures i;
-      c = c.spacing_at.ensures i;
-      c = c.shifts_at.ensures i;
-      c = c.nodes_at.ensures i;
-      c = c.pair_at-2.ensures i;
-      c = c.pair_at-3.ensures i;
-      day = (held _ c.number_at-3.type-inv ∙ c.number_at-3.ensures) i;
-    }
+returns c = λ i. record {
+  c = (held _ c.number_at.type_inv ∙ c.number_at.ensures) i;
+  c = (held _ c.number_at-2.type_inv ∙ c.number_at-2.ensures) i;
+  c = c.pair_at.ensures i;
+  c = c.origin_at.ensures i;
+  c = c.spacing_at.ensures i;
+  c = c.shifts_at.ensures i;
+  c = c.nodes_at.ensures i;
+  c = c.pair_at-2.ensures i;
+  c = c.pair_at-3.ensures i;
+  day = (held _ c.number_at-3.type_inv ∙ c.number_at-3.ensures) i;
+}

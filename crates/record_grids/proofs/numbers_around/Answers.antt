@@ -24,8 +24,8 @@ returns c = let start = c.args.start.now in
     let row = nodes_row c.args.nodes in
     let f : Appended (padded []) 0 start c.append_bytes-a.result _ =
     record { room = c.append.ensures.room; place = omega (arith, c.append_bytes-a.ensures.place, c.requires.0); stored = c.append.ensures.stored } in
-    let p = behind _ _ (behind _ _ f c.append_nodes-b.ensures.0) c.append-count.ensures in
-    let q = behind _ _ c.append_bytes-a.ensures c.append_nodes-b.ensures.1.0 in
+    let p = behind _ _ (behind _ _ f c.append_nodes-b.ensures.values) c.append-count.ensures in
+    let q = behind _ _ c.append_bytes-a.ensures c.append_nodes-b.ensures.present in
     let h : length (presence ++ present_of row) + length end ≤ 96 =
     omega (arith, p.room, c.requires.0, length-append presence (present_of row), length-append (start ++ values_of row) end, length-append start (values_of row), length-map row value_in, length-map row present_in) in
     all-good _ _ p q ∙ more-marked _ _ (length end) h

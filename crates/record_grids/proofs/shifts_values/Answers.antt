@@ -9,4 +9,4 @@ use Rattle.record_grids.proofs.shifts_values.Goals as goal
 
 pub returns : goal.returns
 unfolding shifts_row
-returns c = λ i. (held _ c.value_in.type-inv ∙ c.value_in.ensures) i ∷ (held _ c.value_in-2.type-inv ∙ c.value_in-2.ensures) i ∷ (held _ c.value_in-3.type-inv ∙ c.value_in-3.ensures) i ∷ []
+returns c = λ i. (held _ c.value_in.type_inv ∙ c.value_in.ensures) i ∷ (held _ c.value_in-2.type_inv ∙ c.value_in-2.ensures) i ∷ (held _ c.value_in-3.type_inv ∙ c.value_in-3.ensures) i ∷ []

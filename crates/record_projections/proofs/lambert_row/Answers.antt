@@ -11,12 +11,9 @@ use Rattle.record_projections.proofs.lambert_row.Goals as goal
 
 pub returns : goal.returns
 unfolding lambert_row
-returns c = let v3 = c in
-    let v2 = v3.before in
-    let v1 = v2.before in
-    let t = c.struct_told-1.given in
-    let r = v1.before.args.r in
+returns c = let t = c.struct_told-1.given in
+    let r = c.args.r in
     c.numbers_of.ensures
     ∙ (λ i. buffers true
-    (held r.number t.0.1 i ∷ held r.sin t.1.0.1 i ∷ held r.projection t.1.1.0.1 i ∷ (held _ v1.value_in.type-inv ∙ v1.value_in.ensures) i ∷ (held _ v2.value-in2.type-inv ∙ v2.value-in2.ensures) i ∷ (held _ v3.value-in3.type-inv ∙ v3.value-in3.ensures) i ∷ (held _ c.value_in-4.type-inv ∙ c.value_in-4.ensures) i ∷ held r.easting t.1.1.1.1.1.1.1.0.1 i ∷ (held _ c.value_in-5.type-inv ∙ c.value_in-5.ensures) i ∷ [])
+    (held r.number t.0.1 i ∷ held r.sin t.1.0.1 i ∷ held r.projection t.1.1.0.1 i ∷ (held _ c.value_in.type_inv ∙ c.value_in.ensures) i ∷ (held _ c.value_in-2.type_inv ∙ c.value_in-2.ensures) i ∷ (held _ c.value_in-3.type_inv ∙ c.value_in-3.ensures) i ∷ (held _ c.value_in-4.type_inv ∙ c.value_in-4.ensures) i ∷ held r.easting t.1.1.1.1.1.1.1.0.1 i ∷ (held _ c.value_in-5.type_inv ∙ c.value_in-5.ensures) i ∷ [])
     (1 ∷ 1 ∷ 1 ∷ c.present_in.ensures i ∷ c.present_in-2.ensures i ∷ c.present_in-3.ensures i ∷ c.present_in-4.ensures i ∷ 1 ∷ c.present_in-5.ensures i ∷ []))

@@ -15,5 +15,5 @@ returns c = let t = c.struct_told-1.given in
     let r = c.args.r in
     c.numbers_of.ensures
     ∙ (λ i. buffers true
-    (held r.number t.0.1 i ∷ held r.sin t.1.0.1 i ∷ held r.projection t.1.1.0.1 i ∷ (held _ c.value_in.type-inv ∙ c.value_in.ensures) i ∷ (held _ c.value_in-2.type-inv ∙ c.value_in-2.ensures) i ∷ held r.scale t.1.1.1.1.1.0.1 i ∷ held r.easting t.1.1.1.1.1.1.0.1 i ∷ (held _ c.value_in-3.type-inv ∙ c.value_in-3.ensures) i ∷ [])
+    (held r.number t.0.1 i ∷ held r.sin t.1.0.1 i ∷ held r.projection t.1.1.0.1 i ∷ (held _ c.value_in.type_inv ∙ c.value_in.ensures) i ∷ (held _ c.value_in-2.type_inv ∙ c.value_in-2.ensures) i ∷ held r.scale t.1.1.1.1.1.0.1 i ∷ held r.easting t.1.1.1.1.1.1.0.1 i ∷ (held _ c.value_in-3.type_inv ∙ c.value_in-3.ensures) i ∷ [])
     (1 ∷ 1 ∷ 1 ∷ c.present_in.ensures i ∷ c.present_in-2.ensures i ∷ 1 ∷ 1 ∷ c.present_in-3.ensures i ∷ []))

@@ -7,4 +7,4 @@ use borrow.Author.Rules.{rules}
 use Rattle.record_rows.proofs.number_at.Goals as goal
 
 pub returns : goal.returns
-returns c = held c.value_in.result c.value_in.type-inv ∙ c.value_in.ensures ∙ ap value_in c.says_at.ensures
+returns c = held c.value_in.result c.value_in.type_inv ∙ c.value_in.ensures ∙ ap value_in c.says_at.ensures

@@ -20,9 +20,7 @@ returns-then-k-values c = let a = c.args in
 
 pub returns : goal.returns
 unfolding pair_at
-returns c = let h = c.number_at in
-    let v = c.number_at-2 in
-    λ i. record {
-      horizontal = (held h.result h.type-inv ∙ h.ensures) i;
-      vertical = (held v.result v.type-inv ∙ v.ensures) i;
-    }
+returns c = λ i. record {
+  horizontal = (held c.number_at.result c.number_at.type_inv ∙ c.number_at.ensures) i;
+  vertical = (held c.number_at-2.result c.number_at-2.type_inv ∙ c.number_at-2.ensures) i;
+}

@@ -5,4 +5,4 @@ use borrow.Author.Rules.{rules}
 use Rattle.record_transformation_rows.proofs.append_bytes.Goals as goal
 
 pub returns : goal.returns
-returns c = appends c.requires c.append_bytes.ensures.0 c.append_bytes.ensures.1
+returns c = appends c.requires c.append_bytes.ensures.answer c.append_bytes.ensures.output

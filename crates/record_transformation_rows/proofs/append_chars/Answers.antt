@@ -24,7 +24,7 @@ loop-j-preserved c = let a = c.args in
       (
         simp length-set l.invariant.1.0,
         paste_more a.dst.now a.at (up_to (char_value a.chars.now) a.count) l.dst l.j _ (pos 0) l.invariant.1.1
-            (held c.wide.result c.wide.type-inv ∙ c.wide.ensures ∙ sym (get_d-up_to (char_value a.chars.now) a.count l.j (pos 0) (omega arith)))
+            (held c.wide.result c.wide.type_inv ∙ c.wide.ensures ∙ sym (get_d-up_to (char_value a.chars.now) a.count l.j (pos 0) (omega arith)))
             (omega arith) (omega arith),
       ),
     )

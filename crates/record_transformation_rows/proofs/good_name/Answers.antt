@@ -22,11 +22,11 @@ pub returns-then-not-char_good : goal.returns-then-not-char_good
 unfolding good_name
 returns-then-not-char_good c = let n = c.args.n in
     rw
-    (le-leb n.length 31 c.if-length-gt31.false, all-stops (char_good n) c.loop-j.j 31 (is c.char_good.ensures (not-true _ c.if-not-char_good.true)) (omega arith))
+    (le-leb n.length 31 c.if-length-gt31.false, all-stops (char_good n) c.loop-j.j 31 (is c.char_good.ensures (c.if-not-char_good.true)) (omega arith))
 
 pub loop-j-preserved : goal.loop-j-preserved
 loop-j-preserved c = let l = c.loop-j in
-    (omega arith, all_more (char_good c.args.n) l.j l.invariant.1 (is c.char_good.ensures (not-false _ c.if-not-char_good.false)))
+    (omega arith, all_more (char_good c.args.n) l.j l.invariant.1 (is c.char_good.ensures (c.if-not-char_good.false)))
 
 pub returns : goal.returns
 unfolding good_name

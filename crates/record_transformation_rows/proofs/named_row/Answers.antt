@@ -14,23 +14,23 @@ use borrow.Author.Rules.{rules}
 use Rattle.record_transformation_rows.proofs.named_row.Goals as goal
 
 pub returns-then-not-good_names : goal.returns-then-not-good_names
-returns-then-not-good_names c = none _ _ _ c.no_numbers.ensures (is c.good_names.ensures (not-true _ c.if-not-good_names.true))
+returns-then-not-good_names c = none _ _ _ c.no_numbers.ensures (is c.good_names.ensures (c.if-not-good_names.true))
 
 pub append_names-a-requires : goal.append_names-a-requires
 append_names-a-requires c = let a = c.args in
-    let l = good-lengths a.source a.target (is c.good_names.ensures (not-false _ c.if-not-good_names.false)) in
+    let l = good-lengths a.source a.target (is c.good_names.ensures (c.if-not-good_names.false)) in
     (l.0, (l.1, omega arith))
 
 pub append-b-requires : goal.append-b-requires
 append-b-requires c = let a = c.args in
-    let l = good-lengths a.source a.target (is c.good_names.ensures (not-false _ c.if-not-good_names.false)) in
+    let l = good-lengths a.source a.target (is c.good_names.ensures (c.if-not-good_names.false)) in
     let k = c.append_names-a.ensures in
     let m = names-most a.source a.target l.0 l.1 k in
     omega (arith, m, same_size k, c.requires)
 
 pub append-count-requires : goal.append-count-requires
 append-count-requires c = let a = c.args in
-    let l = good-lengths a.source a.target (is c.good_names.ensures (not-false _ c.if-not-good_names.false)) in
+    let l = good-lengths a.source a.target (is c.good_names.ensures (c.if-not-good_names.false)) in
     let k = c.append_names-a.ensures in
     let m = names-most a.source a.target l.0 l.1 k in
     let e = c.append-b.ensures in
@@ -38,14 +38,14 @@ append-count-requires c = let a = c.args in
 
 pub append_bytes-k-requires : goal.append_bytes-k-requires
 append_bytes-k-requires c = let a = c.args in
-    let l = good-lengths a.source a.target (is c.good_names.ensures (not-false _ c.if-not-good_names.false)) in
+    let l = good-lengths a.source a.target (is c.good_names.ensures (c.if-not-good_names.false)) in
     let k = c.append_names-a.ensures in
     let m = names-most a.source a.target l.0 l.1 k in
     omega (arith, m, c.requires)
 
 pub append_bytes-requires : goal.append_bytes-requires
 append_bytes-requires c = let a = c.args in
-    let l = good-lengths a.source a.target (is c.good_names.ensures (not-false _ c.if-not-good_names.false)) in
+    let l = good-lengths a.source a.target (is c.good_names.ensures (c.if-not-good_names.false)) in
     let k = c.append_names-a.ensures in
     let m = names-most a.source a.target l.0 l.1 k in
     let e = c.append_bytes-k.ensures in
@@ -54,7 +54,7 @@ append_bytes-requires c = let a = c.args in
 pub returns : goal.returns
 unfolding padded present_padded
 returns c = let a = c.args in
-    let g = is c.good_names.ensures (not-false _ c.if-not-good_names.false) in
+    let g = is c.good_names.ensures (c.if-not-good_names.false) in
     let l = good-lengths a.source a.target g in
     let k = same_row (λ i. values_of (names (held a.number c.ranges.number.sfits i) a.source a.target)) c.append_names-a.ensures in
     answer _ g

@@ -11,7 +11,7 @@ use Rattle.record_transformation_rows.proofs.point_values.Goals as goal
 pub returns : goal.returns
 unfolding point_row ellipsoids_row pair_row
 returns c = let a = c.args in
-    λ i. (held _ c.value_in.type-inv ∙ c.value_in.ensures) i
-    ∷ (held _ c.value_in-2.type-inv ∙ c.value_in-2.ensures) i
-    ∷ (held _ c.value_in-3.type-inv ∙ c.value_in-3.ensures) i
+    λ i. (held _ c.value_in.type_inv ∙ c.value_in.ensures) i
+    ∷ (held _ c.value_in-2.type_inv ∙ c.value_in-2.ensures) i
+    ∷ (held _ c.value_in-3.type_inv ∙ c.value_in-3.ensures) i
     ∷ backs (values_of (ellipsoids_row a.e)) _ c.type_inv.e i ++ backs (values_of (pair_row a.q)) _ c.struct_told-2-1.given i

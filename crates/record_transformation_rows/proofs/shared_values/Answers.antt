@@ -13,14 +13,14 @@ returns c = let x = c.args in
     let s = c.type_inv.s in
     let a = c.struct_told-2-1.given in
     λ i. held x.s.sin s.0.1 i ∷ held x.s.messages s.1.0.1 i ∷ held x.s.plate s.1.1.0.1 i ∷ held x.s.computation s.1.1.1.0.1 i ∷ held x.s.height s.1.1.1.1.0.1 i
-    ∷ (held _ c.value_in.type-inv ∙ c.value_in.ensures) i
-    ∷ (held _ c.value_in-2.type-inv ∙ c.value_in-2.ensures) i
+    ∷ (held _ c.value_in.type_inv ∙ c.value_in.ensures) i
+    ∷ (held _ c.value_in-2.type_inv ∙ c.value_in-2.ensures) i
     ∷ held x.a.north a.1.1.0.1 i ∷ held x.a.east a.1.1.1.0.1 i
-    ∷ (held _ c.value_in-3.type-inv ∙ c.value_in-3.ensures) i
-    ∷ (held _ c.value_in-4.type-inv ∙ c.value_in-4.ensures) i
-    ∷ (held _ c.value_in-5.type-inv ∙ c.value_in-5.ensures) i
-    ∷ (held _ c.value_in-6.type-inv ∙ c.value_in-6.ensures) i
-    ∷ (held _ c.value_in-7.type-inv ∙ c.value_in-7.ensures) i
-    ∷ (held _ c.value_in-8.type-inv ∙ c.value_in-8.ensures) i
-    ∷ (held _ c.value_in-9.type-inv ∙ c.value_in-9.ensures) i
+    ∷ (held _ c.value_in-3.type_inv ∙ c.value_in-3.ensures) i
+    ∷ (held _ c.value_in-4.type_inv ∙ c.value_in-4.ensures) i
+    ∷ (held _ c.value_in-5.type_inv ∙ c.value_in-5.ensures) i
+    ∷ (held _ c.value_in-6.type_inv ∙ c.value_in-6.ensures) i
+    ∷ (held _ c.value_in-7.type_inv ∙ c.value_in-7.ensures) i
+    ∷ (held _ c.value_in-8.type_inv ∙ c.value_in-8.ensures) i
+    ∷ (held _ c.value_in-9.type_inv ∙ c.value_in-9.ensures) i
     ∷ []

@@ -11,6 +11,6 @@ unfolding area_at
 returns c = λ i. record {
   latitude = c.says_at.ensures i;
   longitude = c.says_at-2.ensures i;
-  north = (held _ c.number_at.type-inv ∙ c.number_at.ensures) i;
-  east = (held _ c.number_at-2.type-inv ∙ c.number_at-2.ensures) i;
+  north = (held _ c.number_at.type_inv ∙ c.number_at.ensures) i;
+  east = (held _ c.number_at-2.type_inv ∙ c.number_at-2.ensures) i;
 }

@@ -9,5 +9,4 @@ use borrow.Author.Rules.{rules}
 use Rattle.record_transformations.proofs.char_at.Goals as goal
 
 pub returns : goal.returns
-returns c = let n = c.number_at in
-    c.char_of.ensures ∙ ap (λ (z : ℤ). natural z % 256) (held n.result n.type-inv ∙ n.ensures)
+returns c = c.char_of.ensures ∙ ap (λ (z : ℤ). natural z % 256) (held c.number_at.result c.number_at.type_inv ∙ c.number_at.ensures)

@@ -9,8 +9,8 @@ use Rattle.record_transformations.proofs.ellipsoids_at.Goals as goal
 pub returns : goal.returns
 unfolding ellipsoids_at
 returns c = λ i. record {
-  source_major = (held _ c.number_at.type-inv ∙ c.number_at.ensures) i;
-  source_minor = (held _ c.number_at-2.type-inv ∙ c.number_at-2.ensures) i;
-  target_major = (held _ c.number_at-3.type-inv ∙ c.number_at-3.ensures) i;
-  target_minor = (held _ c.number_at-4.type-inv ∙ c.number_at-4.ensures) i;
+  source_major = (held _ c.number_at.type_inv ∙ c.number_at.ensures) i;
+  source_minor = (held _ c.number_at-2.type_inv ∙ c.number_at-2.ensures) i;
+  target_major = (held _ c.number_at-3.type_inv ∙ c.number_at-3.ensures) i;
+  target_minor = (held _ c.number_at-4.type_inv ∙ c.number_at-4.ensures) i;
 }

@@ -14,9 +14,9 @@ pub returns : goal.returns
 unfolding molodenski_badekas_of
 returns c = let a = c.args in
     let v = says (row_of a.values.now a.present.now) in
-    let b = c.behind_names-b.ensures.0 in
+    let b = c.behind_names-b.ensures.value in
     λ i. record {
-      number = (held _ c.number_at.type-inv ∙ c.number_at.ensures) i;
+      number = (held _ c.number_at.type_inv ∙ c.number_at.ensures) i;
       source = c.name_at.ensures i;
       target = c.target_of.ensures i;
       system = (c.system_at.ensures ∙ ap (system_at v) b) i;
@@ -28,34 +28,34 @@ returns c = let a = c.args in
     }
 
 pub system_at-requires : goal.system_at-requires
-system_at-requires c = omega (arith, c.behind_names-b.ensures.1)
+system_at-requires c = omega (arith, c.behind_names-b.ensures.upper_bound)
 
 pub overflow_add-b : goal.overflow_add-b
-overflow_add-b c = omega (arith, c.behind_names-b.ensures.1)
+overflow_add-b c = omega (arith, c.behind_names-b.ensures.upper_bound)
 
 pub area_at-requires : goal.area_at-requires
-area_at-requires c = omega (arith, c.behind_names-b.ensures.1)
+area_at-requires c = omega (arith, c.behind_names-b.ensures.upper_bound)
 
 pub overflow_add-b-2 : goal.overflow_add-b-2
-overflow_add-b-2 c = omega (arith, c.behind_names-b.ensures.1)
+overflow_add-b-2 c = omega (arith, c.behind_names-b.ensures.upper_bound)
 
 pub parameters_at-requires : goal.parameters_at-requires
-parameters_at-requires c = omega (arith, c.behind_names-b.ensures.1)
+parameters_at-requires c = omega (arith, c.behind_names-b.ensures.upper_bound)
 
 pub overflow_add-b-3 : goal.overflow_add-b-3
-overflow_add-b-3 c = omega (arith, c.behind_names-b.ensures.1)
+overflow_add-b-3 c = omega (arith, c.behind_names-b.ensures.upper_bound)
 
 pub point_at-requires : goal.point_at-requires
-point_at-requires c = omega (arith, c.behind_names-b.ensures.1)
+point_at-requires c = omega (arith, c.behind_names-b.ensures.upper_bound)
 
 pub overflow_add-b-4 : goal.overflow_add-b-4
-overflow_add-b-4 c = omega (arith, c.behind_names-b.ensures.1)
+overflow_add-b-4 c = omega (arith, c.behind_names-b.ensures.upper_bound)
 
 pub ellipsoids_at-requires : goal.ellipsoids_at-requires
-ellipsoids_at-requires c = omega (arith, c.behind_names-b.ensures.1)
+ellipsoids_at-requires c = omega (arith, c.behind_names-b.ensures.upper_bound)
 
 pub overflow_add-b-5 : goal.overflow_add-b-5
-overflow_add-b-5 c = omega (arith, c.behind_names-b.ensures.1)
+overflow_add-b-5 c = omega (arith, c.behind_names-b.ensures.upper_bound)
 
 pub pair_at-requires : goal.pair_at-requires
 pair_at-requires c = tt

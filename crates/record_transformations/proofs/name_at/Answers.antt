@@ -26,8 +26,7 @@ pub loop-j-preserved : goal.loop-j-preserved
 loop-j-preserved c = let l = c.loop-j in
     let a = c.args in
     let v = says (row_of a.values.now a.present.now) in
-    let m = counter-most v a.k in
-    let e = c.counter_at-length.ensures in (
+    let m = counter-most v a.k in (
       omega arith,
       fill-turn (char_from v a.k) (replicate 31 0) _ l.j _ 0 l.invariant.1
           c.char_at.ensures (omega arith),
@@ -40,7 +39,7 @@ returns c = let l = c.loop-j in
     let v = says (row_of a.values.now a.present.now) in
     let f = char_from v a.k in
     let n = counter_at v a.k in
-    let long : c.counter_at-length.result ≡ n = c.counter_at-length.ensures.0 in
+    let long : c.counter_at-length.result ≡ n = c.counter_at-length.ensures.value in
     let e : l.j ≡ n = omega arith in
     λ i. record {
       length = long i;

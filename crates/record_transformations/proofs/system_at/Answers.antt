@@ -9,9 +9,9 @@ use Rattle.record_transformations.proofs.system_at.Goals as goal
 pub returns : goal.returns
 unfolding system_at
 returns c = λ i. record {
-  sin = (held _ c.number_at.type-inv ∙ c.number_at.ensures) i;
-  messages = (held _ c.number_at-2.type-inv ∙ c.number_at-2.ensures) i;
-  plate = (held _ c.number_at-3.type-inv ∙ c.number_at-3.ensures) i;
-  computation = (held _ c.number_at-4.type-inv ∙ c.number_at-4.ensures) i;
-  height = (held _ c.number_at-5.type-inv ∙ c.number_at-5.ensures) i;
+  sin = (held _ c.number_at.type_inv ∙ c.number_at.ensures) i;
+  messages = (held _ c.number_at-2.type_inv ∙ c.number_at-2.ensures) i;
+  plate = (held _ c.number_at-3.type_inv ∙ c.number_at-3.ensures) i;
+  computation = (held _ c.number_at-4.type_inv ∙ c.number_at-4.ensures) i;
+  height = (held _ c.number_at-5.type_inv ∙ c.number_at-5.ensures) i;
 }

@@ -10,4 +10,4 @@ use Rattle.record_transformations.proofs.target_of.Goals as goal
 
 pub returns : goal.returns
 returns c = let a = c.args in
-    c.name_at.ensures ∙ ap (λ (k : ℕ). name_at (says (row_of a.values.now a.present.now)) (2 + k)) c.counter_at-n.ensures.0
+    c.name_at.ensures ∙ ap (λ (k : ℕ). name_at (says (row_of a.values.now a.present.now)) (2 + k)) c.counter_at-n.ensures.value

@@ -17,13 +17,13 @@ pub loop-i-init : goal.loop-i-init
 loop-i-init c = (omega arith, refl)
 
 pub offset_bounds-north-i : goal.offset_bounds-north-i
-offset_bounds-north-i c = omega (arith, c.well-formed.1.1.1.1.0)
+offset_bounds-north-i c = omega (arith, c.well_formed.1.1.1.1.0)
 
 pub bounds-north-i : goal.bounds-north-i
 bounds-north-i c = omega arith
 
 pub offset_bounds-east-i : goal.offset_bounds-east-i
-offset_bounds-east-i c = omega (arith, c.well-formed.1.1.1.1.0)
+offset_bounds-east-i c = omega (arith, c.well_formed.1.1.1.1.0)
 
 pub bounds-east-i : goal.bounds-east-i
 bounds-east-i c = omega (arith, c.requires.0)

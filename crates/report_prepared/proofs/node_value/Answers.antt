@@ -7,4 +7,4 @@ use Rattle.layout.specs.Layout.{value_in}
 use Rattle.report_prepared.proofs.node_value.Goals as goal
 
 pub returns : goal.returns
-returns c = held c.value_in.result c.value_in.type-inv ∙ c.value_in.ensures ∙ ap value_in c.node_at.ensures
+returns c = held c.value_in.result c.value_in.type_inv ∙ c.value_in.ensures ∙ ap value_in c.node_at.ensures

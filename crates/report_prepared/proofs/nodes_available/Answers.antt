@@ -16,13 +16,13 @@ unfolding nodes_available
 returns-then-not-is_available c = let a = c.args in
     sym
     (all-stops (node_available a.message.now a.component) c.loop-k.k 16
-    (sym (c.is_available.ensures ∙ ap available c.node_at.ensures) ∙ not-true _ c.if-not-is_available.true) c.loop-k-test.true)
+    (sym (c.is_available.ensures ∙ ap available c.node_at.ensures) ∙ c.if-not-is_available.true) c.loop-k-test.true)
 
 pub loop-k-preserved : goal.loop-k-preserved
 loop-k-preserved c = let a = c.args in (
   omega arith,
   all_more (node_available a.message.now a.component) c.loop-k.k c.loop-k.invariant.1
-      (sym (c.is_available.ensures ∙ ap available c.node_at.ensures) ∙ not-false _ c.if-not-is_available.false),
+      (sym (c.is_available.ensures ∙ ap available c.node_at.ensures) ∙ c.if-not-is_available.false),
 )
 
 pub returns : goal.returns

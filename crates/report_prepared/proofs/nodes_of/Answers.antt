@@ -17,7 +17,7 @@ loop-k-preserved c = let l = c.loop-k in
     let a = c.args in (
       omega arith,
       fill-turn (node_value a.message.now a.component) _ _ l.k _ (pos 0) l.invariant.1
-          (held c.node_value.result c.node_value.type-inv ∙ c.node_value.ensures) (omega arith),
+          (held c.node_value.result c.node_value.type_inv ∙ c.node_value.ensures) (omega arith),
     )
 
 pub returns : goal.returns

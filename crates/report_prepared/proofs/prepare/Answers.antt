@@ -61,7 +61,7 @@ module _ (t : tie.After-is-available) where
   mean = t.is-available.ensures ∙ ap available t.before.mean-at.ensures
 
 pub returns-then-not-is_available : goal.returns-then-not-is_available
-returns-then-not-is_available c = c.no_edges-then-not-is_available.ensures ∙ no-mean (m c) (kept c) (c c) (accepted c) (sym (mean c) ∙ not-true _ c.if-not-is_available.true)
+returns-then-not-is_available c = c.no_edges-then-not-is_available.ensures ∙ no-mean (m c) (kept c) (c c) (accepted c) (sym (mean c) ∙ c.if-not-is_available.true)
 
 module _ (h : tie.After-nodes-available) where
   abbrev t : tie.After-is-available
@@ -72,7 +72,7 @@ module _ (h : tie.After-nodes-available) where
 
 pub returns-then-not-nodes_available : goal.returns-then-not-nodes_available
 returns-then-not-nodes_available c = let t = t c in
-    c.no_edges-then-not-nodes_available.ensures ∙ no-nodes (m t) (kept t) (c t) (accepted t) (mean-there c) (sym c.nodes_available.ensures ∙ not-true _ c.if-not-nodes_available.true)
+    c.no_edges-then-not-nodes_available.ensures ∙ no-nodes (m t) (kept t) (c t) (accepted t) (mean-there c) (sym c.nodes_available.ensures ∙ c.if-not-nodes_available.true)
 
 module _ (b : tie.After-middle2) where
   abbrev o : tie.After-origin

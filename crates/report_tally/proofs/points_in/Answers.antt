@@ -47,6 +47,6 @@ pub returns : goal.returns
 returns c = let a = c.args in
     let l = c.loop-i in
     let e : l.i ≡ 15 = omega arith in
-    let size : length a.t2 ≤ 15 = omega (arith, c.well-formed) in
+    let size : length a.t2 ≤ 15 = omega (arith, c.well_formed) in
     capped (a.answered + total a.t2) l.n
     (l.invariant.1.0 ∙ ap (λ (k : ℕ). a.answered + total (take k a.t2)) e ∙ ap (λ (k : ℕ). a.answered + k) (total-all a.t2 15 size)) l.invariant.1.1

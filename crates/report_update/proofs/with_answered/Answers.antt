@@ -53,8 +53,8 @@ returns c = let k = (s c).args.place in
     λ i. record {
       answered = (t c).answered + 1;
       refused = (t c).refused;
-      smallest = (held c.count_of-smallest.result c.count_of-smallest.type-inv ∙ c.count_of-smallest.ensures ∙ (λ j. cond (low c j) (z c j) (smallest c j))) i;
-      greatest = (held c.count_of-greatest.result c.count_of-greatest.type-inv ∙ c.count_of-greatest.ensures ∙ (λ j. cond (high c j) (z c j) (greatest c j))) i;
+      smallest = (held c.count_of-smallest.result c.count_of-smallest.type_inv ∙ c.count_of-smallest.ensures ∙ (λ j. cond (low c j) (z c j) (smallest c j))) i;
+      greatest = (held c.count_of-greatest.result c.count_of-greatest.type_inv ∙ c.count_of-greatest.ensures ∙ (λ j. cond (high c j) (z c j) (greatest c j))) i;
       smallest_place = (c.place_of-smallest_place.ensures ∙ (λ j. cond (low c j) k (t c).smallest_place)) i;
       greatest_place = (c.place_of-greatest_place.ensures ∙ (λ j. cond (high c j) k (t c).greatest_place)) i;
       sum = (sum (s c)).held i;

@@ -14,7 +14,7 @@ use Rattle.sample_checks.proofs.Checks.{Ends, ends, other-shape, message-refused
 use Rattle.sample_checks.proofs.check_samples.Goals as goal
 
 pub returns-then-not-right_shape : goal.returns-then-not-right_shape
-returns-then-not-right_shape c = other-shape _ (sym c.right_shape.ensures ∙ not-true _ c.if-not-right_shape.true)
+returns-then-not-right_shape c = other-shape _ (sym c.right_shape.ensures ∙ c.if-not-right_shape.true)
 
 module _ (c : tie.After-message-end) where
   abbrev f : List ℕ

@@ -29,11 +29,11 @@ module _ (c : tie.After-right-point invariant-loop decreases-loop) where
 
 pub returns-then-not-right_point : goal.returns-then-not-right_point
 returns-then-not-right_point c = round-bad (s c).args.message.now (s c).args.file.now (l c).loop.i (omega (arith, c.loop-i-test.true, (l c).loop.invariant.0))
-    (sym (tested c) ∙ not-true _ c.if-not-right_point.true) (l c).loop.invariant.1.1
+    (sym (tested c) ∙ c.if-not-right_point.true) (l c).loop.invariant.1.1
 
 pub loop-i-preserved : goal.loop-i-preserved
 loop-i-preserved c = let v = (l c).loop.invariant in
-    (v.0, (omega arith, v.1.1 ∙ round-right (s c).args.message.now (s c).args.file.now (l c).loop.i (omega (arith, c.loop-i-test.true, v.0)) (sym (tested c) ∙ not-false _ c.if-not-right_point.false)))
+    (v.0, (omega arith, v.1.1 ∙ round-right (s c).args.message.now (s c).args.file.now (l c).loop.i (omega (arith, c.loop-i-test.true, v.0)) (sym (tested c) ∙ c.if-not-right_point.false)))
 
 pub returns : goal.returns
 returns c = let v = c.loop-i.invariant in

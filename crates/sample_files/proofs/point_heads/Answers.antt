@@ -19,11 +19,11 @@ point_head-requires c = field_in c.args.s.now _ _ c.loop-i-test.true c.loop-i.in
 
 pub returns-then-not-point_head : goal.returns-then-not-point_head
 returns-then-not-point_head c = let l = c.loop-i in
-    sym (l.invariant.1.1 ∙ head-fails _ _ _ c.loop-i-test.true (ap point_head (sym (tail c.args.s.now (point_size * l.i))) ∙ sym c.point_head.ensures ∙ not-true _ c.if-not-point_head.true))
+    sym (l.invariant.1.1 ∙ head-fails _ _ _ c.loop-i-test.true (ap point_head (sym (tail c.args.s.now (point_size * l.i))) ∙ sym c.point_head.ensures ∙ c.if-not-point_head.true))
 
 pub loop-i-preserved : goal.loop-i-preserved
 loop-i-preserved c = let l = c.loop-i in
-    (omega arith, (l.invariant.1.0, l.invariant.1.1 ∙ head-holds _ _ _ c.loop-i-test.true (ap point_head (sym (tail c.args.s.now (point_size * l.i))) ∙ sym c.point_head.ensures ∙ not-false _ c.if-not-point_head.false)))
+    (omega arith, (l.invariant.1.0, l.invariant.1.1 ∙ head-holds _ _ _ c.loop-i-test.true (ap point_head (sym (tail c.args.s.now (point_size * l.i))) ∙ sym c.point_head.ensures ∙ c.if-not-point_head.false)))
 
 pub returns : goal.returns
 returns c = sym (c.loop-i.invariant.1.1 ∙ end-heads _ _ _ c.loop-i-test.false)

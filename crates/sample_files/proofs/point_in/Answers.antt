@@ -27,7 +27,7 @@ returns c = let s = c.args.s.now in
     let a = c.args.a in
     λ i. record {
       component = sym (get_or-drop a s 3 0) i;
-      north = read s a 4 c.whole_at.result c.whole_at.type-inv c.whole_at.ensures (omega (arith, c.requires)) i;
-      east = read s a 12 c.whole_at-2.result c.whole_at-2.type-inv c.whole_at-2.ensures (omega (arith, c.requires)) i;
-      claim = read s a 20 c.whole_at-3.result c.whole_at-3.type-inv c.whole_at-3.ensures (omega (arith, c.requires)) i;
+      north = read s a 4 c.whole_at.result c.whole_at.type_inv c.whole_at.ensures (omega (arith, c.requires)) i;
+      east = read s a 12 c.whole_at-2.result c.whole_at-2.type_inv c.whole_at-2.ensures (omega (arith, c.requires)) i;
+      claim = read s a 20 c.whole_at-3.result c.whole_at-3.type_inv c.whole_at-3.ensures (omega (arith, c.requires)) i;
     }

@@ -15,7 +15,7 @@ use Rattle.sample_files.proofs.right_shape.Goals as goal
 
 pub returns-then-not-message_first : goal.returns-then-not-message_first
 unfolding tested
-returns-then-not-message_first c = rw (sym c.message_first.ensures ∙ not-true _ c.if-not-message_first.true) at
+returns-then-not-message_first c = rw (sym c.message_first.ensures ∙ c.if-not-message_first.true) at
     (shape_is c.args.file.now (λ i. (c.type_inv.file i).fits))
 
 module _ (c : tie.After-message-end) where
@@ -38,5 +38,5 @@ pub returns : goal.returns
 unfolding tested
 returns c = c.only_points.ensures
     ∙ ap only_points (part c)
-    ∙ rw (sym c.message_first.ensures ∙ not-false _ c.if-not-message_first.false) at
+    ∙ rw (sym c.message_first.ensures ∙ c.if-not-message_first.false) at
     (shape_is (f c) (λ i. (c.type_inv.file i).fits))

@@ -9,4 +9,4 @@ use Rattle.sample_numbers.proofs.whole_at.Goals as goal
 
 pub returns : goal.returns
 unfolding whole_at
-returns c = held c.signed_of.result c.signed_of.type-inv ∙ c.signed_of.ensures ∙ ap (twos 64) c.number_at.ensures
+returns c = held c.signed_of.result c.signed_of.type_inv ∙ c.signed_of.ensures ∙ ap (twos 64) c.number_at.ensures

@@ -28,7 +28,7 @@ returns-then-not-sound c = let t = c.args.table.now in
     let s = c.args.sin in
     let g = c.args.group in
     let r = c.not_found.ensures in
-    found-is t o s g (find-table t o s g (sym c.sound.ensures ∙ not-true _ c.if-not-sound.true)) r.0 r.1.0 r.1.1
+    found-is t o s g (find-table t o s g (sym c.sound.ensures ∙ c.if-not-sound.true)) r.0 r.1.0 r.1.1
 
 pub returns-then-not-is_owner : goal.returns-then-not-is_owner
 returns-then-not-is_owner c = let t = c.args.table.now in
@@ -36,8 +36,8 @@ returns-then-not-is_owner c = let t = c.args.table.now in
     let s = c.args.sin in
     let g = c.args.group in
     let r = c.not_found-then-not-is_owner.ensures in
-    let w = sym c.sound.ensures ∙ not-false _ c.if-not-sound.false in
-    found-is t o s g (find-owner t o s g w (sym c.is_owner.ensures ∙ not-true _ c.if-not-is_owner.true)) r.0 r.1.0 r.1.1
+    let w = sym c.sound.ensures ∙ c.if-not-sound.false in
+    found-is t o s g (find-owner t o s g w (sym c.is_owner.ensures ∙ c.if-not-is_owner.true)) r.0 r.1.0 r.1.1
 
 pub returns-then-group-gt2 : goal.returns-then-group-gt2
 returns-then-group-gt2 c = let t = c.args.table.now in
@@ -45,8 +45,8 @@ returns-then-group-gt2 c = let t = c.args.table.now in
     let s = c.args.sin in
     let g = c.args.group in
     let r = c.not_found-then-group-gt2.ensures in
-    let w = sym c.sound.ensures ∙ not-false _ c.if-not-sound.false in
-    let v = sym c.is_owner.ensures ∙ not-false _ c.if-not-is_owner.false in
+    let w = sym c.sound.ensures ∙ c.if-not-sound.false in
+    let v = sym c.is_owner.ensures ∙ c.if-not-is_owner.false in
     let e : key_place t o s g ≡ slots = key_place-out t o s g c.if-group-gt2.true in
     found-is t o s g (find_none t o s g w v (omega arith)) r.0 r.1.0 r.1.1
 
@@ -55,10 +55,10 @@ bounds-table-a c = let placed : Placed c.args.table.now c.args.owner c.args.sin 
     let o = c.args.owner in
     let s = c.args.sin in
     let g = c.args.group in
-    let w = sym c.sound.ensures ∙ not-false _ c.if-not-sound.false in
+    let w = sym c.sound.ensures ∙ c.if-not-sound.false in
     record {
       whole = w;
-      owner = sym c.is_owner.ensures ∙ not-false _ c.if-not-is_owner.false;
+      owner = sym c.is_owner.ensures ∙ c.if-not-is_owner.false;
       place =
           c.mark_place-i.ensures ∙ ap (λ k. mark_place c.table_marks-row.result k slots) c.tag_of.ensures
           ∙ row-place t _ c.table_marks-row.ensures w (suc (joined o (key s g))) ∙ sym (key_place-in t o s g (omega arith));
@@ -74,10 +74,10 @@ returns-then-i-lt-SLOTS c = let placed : Placed c.args.table.now c.args.owner c.
     let o = c.args.owner in
     let s = c.args.sin in
     let g = c.args.group in
-    let w = sym c.sound.ensures ∙ not-false _ c.if-not-sound.false in
+    let w = sym c.sound.ensures ∙ c.if-not-sound.false in
     record {
       whole = w;
-      owner = sym c.is_owner.ensures ∙ not-false _ c.if-not-is_owner.false;
+      owner = sym c.is_owner.ensures ∙ c.if-not-is_owner.false;
       place =
           c.mark_place-i.ensures ∙ ap (λ k. mark_place c.table_marks-row.result k slots) c.tag_of.ensures
           ∙ row-place t _ c.table_marks-row.ensures w (suc (joined o (key s g))) ∙ sym (key_place-in t o s g (omega arith));
@@ -96,10 +96,10 @@ returns c = let placed : Placed c.args.table.now c.args.owner c.args.sin c.args.
     let o = c.args.owner in
     let s = c.args.sin in
     let g = c.args.group in
-    let w = sym c.sound.ensures ∙ not-false _ c.if-not-sound.false in
+    let w = sym c.sound.ensures ∙ c.if-not-sound.false in
     record {
       whole = w;
-      owner = sym c.is_owner.ensures ∙ not-false _ c.if-not-is_owner.false;
+      owner = sym c.is_owner.ensures ∙ c.if-not-is_owner.false;
       place =
           c.mark_place-i.ensures ∙ ap (λ k. mark_place c.table_marks-row.result k slots) c.tag_of.ensures
           ∙ row-place t _ c.table_marks-row.ensures w (suc (joined o (key s g))) ∙ sym (key_place-in t o s g (omega arith));

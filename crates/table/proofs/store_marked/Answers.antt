@@ -29,11 +29,11 @@ returns-then-table-ne-TABLE_SIZE c = record { answer = λ k. absurd (c.if-table-
 
 pub returns-then-not-is_owner : goal.returns-then-not-is_owner
 returns-then-not-is_owner c = let a = c.args in
-    let f = sym c.is_owner.ensures ∙ not-true _ c.if-not-is_owner.true in record { answer = λ k. sym (store-owner a.table.now a.owner a.message.now k.whole f).number; output = λ k. sym (store-owner a.table.now a.owner a.message.now k.whole f).table }
+    let f = sym c.is_owner.ensures ∙ c.if-not-is_owner.true in record { answer = λ k. sym (store-owner a.table.now a.owner a.message.now k.whole f).number; output = λ k. sym (store-owner a.table.now a.owner a.message.now k.whole f).table }
 
 pub returns-then-refusal-ne0 : goal.returns-then-refusal-ne0
 returns-then-refusal-ne0 c = let a = c.args in
-    let v = sym c.is_owner.ensures ∙ not-false _ c.if-not-is_owner.false in
+    let v = sym c.is_owner.ensures ∙ c.if-not-is_owner.false in
     let e = header-refusal a.message.now _ c.read_header-h.ensures in record { answer = λ k. e ∙ sym (store-refused a.table.now a.owner a.message.now k.whole v (λ q. c.if-refusal-ne0.true (e ∙ q))).number; output = λ k. sym (store-refused a.table.now a.owner a.message.now k.whole v (λ q. c.if-refusal-ne0.true (e ∙ q))).table }
 
 pub returns-then-i-ge-SLOTS : goal.returns-then-i-ge-SLOTS
@@ -48,7 +48,7 @@ returns-then-i-ge-SLOTS c = let accepted : refusal c.args.message.now ≡ 0 = sy
     let z = accepted in
     let g = c.tag_of.ensures ∙ ap (λ g. suc (joined o (key h.sin g))) c.group_of.ensures ∙ header-tag o m h e z in
     record {
-      owner = sym c.is_owner.ensures ∙ not-false _ c.if-not-is_owner.false;
+      owner = sym c.is_owner.ensures ∙ c.if-not-is_owner.false;
       accepted = z;
       place =
           c.mark_or_free-i.ensures ∙ ap (λ x. mark_or_free row x c.held_by.result) g
@@ -73,7 +73,7 @@ returns c = let accepted : refusal c.args.message.now ≡ 0 = sym (header-refusa
     let z = accepted in
     let g = c.tag_of.ensures ∙ ap (λ g. suc (joined o (key h.sin g))) c.group_of.ensures ∙ header-tag o m h e z in
     record {
-      owner = sym c.is_owner.ensures ∙ not-false _ c.if-not-is_owner.false;
+      owner = sym c.is_owner.ensures ∙ c.if-not-is_owner.false;
       accepted = z;
       place =
           c.mark_or_free-i.ensures ∙ ap (λ x. mark_or_free row x c.held_by.result) g

@@ -13,11 +13,11 @@ use Rattle.table_index_search.proofs.all_agree.Goals as goal
 
 pub returns-then-not-agree_at : goal.returns-then-not-agree_at
 returns-then-not-agree_at c = let a = c.args in
-    sym (all-stops (agree_at a.marks.now a.index.now) c.loop-i.i entries (sym c.agree_at.ensures ∙ not-true _ c.if-not-agree_at.true) c.loop-i-test.true)
+    sym (all-stops (agree_at a.marks.now a.index.now) c.loop-i.i entries (sym c.agree_at.ensures ∙ c.if-not-agree_at.true) c.loop-i-test.true)
 
 pub loop-i-preserved : goal.loop-i-preserved
 loop-i-preserved c = let a = c.args in
-    (omega arith, all_more (agree_at a.marks.now a.index.now) c.loop-i.i c.loop-i.invariant.1 (sym c.agree_at.ensures ∙ not-false _ c.if-not-agree_at.false))
+    (omega arith, all_more (agree_at a.marks.now a.index.now) c.loop-i.i c.loop-i.invariant.1 (sym c.agree_at.ensures ∙ c.if-not-agree_at.false))
 
 pub returns : goal.returns
 returns c = let a = c.args in

@@ -9,8 +9,8 @@ use Rattle.table_index_search.proofs.is_entry.Goals as goal
 
 pub returns-then-not-is_key : goal.returns-then-not-is_key
 returns-then-not-is_key c = let a = c.args in
-    sym (entry_other a.index.now a.j a.key a.slot (sym c.is_key.ensures ∙ not-true _ c.if-not-is_key.true))
+    sym (entry_other a.index.now a.j a.key a.slot (sym c.is_key.ensures ∙ c.if-not-is_key.true))
 
 pub returns : goal.returns
 returns c = let a = c.args in
-    ap (λ k. eqb k a.slot) c.byte_at.ensures ∙ sym (entry-slot a.index.now a.j a.key a.slot (sym c.is_key.ensures ∙ not-false _ c.if-not-is_key.false))
+    ap (λ k. eqb k a.slot) c.byte_at.ensures ∙ sym (entry-slot a.index.now a.j a.key a.slot (sym c.is_key.ensures ∙ c.if-not-is_key.false))

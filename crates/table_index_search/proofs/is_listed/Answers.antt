@@ -12,4 +12,4 @@ returns-then-key-eq0 c = let a = c.args in sym (listed_free a.marks.now a.index.
 
 pub returns : goal.returns
 returns c = let a = c.args in
-    ap (λ k. ltb k entries) c.entry_IsPlace.ensures ∙ sym (listed-used a.marks.now a.index.now a.i c.if-key-eq0.false)
+    ap (λ k. ltb k entries) c.entry_place.ensures ∙ sym (listed-used a.marks.now a.index.now a.i c.if-key-eq0.false)

@@ -10,4 +10,4 @@ pub returns-then-index-ne-INDEX_SIZE : goal.returns-then-index-ne-INDEX_SIZE
 returns-then-index-ne-INDEX_SIZE c = sym (placed-other _ _ c.if-index-ne-INDEX_SIZE.true)
 
 pub returns : goal.returns
-returns c = (λ i. record { at = c.key_place-at.ensures i; has = c.has_key_lem.ensures i }) ∙ sym (placed-sized _ _ c.if-index-ne-INDEX_SIZE.false)
+returns c = (λ i. record { at = c.key_place-at.ensures i; has = c.has_key.ensures i }) ∙ sym (placed-sized _ _ c.if-index-ne-INDEX_SIZE.false)

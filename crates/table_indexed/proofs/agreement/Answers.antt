@@ -19,11 +19,11 @@ returns-then-not-agrees c = let a = c.args in
     let t = a.table.now in
     let w = well-table t a.row.now c.requires c.if-row-eq-NO_TAG.false in
     let keys = c.mark_keys-keys.ensures ∙ row-keys t a.row.now w.0 w.1 in
-    sym (agrees-index t a.index.now w.0 (ap (λ (k : List ℕ). agree k a.index.now) (sym keys) ∙ sym c.agrees.ensures ∙ not-true _ c.if-not-agrees.true))
+    sym (agrees-index t a.index.now w.0 (ap (λ (k : List ℕ). agree k a.index.now) (sym keys) ∙ sym c.agrees.ensures ∙ c.if-not-agrees.true))
 
 pub returns : goal.returns
 returns c = let a = c.args in
     let t = a.table.now in
     let w = well-table t a.row.now c.requires c.if-row-eq-NO_TAG.false in
     let keys = c.mark_keys-keys.ensures ∙ row-keys t a.row.now w.0 w.1 in
-    sym (agrees-done t a.index.now w.0 (ap (λ (k : List ℕ). agree k a.index.now) (sym keys) ∙ sym c.agrees.ensures ∙ not-false _ c.if-not-agrees.false))
+    sym (agrees-done t a.index.now w.0 (ap (λ (k : List ℕ). agree k a.index.now) (sym keys) ∙ sym c.agrees.ensures ∙ c.if-not-agrees.false))

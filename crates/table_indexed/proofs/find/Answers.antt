@@ -23,20 +23,20 @@ returns-then-index-ne-INDEX_SIZE c = let a = c.args in
 
 pub returns-then-not-is_owner : goal.returns-then-not-is_owner
 returns-then-not-is_owner c = let a = c.args in
-    let v = sym c.is_owner.ensures ∙ not-true _ c.if-not-is_owner.true in
+    let v = sym c.is_owner.ensures ∙ c.if-not-is_owner.true in
     c.not_found-then-not-is_owner.ensures ∙ sym (find-owner a.table.now a.index.now a.owner a.sin a.group c.if-table-ne-TABLE_SIZE.false c.if-index-ne-INDEX_SIZE.false v)
 
 pub returns-then-group-gt2 : goal.returns-then-group-gt2
 returns-then-group-gt2 c = let a = c.args in
-    let v = sym c.is_owner.ensures ∙ not-false _ c.if-not-is_owner.false in
+    let v = sym c.is_owner.ensures ∙ c.if-not-is_owner.false in
     c.not_found-then-group-gt2.ensures ∙ sym (find-group a.table.now a.index.now a.owner a.sin a.group c.if-table-ne-TABLE_SIZE.false c.if-index-ne-INDEX_SIZE.false v c.if-group-gt2.true)
 
 pub returns-then-not-p : goal.returns-then-not-p
 unfolding probed
 returns-then-not-p c = let a = c.args in
-    let v = sym c.is_owner.ensures ∙ not-false _ c.if-not-is_owner.false in
+    let v = sym c.is_owner.ensures ∙ c.if-not-is_owner.false in
     let e = c.search-p.ensures ∙ ap (searched a.index.now) c.entry_key.ensures in
-    let n = ap (λ (r : Probe). r.found) (sym e) ∙ not-true _ c.if-not-p.true in
+    let n = ap (λ (r : Probe). r.found) (sym e) ∙ c.if-not-p.true in
     c.not_found-then-not-p.ensures ∙ sym (find_none a.table.now a.index.now a.owner a.sin a.group c.if-table-ne-TABLE_SIZE.false c.if-index-ne-INDEX_SIZE.false v c.if-group-gt2.false n)
 
 pub returns : goal.returns
@@ -44,9 +44,9 @@ unfolding probed
 returns c = let a = c.args in
     let t = a.table.now in
     let p = c.search-p.result in
-    let v = sym c.is_owner.ensures ∙ not-false _ c.if-not-is_owner.false in
+    let v = sym c.is_owner.ensures ∙ c.if-not-is_owner.false in
     let e = c.search-p.ensures ∙ ap (searched a.index.now) c.entry_key.ensures in
-    let n = ap (λ (r : Probe). r.found) (sym e) ∙ not-false _ c.if-not-p.false in
+    let n = ap (λ (r : Probe). r.found) (sym e) ∙ c.if-not-p.false in
     let small : a.sin < 256 = omega arith in
     c.in_slot.ensures
     ∙ ap (λ (g : ℕ). in_slot t p.slot g p.probes) c.tag_of.ensures

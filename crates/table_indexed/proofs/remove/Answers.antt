@@ -16,13 +16,11 @@ returns-then-a-ne0 c = let a = c.args in
 pub returns-then-r-ne0 : goal.returns-then-r-ne0
 returns-then-r-ne0 c = let a = c.args in
     let e = sym c.agrees-a.ensures ∙ c.if-a-ne0.false in
-    let r = c.remove-r.ensures in
-    let n : find_refusal a.table.now a.owner a.sin a.group ≡ 0 → ⊥ = λ z. c.if-r-ne0.true (r.0 ∙ z) in
-    let s = remove-refused a.table.now a.index.now a.owner a.sin a.group e n in record { answer = r.0 ∙ sym s.number; output = r.1 ∙ remove-kept a.table.now a.owner a.sin a.group n ∙ sym s.table; kept = sym s.index }
+    let n : find_refusal a.table.now a.owner a.sin a.group ≡ 0 → ⊥ = λ z. c.if-r-ne0.true (c.remove-r.ensures.answer ∙ z) in
+    let s = remove-refused a.table.now a.index.now a.owner a.sin a.group e n in record { answer = c.remove-r.ensures.answer ∙ sym s.number; output = c.remove-r.ensures.output ∙ remove-kept a.table.now a.owner a.sin a.group n ∙ sym s.table; kept = sym s.index }
 
 pub returns : goal.returns
 returns c = let a = c.args in
     let e = sym c.agrees-a.ensures ∙ c.if-a-ne0.false in
-    let r = c.remove-r.ensures in
-    let n = sym r.0 ∙ c.if-r-ne0.false in
-    let s = remove-done a.table.now a.index.now a.owner a.sin a.group e n in record { answer = sym s.number; output = r.1 ∙ sym s.table; kept = c.delete.ensures ∙ ap (deleted a.index.now) c.entry_key.ensures ∙ sym s.index }
+    let n = sym c.remove-r.ensures.answer ∙ c.if-r-ne0.false in
+    let s = remove-done a.table.now a.index.now a.owner a.sin a.group e n in record { answer = sym s.number; output = c.remove-r.ensures.output ∙ sym s.table; kept = c.delete.ensures ∙ ap (deleted a.index.now) c.entry_key.ensures ∙ sym s.index }

@@ -23,8 +23,8 @@ returns-then-r-ne0 c = let a = c.args in
     let w = (agrees-passed t x e).0 in
     let is = checked-well t row c.checked_marks-row.ensures w in
     let k : Marked row t = record { row_is = is; whole = w } in
-    let f = c.store_marked-r.ensures.0 k in
-    let g = c.store_marked-r.ensures.1 k in
+    let f = c.store_marked-r.ensures.answer k in
+    let g = c.store_marked-r.ensures.output k in
     let n : store_refusal t a.owner a.message.now ≡ 0 → ⊥ = λ z. c.if-r-ne0.true (f ∙ z) in
     let s = store-refused t x a.owner a.message.now e n in record { answer = f ∙ sym s.number; output = g ∙ store_kept t a.owner a.message.now n ∙ sym s.table; kept = sym s.index }
 
@@ -37,7 +37,7 @@ returns c = let a = c.args in
     let w = (agrees-passed t x e).0 in
     let is = checked-well t row c.checked_marks-row.ensures w in
     let k : Marked row t = record { row_is = is; whole = w } in
-    let f = c.store_marked-r.ensures.0 k in
-    let g = c.store_marked-r.ensures.1 k in
+    let f = c.store_marked-r.ensures.answer k in
+    let g = c.store_marked-r.ensures.output k in
     let n = sym f ∙ c.if-r-ne0.false in
     let s = store-done t x a.owner a.message.now e n in record { answer = sym s.number; output = g ∙ sym s.table; kept = c.add_entry.ensures ∙ entry-added t row x a.owner a.message.now is (store-passed t a.owner a.message.now n) ∙ sym s.index }

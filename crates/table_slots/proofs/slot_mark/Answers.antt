@@ -26,7 +26,7 @@ returns-then-o-eq0 c = let s = c.args.s.now in
 
 pub returns-then-not-is_owner : goal.returns-then-not-is_owner
 returns-then-not-is_owner c = let s = c.args.s.now in
-    sym (mark-ill s (ill-owner s c.if-o-eq0.false (sym c.is_owner.ensures ∙ not-true _ c.if-not-is_owner.true)))
+    sym (mark-ill s (ill-owner s c.if-o-eq0.false (sym c.is_owner.ensures ∙ c.if-not-is_owner.true)))
 
 pub returns-then-n-gt-MESSAGE_SIZE : goal.returns-then-n-gt-MESSAGE_SIZE
 returns-then-n-gt-MESSAGE_SIZE c = let s = c.args.s.now in
@@ -34,7 +34,7 @@ returns-then-n-gt-MESSAGE_SIZE c = let s = c.args.s.now in
 
 pub returns-then-not-zeros : goal.returns-then-not-zeros
 returns-then-not-zeros c = let s = c.args.s.now in
-    let z = ap all_zero (sym (part-rest s (2 + get_or s 1 0) c.requires)) ∙ sym c.zeros-2.ensures ∙ not-true _ c.if-not-zeros.true in
+    let z = ap all_zero (sym (part-rest s (2 + get_or s 1 0) c.requires)) ∙ sym c.zeros-2.ensures ∙ c.if-not-zeros.true in
     sym (mark-ill s (ill-rest s c.if-o-eq0.false z))
 
 pub returns-then-h-ne0 : goal.returns-then-h-ne0
@@ -47,8 +47,8 @@ returns c = let s = c.args.s.now in
     let h = c.read_header-h.result in
     let e = c.read_header-h.ensures ∙ ap header (part_held s) in
     let a = sym (header-refusal (held s) h e) ∙ c.if-h-ne0.false in
-    let o = sym c.is_owner.ensures ∙ not-false _ c.if-not-is_owner.false in
-    let z = ap all_zero (sym (part-rest s (2 + get_or s 1 0) c.requires)) ∙ sym c.zeros-2.ensures ∙ not-false _ c.if-not-zeros.false in
+    let o = sym c.is_owner.ensures ∙ c.if-not-is_owner.false in
+    let z = ap all_zero (sym (part-rest s (2 + get_or s 1 0) c.requires)) ∙ sym c.zeros-2.ensures ∙ c.if-not-zeros.false in
     let w = sym (well-used s c.requires o c.if-n-gt-MESSAGE_SIZE.false a) ∙ z in
     c.tag_of.ensures ∙ ap (λ g. suc (joined (get_or s 0 0) (key h.sin g))) c.group_of.ensures ∙ header-tag (get_or s 0 0) (held s) h e a
     ∙ sym (mark-well s w ∙ tag-used s c.if-o-eq0.false)

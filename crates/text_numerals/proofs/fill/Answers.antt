@@ -16,7 +16,7 @@ loop-k-init c = (omega arith, (refl, refl))
 
 pub byte_of-requires : goal.byte_of-requires
 byte_of-requires c = let k = c.loop-k.k in
-    let p = pairs-at c.args.s.now k c.requires.0 (omega arith) in record { high_bound = omega (arith, p.high, c.digit.ensures); low_bound = omega (arith, p.low, c.digit-in-loop-k.ensures) }
+    let p = pairs-at c.args.s.now k c.requires.s_value (omega arith) in record { high_bound = omega (arith, p.high, c.digit.ensures); low_bound = omega (arith, p.low, c.digit-in-loop-k.ensures) }
 
 pub loop-k-preserved : goal.loop-k-preserved
 loop-k-preserved c = let a = c.args in
@@ -29,7 +29,7 @@ loop-k-preserved c = let a = c.args in
       omega arith,
       (
         simp length-set v.0,
-        ap (λ x. set l.bytes l.k x) (e ∙ sym q) ∙ ap (λ o. set o l.k (get_or t l.k 0)) v.1 ∙ front-turn a.bytes.now t l.k (omega (arith, c.requires.1)) (omega (arith, n)),
+        ap (λ x. set l.bytes l.k x) (e ∙ sym q) ∙ ap (λ o. set o l.k (get_or t l.k 0)) v.1 ∙ front-turn a.bytes.now t l.k (omega (arith, c.requires.s_in_bounds)) (omega (arith, n)),
       ),
     )
 

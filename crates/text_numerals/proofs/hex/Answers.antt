@@ -22,12 +22,12 @@ returns-then-bytes-s c = let not_none : none c.args.s.now ≡ false = sym c.same
 
 pub returns-then-not-pairs : goal.returns-then-not-pairs
 returns-then-not-pairs c = let not_none : none c.args.s.now ≡ false = sym c.same.ensures ∙ c.if-same.false in
-    let a = c.args in let p = hex-odd a.s.now a.bytes.now (not_none) (sym c.pairs.ensures ∙ not-true c.pairs.result c.if-not-pairs.true) in record { answer = p.0; output = p.1 }
+    let a = c.args in let p = hex-odd a.s.now a.bytes.now (not_none) (sym c.pairs.ensures ∙ c.if-not-pairs.true) in record { answer = p.0; output = p.1 }
 
 pub fill-requires : goal.fill-requires
-fill-requires c = record { s_value = sym c.pairs.ensures ∙ not-false c.pairs.result c.if-not-pairs.false; s_in_bounds = c.if-bytes-s.false }
+fill-requires c = record { s_value = sym c.pairs.ensures ∙ c.if-not-pairs.false; s_in_bounds = c.if-bytes-s.false }
 
 pub returns : goal.returns
 returns c = let not_none : none c.args.s.now ≡ false = sym c.same.ensures ∙ c.if-same.false in
     let a = c.args in
-    let e = hex-is a.s.now a.bytes.now (not_none) c.if-s-eq0.false c.if-bytes-s.false (sym c.pairs.ensures ∙ not-false c.pairs.result c.if-not-pairs.false) in record { answer = e.0; output = c.fill.ensures ∙ e.1 }
+    let e = hex-is a.s.now a.bytes.now (not_none) c.if-s-eq0.false c.if-bytes-s.false (sym c.pairs.ensures ∙ c.if-not-pairs.false) in record { answer = e.0; output = c.fill.ensures ∙ e.1 }

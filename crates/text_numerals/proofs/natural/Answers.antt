@@ -38,12 +38,11 @@ returns-then-n-d c = let s = c.args.s.now in
 
 pub loop-k-preserved : goal.loop-k-preserved
 loop-k-preserved c = let s = c.args.s.now in
-    let l = c.loop-k in
-    let d = c.digit-d in (
+    let l = c.loop-k in (
       omega arith,
       (
-        l.invariant.1.0 ∙ spelled-on s l.k (omega arith) l.n ∙ ap (λ x. spelled (l.n * 10 + x) (drop (l.k + 1) s)) (sym d.ensures),
-        l.invariant.1.1 ∙ digits-on s l.k (omega arith) (omega (arith, d.ensures)),
+        l.invariant.1.0 ∙ spelled-on s l.k (omega arith) l.n ∙ ap (λ x. spelled (l.n * 10 + x) (drop (l.k + 1) s)) (sym c.digit-d.ensures),
+        l.invariant.1.1 ∙ digits-on s l.k (omega arith) (omega (arith, c.digit-d.ensures)),
       ),
     )
 

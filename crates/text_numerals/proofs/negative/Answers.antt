@@ -11,22 +11,20 @@ use Rattle.text_numerals.proofs.negative.Goals as goal
 
 pub returns-in_default : goal.returns-in_default
 unfolding negative
-returns-in_default c = sym (ap negative c.enum_told-1.given.1)
+returns-in_default c = sym (ap negative c.in_default.is)
 
 pub returns-then-n-eq0 : goal.returns-then-n-eq0
 unfolding negative
-returns-then-n-eq0 c = rw (c.count-1.given.1, c.if-n-eq0.true)
+returns-then-n-eq0 c = rw (c.in-Is.is, c.if-n-eq0.true)
 
 pub overflow_sub-result-then-n-le9223372036854775808 : goal.overflow_sub-result-then-n-le9223372036854775808
-overflow_sub-result-then-n-le9223372036854775808 c = flip-fits (c.count-1.given.0.0 - 1) (omega arith)
+overflow_sub-result-then-n-le9223372036854775808 c = flip-fits (c.in-Is.n - 1) (omega arith)
 
 pub returns-then-n-le9223372036854775808 : goal.returns-then-n-le9223372036854775808
 unfolding negative
-returns-then-n-le9223372036854775808 c = let k = c.count-1 in
-    let n = k.given.0.0 in
-    rw (k.given.1, le-leb n (2 ^ 63) c.if-n-le9223372036854775808.true, flip-back n c.if-n-eq0.false c.if-n-le9223372036854775808.true)
+returns-then-n-le9223372036854775808 c = let n = c.in-Is.n in
+    rw (c.in-Is.is, le-leb n (2 ^ 63) c.if-n-le9223372036854775808.true, flip-back n c.if-n-eq0.false c.if-n-le9223372036854775808.true)
 
 pub returns : goal.returns
 unfolding negative
-returns c = let k = c.count-1 in
-    rw (k.given.1, lt-leb k.given.0.0 (2 ^ 63) c.if-n-le9223372036854775808.false)
+returns c = rw (c.in-Is.is, lt-leb c.in-Is.n (2 ^ 63) c.if-n-le9223372036854775808.false)

@@ -14,7 +14,7 @@ use Rattle.text_numerals.proofs.put_hex.Goals as goal
 
 pub returns-then-s-eq0 : goal.returns-then-s-eq0
 returns-then-s-eq0 c = let a = c.args in
-    let e = sym (no_bytes a.s.now c.if-s-eq0.true) in record { output = c.put.ensures.0 ∙ ap (put a.out.now a.at) e; answer = c.put.ensures.1 ∙ ap (place_behind a.out.now a.at) e }
+    let e = sym (no_bytes a.s.now c.if-s-eq0.true) in record { output = c.put.ensures.output ∙ ap (put a.out.now a.at) e; answer = c.put.ensures.answer ∙ ap (place_behind a.out.now a.at) e }
 
 pub returns-then-out-at : goal.returns-then-out-at
 returns-then-out-at c = let a = c.args in

@@ -23,5 +23,5 @@ returns c = let a = c.args in
     let s = set t k 45 in
     let e : take (21 - k) (drop k s) ≡ 45 ∷ decimal a.n =
     take_all (21 - k) (drop k s) (omega (arith, length-drop k s, length-set t k 45, c.digits-k.auto))
-    ∙ stored t k 45 (omega (arith, c.digits-k.auto, c.digits-k.ensures.0))
-    ∙ ap (λ r. 45 ∷ r) (ap (λ n. drop n t) (sym (add-one k)) ∙ c.digits-k.ensures.1) in record { output = c.put.ensures.0 ∙ ap (put a.out.now a.at) e; answer = c.put.ensures.1 ∙ ap (place_behind a.out.now a.at) e }
+    ∙ stored t k 45 (omega (arith, c.digits-k.auto, c.digits-k.ensures.before))
+    ∙ ap (λ r. 45 ∷ r) (ap (λ n. drop n t) (sym (add-one k)) ∙ c.digits-k.ensures.output) in record { output = c.put.ensures.output ∙ ap (put a.out.now a.at) e; answer = c.put.ensures.answer ∙ ap (place_behind a.out.now a.at) e }

@@ -13,8 +13,8 @@ use Rattle.text_numerals.proofs.put_whole.Goals as goal
 
 pub returns-then-n-lt0 : goal.returns-then-n-lt0
 returns-then-n-lt0 c = let a = c.args in
-    let e = ap (λ m. 45 ∷ decimal m) (c.magnitude.ensures ∙ ap nat_abs (to_z-of_z w64 a.n c.ranges.n)) ∙ sym (below-text a.n c.ranges.n c.if-n-lt0.true) in record { output = c.put_negative.ensures.0 ∙ ap (put a.out.now a.at) e; answer = c.put_negative.ensures.1 ∙ ap (place_behind a.out.now a.at) e }
+    let e = ap (λ m. 45 ∷ decimal m) (c.magnitude.ensures ∙ ap nat_abs (to_z-of_z w64 a.n c.ranges.n)) ∙ sym (below-text a.n c.ranges.n c.if-n-lt0.true) in record { output = c.put_negative.ensures.output ∙ ap (put a.out.now a.at) e; answer = c.put_negative.ensures.answer ∙ ap (place_behind a.out.now a.at) e }
 
 pub returns : goal.returns
 returns c = let a = c.args in
-    let e = ap decimal (c.magnitude-2.ensures ∙ ap nat_abs (to_z-of_z w64 a.n c.ranges.n)) ∙ sym (other_text a.n c.ranges.n c.if-n-lt0.false) in record { output = c.put_natural.ensures.0 ∙ ap (put a.out.now a.at) e; answer = c.put_natural.ensures.1 ∙ ap (place_behind a.out.now a.at) e }
+    let e = ap decimal (c.magnitude-2.ensures ∙ ap nat_abs (to_z-of_z w64 a.n c.ranges.n)) ∙ sym (other_text a.n c.ranges.n c.if-n-lt0.false) in record { output = c.put_natural.ensures.output ∙ ap (put a.out.now a.at) e; answer = c.put_natural.ensures.answer ∙ ap (place_behind a.out.now a.at) e }

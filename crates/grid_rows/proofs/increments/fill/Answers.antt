@@ -40,9 +40,8 @@ next-p-requires c = (c.loop-i.invariant.rest, (goes (s c)).grows, whole c, (goes
 
 pub loop-i-preserved : goal.loop-i-preserved
 loop-i-preserved c = let a = (s c).args in
-    let r = c.count_of in
     goes_on (m (s c)) a.area a.first a.by a.row.now (goes (s c)) c.loop-i.invariant _ c.next-p.result
-    (omega (arith, c.loop-i-test.true, c.loop-i.invariant.length)) (held r.result r.type-inv ∙ r.ensures) c.next-p.ensures
+    (omega (arith, c.loop-i-test.true, c.loop-i.invariant.length)) (held c.count_of.result c.count_of.type_inv ∙ c.count_of.ensures) c.next-p.ensures
 
 pub returns : goal.returns
 returns c = let l = c.loop-i.invariant in

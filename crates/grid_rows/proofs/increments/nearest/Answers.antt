@@ -42,7 +42,7 @@ pub rounded-requires-2 : goal.rounded-requires-2
 rounded-requires-2 c = (omega (arith, c.requires.0), passed (whole c) (λ (z : ℤ). nat_abs z ≤ 10000000001) (omega (arith, c.requires.1)))
 
 pub returns : goal.returns
-returns c = held c.rounded-2.result c.rounded-2.type-inv ∙ c.rounded-2.ensures ∙ ap (λ (z : ℤ). half_up c.args.area z c.args.rest) (whole c).held
+returns c = held c.rounded-2.result c.rounded-2.type_inv ∙ c.rounded-2.ensures ∙ ap (λ (z : ℤ). half_up c.args.area z c.args.rest) (whole c).held
     ∙ rounds-above c.args.area c.args.whole c.args.rest c.requires.0 (not-less (whole c) (lit 0 tt) c.if-whole-lt0.false)
 
 pub overflow_add-whole : goal.overflow_add-whole

@@ -88,8 +88,7 @@ pub count_in-requires : goal.count_in-requires
 count_in-requires c = let d = between_is c in (d.high.0, d.high.1, d.wide.0, d.wide.1)
 
 pub returns : goal.returns
-returns c = let r = c.count_in in
-    (λ i. record { refusal = 0; count = (held r.result r.type-inv ∙ r.ensures ∙ (λ j. count_in (p c) (s c).args.nodes.now (nat_abs ((y c).held j)) (nat_abs ((x c).held j)))) i })
+returns c = (λ i. record { refusal = 0; count = (held c.count_in.result c.count_in.type_inv ∙ c.count_in.ensures ∙ (λ j. count_in (p c) (s c).args.nodes.now (nat_abs ((y c).held j)) (nat_abs ((x c).held j)))) i })
     ∙ sym (between_is c).count
 
 pub overflow_sub-y : goal.overflow_sub-y

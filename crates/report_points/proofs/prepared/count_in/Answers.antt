@@ -48,7 +48,7 @@ returns c = let a = (s c).args in
     let v : List ℤ = a.nodes.now in
     let i₀ = c.cell_of-row.result in
     let j₀ = c.cell_of-column.result in
-    held c.count_by.result c.count_by.type-inv
+    held c.count_by.result c.count_by.type_inv
     ∙ c.count_by.ensures
     ∙ (λ i. count_by (held g.mean c.type_inv.p.1.1.1.1.1.1.0.1 i) g.factor
     (record {
