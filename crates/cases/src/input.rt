@@ -1,5 +1,6 @@
-// Standard input by lines, through a window.
-use libc::STDIN_FILENO;
+// A text by lines, through a window.
+use std::io;
+use std::io::Read;
 
 // The bytes of the window that are not used up: those from `from` on, below `end`.
 #[derive(Clone, Copy)]
@@ -18,23 +19,23 @@ pub(crate) struct Got {
 }
 
 // The next line; one that fills the window is cut there.
-pub(crate) fn next(window: &mut [u8; 4096], held: Held) -> Got {
+pub(crate) fn next(reader: &mut impl Read, window: &mut [u8; 4096], held: Held) -> io::Result<Got> {
     let line = text_lines::line_at(text_words::before(window, held.end), held.from);
     if line.whole {
-        return taken(line.from, line.length, line.next, held.end);
+        return Ok(taken(line.from, line.length, line.next, held.end));
     }
     let kept = text_lines::slide(window, held.from, held.end);
-    let end = filled(window, kept);
+    let end = filled(reader, window, kept)?;
     let line = text_lines::line_at(text_words::before(window, end), 0);
     if end == 0 {
-        return Got {
+        return Ok(Got {
             ended: true,
             from: 0,
             length: 0,
             held: Held { from: 0, end: 0 },
-        };
+        });
     }
-    taken(line.from, line.length, line.next, end)
+    Ok(taken(line.from, line.length, line.next, end))
 }
 
 fn taken(from: usize, length: usize, next: usize, end: usize) -> Got {
@@ -47,14 +48,14 @@ fn taken(from: usize, length: usize, next: usize, end: usize) -> Got {
 }
 
 // Fills the window behind the bytes that it holds, and answers how many it then holds.
-fn filled(window: &mut [u8], kept: usize) -> usize {
+fn filled(reader: &mut impl Read, window: &mut [u8], kept: usize) -> io::Result<usize> {
     let size = window.len();
     if size < kept {
-        return size;
+        return Ok(size);
     }
-    let more = io::read_full(STDIN_FILENO, &mut window[kept..]);
+    let more = full_reads::read_full(reader, &mut window[kept..])?;
     if size - kept < more {
-        return size;
+        return Ok(size);
     }
-    kept + more
+    Ok(kept + more)
 }

@@ -20,39 +20,52 @@ mod transformations;
 
 use input::Held;
 use output::Out;
+use std::io;
+use std::io::{Read, Write};
 
 const LINES: usize = 40000;
 
-fn main() {
+fn main(rt: HostRuntime) -> io::Result<()> {
     let mut window = [0u8; 4096];
     let mut out = [0u8; 16384];
-    answer_all(&mut window, &mut out);
+    answer_all(&mut rt.stdin(), &mut rt.stdout(), &mut window, &mut out)
 }
 
 // Every line of the input, and what is left of the output at the end.
-fn answer_all(window: &mut [u8; 4096], out: &mut Out) {
+fn answer_all(
+    reader: &mut impl Read,
+    writer: &mut impl Write,
+    window: &mut [u8; 4096],
+    out: &mut Out,
+) -> io::Result<()> {
     let mut held = Held { from: 0, end: 0 };
     let mut at: usize = 0;
     let mut rounds: usize = LINES;
     while rounds > 0 {
-        let got = input::next(window, held);
+        let got = input::next(reader, window, held)?;
         if got.ended {
-            output::write(out, at);
-            return;
+            return output::write(writer, out, at);
         }
         held = got.held;
-        at = answer(window, got.from, got.length, out, at);
+        at = answer(writer, window, got.from, got.length, out, at)?;
         rounds -= 1;
     }
-    output::write(out, at);
+    output::write(writer, out, at)
 }
 
 // The answer to the line at a place of the window, with its newline.
-fn answer(window: &[u8], from: usize, length: usize, out: &mut Out, at: usize) -> usize {
+fn answer(
+    writer: &mut impl Write,
+    window: &[u8],
+    from: usize,
+    length: usize,
+    out: &mut Out,
+    at: usize,
+) -> io::Result<usize> {
     let line = text_words::before(text_words::behind(window, from), length);
     let to = answer_line(line, out, at);
     let to = output::put(out, to, b"\n");
-    output::written(out, to)
+    output::written(writer, out, to)
 }
 
 // The case's name, and what its command answers.

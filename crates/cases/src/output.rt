@@ -1,5 +1,6 @@
-// Standard output through a buffer. Each function but `write` puts something at `at` and answers the place behind it.
-use libc::STDOUT_FILENO;
+// Output through a buffer. Each function but `write` puts something at `at` and answers the place behind it.
+use std::io;
+use std::io::Write;
 
 pub(crate) type Out = [u8; 16384];
 
@@ -20,17 +21,17 @@ pub(crate) fn put_hex(out: &mut Out, at: usize, s: &[u8]) -> usize {
 }
 
 // Writes the first `at` bytes.
-pub(crate) fn write(out: &[u8], at: usize) {
-    io::write_all(STDOUT_FILENO, text_words::before(out, at));
+pub(crate) fn write(writer: &mut impl Write, out: &[u8], at: usize) -> io::Result<()> {
+    writer.write_all(text_words::before(out, at))
 }
 
 // Writes what stands in the buffer where it leaves less room than two lines take.
-pub(crate) fn written(out: &[u8], at: usize) -> usize {
+pub(crate) fn written(writer: &mut impl Write, out: &[u8], at: usize) -> io::Result<usize> {
     if at < 12288 {
-        return at;
+        return Ok(at);
     }
-    write(out, at);
-    0
+    write(writer, out, at)?;
+    Ok(0)
 }
 
 // What is printed where a line is no case.

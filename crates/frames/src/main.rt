@@ -4,7 +4,8 @@
 #![tactic(auto)]
 
 use frame_search::Step;
-use libc::{STDIN_FILENO, STDOUT_FILENO};
+use std::io;
+use std::io::{Read, Write};
 
 type Out = [u8; 16384];
 
@@ -28,25 +29,29 @@ struct State {
     out: usize,
 }
 
-fn main() {
+fn main(rt: HostRuntime) -> io::Result<()> {
     let mut window = [0u8; 65536];
     let mut out = [0u8; 16384];
-    list_frames(&mut window, &mut out);
+    list_frames(&mut rt.stdin(), &mut rt.stdout(), &mut window, &mut out)
 }
 
 // Every frame of the input, and the last line.
-fn list_frames(window: &mut [u8], out: &mut Out) {
+fn list_frames(
+    reader: &mut impl Read,
+    writer: &mut impl Write,
+    window: &mut [u8],
+    out: &mut Out,
+) -> io::Result<()> {
     let mut state = start();
     let mut rounds: usize = ROUNDS;
     while rounds > 0 {
-        state = round(window, out, state);
+        state = round(reader, writer, window, out, state)?;
         if state.done {
-            put_end(out, state);
-            return;
+            return put_end(writer, out, state);
         }
         rounds -= 1;
     }
-    put_end(out, state);
+    put_end(writer, out, state)
 }
 
 // No byte is read yet.
@@ -64,29 +69,41 @@ fn start() -> State {
 }
 
 // One step of the search, and what it asks for.
-fn round(window: &mut [u8], out: &mut Out, state: State) -> State {
+fn round(
+    reader: &mut impl Read,
+    writer: &mut impl Write,
+    window: &mut [u8],
+    out: &mut Out,
+    state: State,
+) -> io::Result<State> {
     let s = frame_search::next_step(
         text_words::before(window, state.held),
         state.from,
         state.ended,
     );
     if s.found {
-        return report(window, out, state, s);
+        return report(writer, window, out, state, s);
     }
     if s.more {
-        return go_on(window, state, s.next);
+        return go_on(reader, window, state, s.next);
     }
-    pass(state, s.next)
+    Ok(pass(state, s.next))
 }
 
 // The line of a frame that was found; the search goes on behind it.
-fn report(window: &[u8], out: &mut Out, state: State, s: Step) -> State {
+fn report(
+    writer: &mut impl Write,
+    window: &[u8],
+    out: &mut Out,
+    state: State,
+    s: Step,
+) -> io::Result<State> {
     let message = text_words::before(
         text_words::behind(window, std::num::wrapping_add_usize(s.at, 3)),
         s.length,
     );
-    let to = put_frame(out, state.out, later(state.base, s.at), message);
-    State {
+    let to = put_frame(writer, out, state.out, later(state.base, s.at), message)?;
+    Ok(State {
         base: state.base,
         from: s.next,
         held: state.held,
@@ -95,7 +112,7 @@ fn report(window: &[u8], out: &mut Out, state: State, s: Step) -> State {
         frames: later(state.frames, 1),
         inside: later(later(state.inside, s.length), 6),
         out: to,
-    }
+    })
 }
 
 // A candidate that stays unfinished is passed.
@@ -113,13 +130,18 @@ fn pass(state: State, next: usize) -> State {
 }
 
 // Bytes that are used up leave the window and more are read; at the stream's end nothing is left.
-fn go_on(window: &mut [u8], state: State, next: usize) -> State {
+fn go_on(
+    reader: &mut impl Read,
+    window: &mut [u8],
+    state: State,
+    next: usize,
+) -> io::Result<State> {
     if state.ended {
-        return stop(state);
+        return Ok(stop(state));
     }
     let held = text_lines::slide(window, next, state.held);
-    let got = read_more(window, held);
-    State {
+    let got = read_more(reader, window, held)?;
+    Ok(State {
         base: later(state.base, next),
         from: 0,
         held: std::num::wrapping_add_usize(held, got),
@@ -128,7 +150,7 @@ fn go_on(window: &mut [u8], state: State, next: usize) -> State {
         frames: state.frames,
         inside: state.inside,
         out: state.out,
-    }
+    })
 }
 
 fn stop(state: State) -> State {
@@ -145,38 +167,44 @@ fn stop(state: State) -> State {
 }
 
 // Fills the window behind the bytes held.
-fn read_more(window: &mut [u8], held: usize) -> usize {
+fn read_more(reader: &mut impl Read, window: &mut [u8], held: usize) -> io::Result<usize> {
     let room = window.len();
     if room < held {
-        return 0;
+        return Ok(0);
     }
-    io::read_full(STDIN_FILENO, &mut window[held..room])
+    full_reads::read_full(reader, &mut window[held..room])
 }
 
 fn later(place: u64, by: usize) -> u64 {
     std::num::wrapping_add_u64(place, by as u64)
 }
 
-fn put_frame(out: &mut Out, at: usize, place: u64, message: &[u8]) -> usize {
-    let a = room(out, at);
+fn put_frame(
+    writer: &mut impl Write,
+    out: &mut Out,
+    at: usize,
+    place: u64,
+    message: &[u8],
+) -> io::Result<usize> {
+    let a = room(writer, out, at)?;
     let b = put_field(out, a, place);
     let c = put_field(out, b, message.len() as u64);
     let d = put_number(out, c, message);
-    text_words::put(out, d, b"\n")
+    Ok(text_words::put(out, d, b"\n"))
 }
 
 // A place with room for a line: where there is none, the output is written and begins anew.
-fn room(out: &Out, at: usize) -> usize {
+fn room(writer: &mut impl Write, out: &Out, at: usize) -> io::Result<usize> {
     if at <= LAST {
-        return at;
+        return Ok(at);
     }
-    print(out, at);
-    0
+    print(writer, out, at)?;
+    Ok(0)
 }
 
 // Writes the first bytes of the output.
-fn print(out: &Out, length: usize) {
-    io::write_all(STDOUT_FILENO, text_words::before(out, length));
+fn print(writer: &mut impl Write, out: &Out, length: usize) -> io::Result<()> {
+    writer.write_all(text_words::before(out, length))
 }
 
 // A number and a space.
@@ -218,12 +246,12 @@ fn put_header(out: &mut Out, at: usize, message: &[u8]) -> usize {
 }
 
 // The last line, and what is left of the output.
-fn put_end(out: &mut Out, state: State) {
+fn put_end(writer: &mut impl Write, out: &mut Out, state: State) -> io::Result<()> {
     let all = later(state.base, state.held);
-    let a = room(out, state.out);
+    let a = room(writer, out, state.out)?;
     let b = text_numerals::put_natural(out, a, state.frames);
     let c = text_words::put(out, b, b" frames, ");
     let d = text_numerals::put_natural(out, c, std::num::wrapping_sub_u64(all, state.inside));
     let e = text_words::put(out, d, b" bytes outside frames\n");
-    print(out, e);
+    print(writer, out, e)
 }

@@ -2,31 +2,31 @@
 // At most 128 bytes are looked at: what stands behind them is ignored.
 #![tactic(auto)]
 
-use libc::{STDIN_FILENO, STDOUT_FILENO};
+use std::io;
+use std::io::Write;
 
-fn main() {
+fn main(rt: HostRuntime) -> io::Result<()> {
     let mut bytes = [0u8; 128];
-    let n = io::read_full(STDIN_FILENO, &mut bytes);
-    show(&bytes[..n]);
+    let n = full_reads::read_full(&mut rt.stdin(), &mut bytes)?;
+    show(&mut rt.stdout(), &bytes[..n])
 }
 
 // The line for a message.
-fn show(s: &[u8]) {
+fn show(writer: &mut impl Write, s: &[u8]) -> io::Result<()> {
     let h = message_rows::read_header(s);
     if h.refusal != 0 {
-        io::write_all(STDOUT_FILENO, b"refused ");
-        print(wide(h.refusal), b"\n");
-        return;
+        writer.write_all(b"refused ")?;
+        return print(writer, wide(h.refusal), b"\n");
     }
-    print(wide_number(h.number), b" ");
-    print(h.length as u64, b" ");
-    print(wide(h.sin), b"\n");
+    print(writer, wide_number(h.number), b" ")?;
+    print(writer, h.length as u64, b" ")?;
+    print(writer, wide(h.sin), b"\n")
 }
 
 // A number, and what stands behind it.
-fn print(n: u64, end: &[u8]) {
-    io::print_decimal(STDOUT_FILENO, n);
-    io::write_all(STDOUT_FILENO, end);
+fn print(writer: &mut impl Write, n: u64, end: &[u8]) -> io::Result<()> {
+    write!(writer, "{n}")?;
+    writer.write_all(end)
 }
 
 fn wide(n: u8) -> u64 {

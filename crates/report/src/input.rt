@@ -1,5 +1,6 @@
-// Standard input by lines: a window of it, which moves on where a line does not end in it.
-use libc::STDIN_FILENO;
+// A text by lines: a window of it, which moves on where a line does not end in it.
+use std::io;
+use std::io::Read;
 use text_lines::Line;
 
 // More than the 900 bytes of a line: one that fills the window is too long.
@@ -27,16 +28,20 @@ pub(crate) fn start() -> Place {
 }
 
 // The next line.
-pub(crate) fn next_line(window: &mut Window, place: Place) -> Got {
+pub(crate) fn next_line(
+    reader: &mut impl Read,
+    window: &mut Window,
+    place: Place,
+) -> io::Result<Got> {
     let line = text_lines::line_at(text_words::before(window, place.held), place.from);
     if line.whole {
-        return found(line, place.held);
+        return Ok(found(line, place.held));
     }
-    let held = read_more(window, place.from, place.held);
-    found(
+    let held = read_more(reader, window, place.from, place.held)?;
+    Ok(found(
         text_lines::line_at(text_words::before(window, held), 0),
         held,
-    )
+    ))
 }
 
 // The bytes of a line.
@@ -58,11 +63,17 @@ fn found(line: Line, held: usize) -> Got {
 }
 
 // Moves what is left of the window to its front and reads on behind it: how many bytes are held.
-fn read_more(window: &mut [u8], from: usize, end: usize) -> usize {
+fn read_more(
+    reader: &mut impl Read,
+    window: &mut [u8],
+    from: usize,
+    end: usize,
+) -> io::Result<usize> {
     let held = text_lines::slide(window, from, end);
     let room = window.len();
     if room < held {
-        return 0;
+        return Ok(0);
     }
-    std::num::wrapping_add_usize(held, io::read_full(STDIN_FILENO, &mut window[held..room]))
+    let got = full_reads::read_full(reader, &mut window[held..room])?;
+    Ok(std::num::wrapping_add_usize(held, got))
 }

@@ -7,8 +7,9 @@
 mod input;
 
 use input::{Got, Place, Window};
-use libc::STDOUT_FILENO;
 use report_update::Tally;
+use std::io;
+use std::io::{Read, Write};
 use text_numerals::{Byte, Count, Integer};
 
 type Message = [u8; 400];
@@ -29,32 +30,43 @@ struct State {
     bad: usize,
 }
 
-fn main() {
+fn main(rt: HostRuntime) -> io::Result<()> {
     let mut window = [0u8; 4096];
     let mut message = [0u8; 400];
     let mut out = [0u8; 441];
-    answer(&mut window, &mut message, &mut out);
+    answer(
+        &mut rt.stdin(),
+        &mut rt.stdout(),
+        &mut window,
+        &mut message,
+        &mut out,
+    )
 }
 
 // The answer to the whole input.
-fn answer(window: &mut Window, message: &mut Message, out: &mut Out) {
-    let first = input::next_line(window, input::start());
+fn answer(
+    reader: &mut impl Read,
+    writer: &mut impl Write,
+    window: &mut Window,
+    message: &mut Message,
+    out: &mut Out,
+) -> io::Result<()> {
+    let first = input::next_line(reader, window, input::start())?;
     let Count::Is(n) = message_of(window, first, message) else {
-        put_bad(out, 1);
-        return;
+        return put_bad(writer, out, 1);
     };
-    let second = input::next_line(window, first.place);
+    let second = input::next_line(reader, window, first.place)?;
     let Byte::Is(component) = component_of(window, second) else {
-        put_bad(out, 2);
-        return;
+        return put_bad(writer, out, 2);
     };
     let state = add_points(
+        reader,
         window,
         second.place,
         text_words::before(message, n),
         component,
-    );
-    put_end(out, state);
+    )?;
+    put_end(writer, out, state)
 }
 
 // The bytes that the first line spells.
@@ -80,23 +92,29 @@ fn component_of(window: &Window, got: Got) -> Byte {
 }
 
 // The points of all further lines, up to a bad one.
-fn add_points(window: &mut Window, behind: Place, message: &[u8], component: u8) -> State {
+fn add_points(
+    reader: &mut impl Read,
+    window: &mut Window,
+    behind: Place,
+    message: &[u8],
+    component: u8,
+) -> io::Result<State> {
     let mut state = start(component);
     let mut place = behind;
     let mut rounds: usize = ROUNDS;
     while rounds > 0 {
-        let got = input::next_line(window, place);
+        let got = input::next_line(reader, window, place)?;
         if got.ended {
-            return state;
+            return Ok(state);
         }
         place = got.place;
         state = add_line(state, window, got, message, component);
         if state.bad != 0 {
-            return state;
+            return Ok(state);
         }
         rounds -= 1;
     }
-    state
+    Ok(state)
 }
 
 // Two lines are read, and no point: COMPONENT is refused without one.
@@ -212,29 +230,27 @@ fn with_bad(state: State, number: usize) -> State {
     }
 }
 
-fn put_bad(out: &mut Out, number: usize) {
+fn put_bad(writer: &mut impl Write, out: &mut Out, number: usize) -> io::Result<()> {
     let to = text_words::put(out, 0, b"bad input: line ");
     let to = put_line(out, to, number as u64);
-    print(out, to);
+    print(writer, out, to)
 }
 
 // The bad line, the refusal, or the numbers.
-fn put_end(out: &mut Out, state: State) {
+fn put_end(writer: &mut impl Write, out: &mut Out, state: State) -> io::Result<()> {
     if state.bad != 0 {
-        put_bad(out, state.bad);
-        return;
+        return put_bad(writer, out, state.bad);
     }
     if state.refusal != 0 {
         let to = text_words::put(out, 0, b"refused ");
         let to = put_line(out, to, state.refusal as u64);
-        print(out, to);
-        return;
+        return print(writer, out, to);
     }
     let tally = state.tally;
-    put_numbers(out, tally);
+    put_numbers(writer, out, tally)
 }
 
-fn put_numbers(out: &mut Out, t: Tally) {
+fn put_numbers(writer: &mut impl Write, out: &mut Out, t: Tally) -> io::Result<()> {
     let refused = t.refused;
     let to = put_line(out, 0, t.answered);
     let to = put_lines(out, to, &refused);
@@ -243,7 +259,7 @@ fn put_numbers(out: &mut Out, t: Tally) {
     let to = put_line(out, to, t.smallest_place);
     let to = put_line(out, to, t.greatest_place);
     let to = put_whole_line(out, to, t.sum);
-    print(out, to);
+    print(writer, out, to)
 }
 
 // Each number on a line.
@@ -268,6 +284,6 @@ fn put_whole_line(out: &mut Out, at: usize, n: i64) -> usize {
 }
 
 // Writes the first bytes of the output.
-fn print(out: &Out, length: usize) {
-    io::write_all(STDOUT_FILENO, text_words::before(out, length));
+fn print(writer: &mut impl Write, out: &Out, length: usize) -> io::Result<()> {
+    writer.write_all(text_words::before(out, length))
 }

@@ -2,34 +2,33 @@
 // behind CLAIM also the place, from 1, of the first bad point.
 #![tactic(auto)]
 
-use libc::{STDIN_FILENO, STDOUT_FILENO};
+use std::io;
+use std::io::Write;
 
-fn main() {
+fn main(rt: HostRuntime) -> io::Result<()> {
     // One byte more than a file of the right shape has: 3, 65,535 of a message, 28,000 of points.
     let mut file = [0u8; 93539];
-    let n = io::read_full(STDIN_FILENO, &mut file);
-    show(&file[..n]);
+    let n = full_reads::read_full(&mut rt.stdin(), &mut file)?;
+    show(&mut rt.stdout(), &file[..n])
 }
 
 // The line for a file.
-fn show(file: &[u8]) {
+fn show(writer: &mut impl Write, file: &[u8]) -> io::Result<()> {
     let c = sample_checks::check_samples(file);
     if c.refusal == 0 {
-        io::write_all(STDOUT_FILENO, b"accepted ");
-        print(sample_files::point_count(file), b"\n");
-        return;
+        writer.write_all(b"accepted ")?;
+        return print(writer, sample_files::point_count(file), b"\n");
     }
-    io::write_all(STDOUT_FILENO, b"refused ");
+    writer.write_all(b"refused ")?;
     if c.place == 0 {
-        print(c.refusal as usize, b"\n");
-        return;
+        return print(writer, c.refusal as usize, b"\n");
     }
-    print(c.refusal as usize, b" ");
-    print(c.place, b"\n");
+    print(writer, c.refusal as usize, b" ")?;
+    print(writer, c.place, b"\n")
 }
 
 // A number, and what stands behind it.
-fn print(n: usize, end: &[u8]) {
-    io::print_decimal(STDOUT_FILENO, n as u64);
-    io::write_all(STDOUT_FILENO, end);
+fn print(writer: &mut impl Write, n: usize, end: &[u8]) -> io::Result<()> {
+    write!(writer, "{n}")?;
+    writer.write_all(end)
 }

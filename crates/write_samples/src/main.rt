@@ -7,8 +7,9 @@ mod input;
 mod points;
 
 use input::{Got, Place, Window};
-use libc::{STDERR_FILENO, STDOUT_FILENO};
 use points::{Components, Positions};
+use std::io;
+use std::io::{Read, Write};
 use text_numerals::Count;
 
 type Message = [u8; 400];
@@ -22,7 +23,7 @@ const LINES: usize = 1099511627776;
 // Refusal number.
 const LENGTH: u8 = 3;
 
-fn main() {
+fn main(rt: HostRuntime) -> io::Result<()> {
     let mut window = [0u8; 4096];
     let mut bytes = [0u8; 400];
     let mut components = [0u8; 1001];
@@ -30,44 +31,51 @@ fn main() {
     let mut east = [0i64; 1001];
     let mut out = [0u8; 28130];
     answer(
+        &mut rt.stdin(),
+        &mut rt.stdout(),
+        &mut rt.stderr(),
         &mut window,
         &mut bytes,
         &mut components,
         &mut north,
         &mut east,
         &mut out,
-    );
+    )
 }
 
 // The whole text.
 fn answer(
+    reader: &mut impl Read,
+    writer: &mut impl Write,
+    errors: &mut impl Write,
     window: &mut Window,
     bytes: &mut Message,
     components: &mut Components,
     north: &mut Positions,
     east: &mut Positions,
     out: &mut Out,
-) {
-    let got = input::next_line(window, input::start());
+) -> io::Result<()> {
+    let got = input::next_line(reader, window, input::start())?;
     let Count::Is(n) = text_numerals::hex(text_of(window, got), bytes) else {
-        bad_input(1);
-        return;
+        return bad_input(errors, 1);
     };
     let message = text_words::before(bytes, n);
     let mut count: usize = 0;
     let mut later: u8 = 0;
     let bad = read_points(
-        window, message, components, north, east, &mut count, &mut later, got.place,
-    );
+        reader, window, message, components, north, east, &mut count, &mut later, got.place,
+    )?;
     if bad != 0 {
-        bad_input(bad);
-        return;
+        return bad_input(errors, bad);
     }
-    write(message, components, north, east, count, later, out);
+    write(
+        writer, errors, message, components, north, east, count, later, out,
+    )
 }
 
 // The points, up to the end of the text or a bad line: the number of the bad line, 0 where there is none.
 fn read_points(
+    reader: &mut impl Read,
     window: &mut Window,
     message: &[u8],
     components: &mut Components,
@@ -76,51 +84,57 @@ fn read_points(
     count: &mut usize,
     later: &mut u8,
     first: Place,
-) -> usize {
+) -> io::Result<usize> {
     let mut place = first;
     let mut number: usize = 1;
     while number < LINES {
-        let got = input::next_line(window, place);
+        let got = input::next_line(reader, window, place)?;
         if got.ended {
-            return 0;
+            return Ok(0);
         }
         place = got.place;
         number += 1;
         let s = text_of(window, got);
         if !points::take_point(s, message, components, north, east, count, later) {
-            return bad_line(window, got.length, place, number);
+            return bad_line(reader, window, got.length, place, number);
         }
     }
-    0
+    Ok(0)
 }
 
 // The number of a line that is no point; 0 where it is empty and so are all behind it.
-fn bad_line(window: &mut Window, length: usize, place: Place, number: usize) -> usize {
+fn bad_line(
+    reader: &mut impl Read,
+    window: &mut Window,
+    length: usize,
+    place: Place,
+    number: usize,
+) -> io::Result<usize> {
     if length != 0 {
-        return number;
+        return Ok(number);
     }
-    if only_empty(window, place) {
-        return 0;
+    if only_empty(reader, window, place)? {
+        return Ok(0);
     }
-    number
+    Ok(number)
 }
 
 // Whether all lines from a place on are empty.
-fn only_empty(window: &mut Window, first: Place) -> bool {
+fn only_empty(reader: &mut impl Read, window: &mut Window, first: Place) -> io::Result<bool> {
     let mut place = first;
     let mut number: usize = 0;
     while number < LINES {
-        let got = input::next_line(window, place);
+        let got = input::next_line(reader, window, place)?;
         if got.ended {
-            return true;
+            return Ok(true);
         }
         if got.length != 0 {
-            return false;
+            return Ok(false);
         }
         place = got.place;
         number += 1;
     }
-    false
+    Ok(false)
 }
 
 // The bytes of a line, none of one that is too long.
@@ -133,6 +147,8 @@ fn text_of(window: &Window, got: Got) -> &[u8] {
 
 // The file, or the refusal.
 fn write(
+    writer: &mut impl Write,
+    errors: &mut impl Write,
     message: &[u8],
     components: &Components,
     north: &Positions,
@@ -140,7 +156,7 @@ fn write(
     n: usize,
     later: u8,
     out: &mut Out,
-) {
+) -> io::Result<()> {
     let w = sample_writer::write_samples(
         message,
         text_words::before(components, n),
@@ -149,10 +165,9 @@ fn write(
         out,
     );
     if w.refusal == 0 {
-        io::write_all(STDOUT_FILENO, text_words::before(out, w.length));
-        return;
+        return writer.write_all(text_words::before(out, w.length));
     }
-    refused(refusal_of(w.refusal, later));
+    refused(errors, refusal_of(w.refusal, later))
 }
 
 // LENGTH above 1,000 points comes behind the refusal of a point.
@@ -166,14 +181,10 @@ fn refusal_of(refusal: u8, later: u8) -> u8 {
     refusal
 }
 
-fn refused(refusal: u8) {
-    io::write_all(STDERR_FILENO, b"refused ");
-    io::print_decimal(STDERR_FILENO, refusal as u64);
-    io::write_all(STDERR_FILENO, b"\n");
+fn refused(errors: &mut impl Write, refusal: u8) -> io::Result<()> {
+    writeln!(errors, "refused {refusal}")
 }
 
-fn bad_input(line: usize) {
-    io::write_all(STDERR_FILENO, b"bad input: line ");
-    io::print_decimal(STDERR_FILENO, line as u64);
-    io::write_all(STDERR_FILENO, b"\n");
+fn bad_input(errors: &mut impl Write, line: usize) -> io::Result<()> {
+    writeln!(errors, "bad input: line {line}")
 }
