@@ -53,7 +53,7 @@ fn filled(reader: &mut impl Read, window: &mut [u8], kept: usize) -> io::Result<
     if size < kept {
         return Ok(size);
     }
-    let more = full_reads::read_full(reader, &mut window[kept..])?;
+    let more = stream_reads::read_full(reader, &mut window[kept..])?;
     if size - kept < more {
         return Ok(size);
     }

@@ -172,7 +172,7 @@ fn read_more(reader: &mut impl Read, window: &mut [u8], held: usize) -> io::Resu
     if room < held {
         return Ok(0);
     }
-    full_reads::read_full(reader, &mut window[held..room])
+    stream_reads::read_full(reader, &mut window[held..room])
 }
 
 fn later(place: u64, by: usize) -> u64 {

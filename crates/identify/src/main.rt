@@ -7,7 +7,7 @@ use std::io::Write;
 
 fn main(rt: HostRuntime) -> io::Result<()> {
     let mut bytes = [0u8; 128];
-    let n = full_reads::read_full(&mut rt.stdin(), &mut bytes)?;
+    let n = stream_reads::read_full(&mut rt.stdin(), &mut bytes)?;
     show(&mut rt.stdout(), &bytes[..n])
 }
 

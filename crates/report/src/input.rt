@@ -74,6 +74,6 @@ fn read_more(
     if room < held {
         return Ok(0);
     }
-    let got = full_reads::read_full(reader, &mut window[held..room])?;
+    let got = stream_reads::read_full(reader, &mut window[held..room])?;
     Ok(std::num::wrapping_add_usize(held, got))
 }

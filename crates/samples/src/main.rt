@@ -8,7 +8,7 @@ use std::io::Write;
 fn main(rt: HostRuntime) -> io::Result<()> {
     // One byte more than a file of the right shape has: 3, 65,535 of a message, 28,000 of points.
     let mut file = [0u8; 93539];
-    let n = full_reads::read_full(&mut rt.stdin(), &mut file)?;
+    let n = stream_reads::read_full(&mut rt.stdin(), &mut file)?;
     show(&mut rt.stdout(), &file[..n])
 }
 
