@@ -130,6 +130,7 @@ def clause_path(names, digits):
 
 
 PLAIN = {"type-inv": "type_inv", "well-formed": "well_formed"}
+FIRST = {"pre": "requires", "fits": "ranges"}
 SAME = {"entry_isplace": "entry_place", "has_key_lem": "has_key", "store_bytes": "store_bytes"}
 
 
@@ -138,6 +139,7 @@ class Turn:
         self.n = names
         self.said = said
         self.helpers = {}
+        self.contexts = set()
 
     # ---- paths
     def path(self, body, var):
@@ -155,6 +157,10 @@ class Turn:
                     break
             if not found:
                 break
+        if self.contexts:
+            inner = "|".join(re.escape(a) for a in sorted(aliases, key=len, reverse=True))
+            outer = "|".join(re.escape(a) for a in sorted(self.contexts, key=len, reverse=True))
+            body = re.sub(r"\((?:" + outer + r")\s+(?:" + inner + r")(?:\.before)*\)", lambda m: var, body)
         # a let that names one step is written out
         for _ in range(20):
             names = "|".join(re.escape(a) for a in sorted(aliases, key=len, reverse=True))
@@ -175,6 +181,8 @@ class Turn:
                 fields.pop(0)
             if not fields:
                 return "c" if not rest else "c"
+            if fields[0] in FIRST and norm(fields[0]) not in self.n.steps:
+                fields[0] = FIRST[fields[0]]
             first = norm(fields[0])
             first = SAME.get(first, first)
             for k in range(len(fields), 1, -1):
@@ -194,6 +202,8 @@ class Turn:
                 return ".".join(["c.type_inv", self.n.given[first]] + fields[2:])
             if fields[0] in ("args", "requires", "ranges", "lifetimes", "type_inv", "well_formed"):
                 return ".".join(["c"] + fields)
+            if len(fields) == 2 and fields[1] == "ok":
+                fields[1] = "type_inv"
             if first in self.n.steps:
                 new = self.n.steps[first]
                 return ".".join(["c", new] + fields[1:])
@@ -205,30 +215,35 @@ class Turn:
         return re.sub(r"(?<![A-Za-z0-9_'.-])not-(?:true|false) (?:_|\([^()]*\)|[A-Za-z0-9_.'-]+) (c\.(?:if|loop)-not-[A-Za-z0-9_.'-]*\.(?:true|false))", r"\1", body)
 
     # ---- helpers that take a context
+    def add_helper(self, name, extras, kind, text, unf):
+        if extras:
+            kind = " ".join(f"({x})" for x in extras) + " → " + kind
+            text = "λ " + " ".join(x.split(":")[0].strip() for x in extras) + ". " + text
+        self.helpers[name] = (" ".join(kind.split()), text, unf)
+
     def with_helpers(self, body):
-        used = []
-        for _ in range(4):
-            changed = False
-            for name, (params, kind, text) in self.helpers.items():
-                pat = re.compile(r"\(?(?<![A-Za-z0-9_'.-])" + re.escape(name) + r"\s+c(?![A-Za-z0-9_'.-])\)?")
-                joined = body + " ".join(t for _, t in used)
-                if re.search(r"(?<![A-Za-z0-9_'.-])" + re.escape(name) + r"\s+c(?![A-Za-z0-9_'.-])", joined) and name not in [u for u, _ in used]:
-                    used.append((name, f"{kind} = {text}"))
-                    changed = True
-            if not changed:
-                break
+        """The helpers that body calls, as lets before it, and the definitions that they unfold."""
+        called = lambda h, t: re.search(r"(?<![A-Za-z0-9_'.-])" + re.escape(h) + r"\s+c(?![A-Za-z0-9_'.-])", t)
+        used, grew = [], True
+        while grew:
+            grew = False
+            joined = body + " " + " ".join(self.helpers[h][0] + " " + self.helpers[h][1] for h in used)
+            for h in self.helpers:
+                if h not in used and called(h, joined):
+                    used.append(h)
+                    grew = True
         if not used:
-            return body
-        order = [h for h in self.helpers if h in [u for u, _ in used]]
-        table = dict(used)
+            return body, []
+        order = [h for h in self.helpers if h in used]
 
         def strip(t):
             for h in order:
                 t = re.sub(r"(?<![A-Za-z0-9_'.-])" + re.escape(h) + r"\s+c(?![A-Za-z0-9_'.-])", h, t)
-            return t
+            return re.sub(r"\(((?:" + "|".join(re.escape(h) for h in order) + r"))\)", r"\1", t)
 
-        lets = "".join(f"\n    let {h} : {strip(table[h])} in" for h in order)
-        return lets + "\n    " + strip(body).strip()
+        lets = "".join(f"\n    let {h} : {strip(self.helpers[h][0])} = {strip(self.helpers[h][1])} in" for h in order)
+        unf = [u for h in order for u in self.helpers[h][2]]
+        return lets + "\n    " + strip(body).strip(), unf
 
     def clauses(self, need, body):
         names = self.n.asked.get(norm(need))
@@ -260,7 +275,72 @@ class Turn:
         return head + f" let p = {tail} in record {{ " + "; ".join(f"{n} = {q}" for n, q in zip(names, proj + [last])) + " }"
 
     def body(self, need, var, text):
-        return self.clauses(need, self.with_helpers(self.path(text, var)))
+        text, unf = self.with_helpers(self.path(text, var))
+        return self.clauses(need, text), unf
+
+    def module(self, code, where):
+        """Takes a module whose parameter is a context: its members become helpers. False where a member has another form."""
+        lines = code.split("\n")
+        head = lines[0]
+        k = 0
+        while k < len(lines) and not lines[k].rstrip().endswith("where"):
+            k += 1
+        if k == len(lines):
+            return False
+        head = " ".join(l.strip() for l in lines[: k + 1])
+        groups = re.findall(r"\(([^():]+:(?:[^()]|\([^()]*\))*)\)", head)
+        ctx = [g for g in groups if re.search(r":\s*tie\.[A-Z]", g)]
+        if len(ctx) != 1 or groups[0] != ctx[0]:
+            return False
+        var = ctx[0].split(":")[0].strip()
+        if " " in var:
+            return False
+        extras = []
+        for g in groups[1:]:
+            vs, ty = g.split(":", 1)
+            extras += [f"{v} : {ty.strip()}" for v in vs.split()]
+        members, now = [], []
+        body = "\n".join(l[2:] if l.startswith("  ") else l for l in lines[k + 1 :])
+        ok = []
+        for block in blocks(body):
+            if all(l.startswith("--") for l in block.split("\n")):
+                continue
+            code = "\n".join(l for l in block.split("\n") if not l.startswith("--"))
+            m = re.match(r"(?:unfoldable |abbrev )?(?:pub )?(" + ID + r"+) :", code)
+            if not m:
+                return False
+            comment, sig, unf, eqs = equation(code, m[1])
+            if len(eqs) != 1:
+                return False
+            ok.append((m[1], sig, unf, eqs[0]))
+        names = [n for n, *_ in ok]
+        for name, sig, unf, eq in ok:
+            kind = sig.split(":", 1)[1].strip()
+            m2 = re.match(re.escape(name) + r"((?:\s+[^=\s]+)*)\s*=(.*)$", eq, re.S)
+            params, text = m2[1].split(), m2[2].strip()
+            if re.match(r"tie\.[A-Z]", kind) and re.match(ID + r"+((?:\.before)*)$", text):
+                self.contexts.add(name)
+                continue
+            if re.search(r"\n\s*where\b", text):
+                return False
+            def turned(t):
+                for c in self.contexts:
+                    t = re.sub(r"(?<![A-Za-z0-9_'.-])" + re.escape(c) + r"(?![A-Za-z0-9_'-])(?!\s+" + re.escape(var) + r"\b)", var, t) if c in names else t
+                t = self.path(t, var)
+                for other in names:
+                    if other != name and other not in self.contexts:
+                        t = re.sub(r"(?<![A-Za-z0-9_'.-])" + re.escape(other) + r"(?![A-Za-z0-9_'-])", other + " c" + "".join(" " + x.split(":")[0].strip() for x in extras), t)
+                return t
+            kind, text = turned(kind), turned(text)
+            # an application of a member stands in parentheses where it is an argument
+            for other in names:
+                call = other + " c" + "".join(" " + x.split(":")[0].strip() for x in extras)
+                if extras:
+                    text = text.replace(call, "(" + call + ")")
+            if params:
+                text = "λ " + " ".join(params) + ". " + text
+            self.add_helper(name, extras, kind, text, re.findall(ID + r"+", unf)[1:] if unf else [])
+        return True
 
 
 def equation(block, name):
@@ -287,6 +367,12 @@ def equation(block, name):
         else:
             sig.append(line)
     return comment, "\n".join(sig), unf, ["\n".join(e) for e in eqs]
+
+
+def with_unfolding(line, more):
+    have = re.findall(ID + r"+", line)[1:] if line else []
+    words = have + [w for w in dict.fromkeys(more) if w not in have]
+    return "unfolding " + " ".join(words) if words else ""
 
 
 def turn_file(crate, folder, rel, entry, say):
@@ -346,8 +432,8 @@ def turn_file(crate, folder, rel, entry, say):
                 tail = t.path(tail, var)
             if not params:
                 say(f"{where}: {name} has no parameter")
-            new_body = t.body(need, var, body)
-            answers.append(("need", new, comment, unf, new_body.strip("\n"), tail))
+            new_body, more = t.body(need, var, body)
+            answers.append(("need", new, comment, with_unfolding(unf, more), new_body.strip("\n"), tail))
             continue
         m = re.match(r"(?:unfoldable |abbrev )?(?:pub )?(" + ID + r"+) : tie\.(invariant|decreases)-(" + ID + r"+)", code)
         if m:
@@ -373,6 +459,8 @@ def turn_file(crate, folder, rel, entry, say):
             if sub:
                 pat = "|".join(re.escape(p) for p in sorted(sub, key=len, reverse=True))
                 body = re.sub(r"(?<![A-Za-z0-9_'.₀-₉«-])(" + pat + r")(?![A-Za-z0-9_'₀-₉-])", lambda q: sub[q[1]], body)
+            body = re.sub(r"\(to_z w\d+ (l\.[A-Za-z0-9_.]+)\)", r"\1", body)
+            body = re.sub(r"(?<![A-Za-z0-9_'])to_z w\d+ (l\.[A-Za-z0-9_.]+)", r"\1", body)
             known[name] = kind
             invariants.append("\n".join(comment + [f"abbrev pub {kind}-{new} : goal.{kind}-{new}"] + ([unf] if unf else []) + [f"{kind}-{new} l ={body}"]))
             continue
@@ -395,9 +483,14 @@ def turn_file(crate, folder, rel, entry, say):
             text1 = t.path(m2[2], params[0]).strip()
             if len(params) > 1:
                 text1 = "λ " + " ".join(params[1:]) + ". " + text1
-            if unf or "\n  where" in text1:
-                say(f"{where}: helper {name} unfolds or has a where: by hand")
-            t.helpers[name] = (params, " ".join(kind.split()), text1)
+            if "\n  where" in text1:
+                say(f"{where}: helper {name} has a where: by hand")
+            t.add_helper(name, [], kind, text1, re.findall(ID + r"+", unf)[1:] if unf else [])
+            continue
+        if code.startswith("module") and re.search(r"tie\.[A-Z]", code):
+            if not t.module(code, where):
+                say(f"{where}: a module with a context by hand")
+                answers.append(("left", None, block))
             continue
         answers.append(("other", None, block))
     # the inline answers of tie.spec
@@ -450,7 +543,8 @@ def turn_file(crate, folder, rel, entry, say):
             say(f"{where}: {need} is answered by {g[1]}")
             answers.append(("need", new, [], "", g[1] + " c", ""))
         elif g[1]:
-            answers.append(("need", new, [], "", t.body(need, g[1][0], g[2]), ""))
+            new_body, more = t.body(need, g[1][0], g[2])
+            answers.append(("need", new, [], with_unfolding("", more), new_body, ""))
         else:
             say(f"{where}: {need} is answered by {g}")
             answers.append(("need", new, [], "", f"({g[2]}) c", ""))

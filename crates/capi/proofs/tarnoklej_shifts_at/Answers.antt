@@ -9,32 +9,23 @@ use Rattle.grid_shifts.specs.declared.ThreeShifts.{ThreeShifts}
 use Rattle.capi.specs.Exported.{exported, exported_shifts}
 use Rattle.capi.proofs.tarnoklej_shifts_at.Goals as goal
 
-module _ (c : tie.After-struct-told3) where
-  abbrev s : tie.Start
-  s = c.before.before.before.before.before.before.before.before.before.before.before.before
-
-  abbrev r : ThreeShifts
-  r = c.before.before.before.before.before.before.before.before.before.before.shifts-at.result
-
-  answer : r ≡ message_shifts s.args.s.now s.args.north s.args.east
-  answer =
-      c.before.before.before.before.before.before.before.before.before.before.shifts-at.ensures
-      ∙ (λ i. message_shifts s.args.s.now (is-back s.fits.north i) (is-back s.fits.east i))
-
 pub returns : goal.returns
 unfolding exported_shifts
-returns c = (λ i. record {
-  north = (r c).north;
-  east = (r c).east;
-  height = (r c).height;
-  north_count = held (r c).parts.north.count c.type_inv.n.1.0.1 i;
-  east_count = held (r c).parts.east.count c.type_inv.e.1.0.1 i;
-  height_count = held (r c).parts.height.count c.struct_told-3-1.given.1.0.1 i;
-  north_refusal = (r c).parts.north.refusal;
-  east_refusal = (r c).parts.east.refusal;
-  height_refusal = (r c).parts.height.refusal;
-  north_unit = c.unit_of.ensures i;
-  east_unit = c.unit_of-2.ensures i;
-  height_unit = c.unit_of-3.ensures i;
-})
-    ∙ ap exported (answer c)
+returns c = let r : ThreeShifts = c.shifts_at-r.result in
+    let answer : r ≡ message_shifts c.args.s.now c.args.north c.args.east = c.shifts_at-r.ensures
+    ∙ (λ i. message_shifts c.args.s.now (is-back c.ranges.north i) (is-back c.ranges.east i)) in
+    (λ i. record {
+      north = r.north;
+      east = r.east;
+      height = r.height;
+      north_count = held r.parts.north.count c.type_inv.n.1.0.1 i;
+      east_count = held r.parts.east.count c.type_inv.e.1.0.1 i;
+      height_count = held r.parts.height.count c.struct_told-3-1.given.1.0.1 i;
+      north_refusal = r.parts.north.refusal;
+      east_refusal = r.parts.east.refusal;
+      height_refusal = r.parts.height.refusal;
+      north_unit = c.unit_of.ensures i;
+      east_unit = c.unit_of-2.ensures i;
+      height_unit = c.unit_of-3.ensures i;
+    })
+    ∙ ap exported answer

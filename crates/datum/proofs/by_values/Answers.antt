@@ -29,125 +29,64 @@ record Has (r : Reading) (z : ℤ) : Type 0 where
 has : {r : Reading} {z : ℤ} → r ≡ Value z → mag z < 2 ^ 63 → Has r z
 has {z = z} e f = record { value = ap is_absent e; is = held z f ∙ sym (ap value_in e) }
 
-module _ (t : tie.After-known-told) where
-  abbrev p1 : Parameters
-  p1 = t.before.before.before.args.p
-
-  dx : Has p1.dx t.before.dx.given.0.0
-  dx = has t.before.dx.given.1 t.known-told.given.0.1
-
-module _ (t : tie.After-known-told2) where
-  abbrev k1 : tie.After-known-told
-  k1 = t.before.before.before
-
-  abbrev p2 : Parameters
-  p2 = p1 k1
-
-  dy : Has p2.dy t.before.dy.given.0.0
-  dy = has t.before.dy.given.1 t.known-told2.given.0.1
-
-module _ (t : tie.After-known-told3) where
-  abbrev k2 : tie.After-known-told2
-  k2 = t.before.before.before
-
-  abbrev p3 : Parameters
-  p3 = p2 k2
-
-  dz : Has p3.dz t.before.dz.given.0.0
-  dz = has t.before.dz.given.1 t.known-told3.given.0.1
-
-module _ (t : tie.After-known-told4) where
-  abbrev k3 : tie.After-known-told3
-  k3 = t.before.before.before
-
-  abbrev p4 : Parameters
-  p4 = p3 k3
-
-  rx : Has p4.rx t.before.rx.given.0.0
-  rx = has t.before.rx.given.1 t.known-told4.given.0.1
-
-module _ (t : tie.After-known-told5) where
-  abbrev k4 : tie.After-known-told4
-  k4 = t.before.before.before
-
-  abbrev p5 : Parameters
-  p5 = p4 k4
-
-  ry : Has p5.ry t.before.ry.given.0.0
-  ry = has t.before.ry.given.1 t.known-told5.given.0.1
-
-module _ (t : tie.After-known-told6) where
-  abbrev k5 : tie.After-known-told5
-  k5 = t.before.before.before
-
-  abbrev p6 : Parameters
-  p6 = p5 k5
-
-  rz : Has p6.rz t.before.rz.given.0.0
-  rz = has t.before.rz.given.1 t.known-told6.given.0.1
-
-module _ (t : tie.After-known-told7) where
-  abbrev k6 : tie.After-known-told6
-  k6 = t.before.before.before
-
-  abbrev p7 : Parameters
-  p7 = p6 k6
-
-  ds : Has p7.ds t.before.ds.given.0.0
-  ds = has t.before.ds.given.1 t.known-told7.given.0.1
-
 pub returns-in_default : goal.returns-in_default
 returns-in_default c = refuses c.refused.ensures (λ e. omega arith) (rw (ap is_absent c.in_default.is))
 
 pub returns-in_default-dy : goal.returns-in_default-dy
-returns-in_default-dy c = refuses c.refused-in_default-dy.ensures (λ e. omega arith) (rw ((dx c).value, ap is_absent c.in_default-dy.is))
+returns-in_default-dy c = let dx : Has p1 c.dx c.in-Value.dx = has c.in-Value.is c.known_told-1.given.0.1 in
+    refuses c.refused-in_default-dy.ensures (λ e. omega arith) (rw (dx.value, ap is_absent c.in_default-dy.is))
 
 pub returns-in_default-dz : goal.returns-in_default-dz
-returns-in_default-dz c = refuses c.refused-in_default-dz.ensures (λ e. omega arith) (rw ((dx (k1 c)).value, (dy c).value, ap is_absent c.in_default-dz.is))
+returns-in_default-dz c = let dx : Has p1 c.dx c.in-Value.dx = has c.in-Value.is c.known_told-1.given.0.1 in
+    let dy : Has p2 c.dy c.in-Value-dy.dy = has c.in-Value-dy.is c.known_told-in-Value-dy-1.given.0.1 in
+    refuses c.refused-in_default-dz.ensures (λ e. omega arith) (rw (dx.value, dy.value, ap is_absent c.in_default-dz.is))
 
 pub returns-in_default-rx : goal.returns-in_default-rx
-returns-in_default-rx c = refuses c.refused-in_default-rx.ensures (λ e. omega arith) (rw ((dx (k1 (k2 c))).value, (dy (k2 c)).value, (dz c).value, ap is_absent c.in_default-rx.is))
+returns-in_default-rx c = let dy : Has p2 c.dy c.in-Value-dy.dy = has c.in-Value-dy.is c.known_told-in-Value-dy-1.given.0.1 in
+    let dz : Has p3 c.dz c.in-Value-dz.dz = has c.in-Value-dz.is c.known_told-in-Value-dz-1.given.0.1 in
+    refuses c.refused-in_default-rx.ensures (λ e. omega arith) (rw ((dx (k1 c)).value, dy.value, dz.value, ap is_absent c.in_default-rx.is))
 
 pub returns-in_default-ry : goal.returns-in_default-ry
-returns-in_default-ry c = refuses c.refused-in_default-ry.ensures (λ e. omega arith) (rw ((dx (k1 (k2 (k3 c)))).value, (dy (k2 (k3 c))).value, (dz (k3 c)).value, (rx c).value, ap is_absent c.in_default-ry.is))
+returns-in_default-ry c = let dz : Has p3 c.dz c.in-Value-dz.dz = has c.in-Value-dz.is c.known_told-in-Value-dz-1.given.0.1 in
+    let rx : Has p4 c.rx c.in-Value-rx.rx = has c.in-Value-rx.is c.known_told-in-Value-rx-1.given.0.1 in
+    refuses c.refused-in_default-ry.ensures (λ e. omega arith) (rw ((dx (k1 (k2 c))).value, (dy (k2 c)).value, dz.value, rx.value, ap is_absent c.in_default-ry.is))
 
 pub returns-in_default-rz : goal.returns-in_default-rz
-returns-in_default-rz c = refuses c.refused-in_default-rz.ensures (λ e. omega arith) (rw ((dx (k1 (k2 (k3 (k4 c))))).value, (dy (k2 (k3 (k4 c)))).value, (dz (k3 (k4 c))).value, (rx (k4 c)).value, (ry c).value, ap is_absent c.in_default-rz.is))
+returns-in_default-rz c = let rx : Has p4 c.rx c.in-Value-rx.rx = has c.in-Value-rx.is c.known_told-in-Value-rx-1.given.0.1 in
+    let ry : Has p5 c.ry c.in-Value-ry.ry = has c.in-Value-ry.is c.known_told-in-Value-ry-1.given.0.1 in
+    refuses c.refused-in_default-rz.ensures (λ e. omega arith) (rw ((dx (k1 (k2 (k3 c)))).value, (dy (k2 (k3 c))).value, (dz (k3 c)).value, rx.value, ry.value, ap is_absent c.in_default-rz.is))
 
 pub returns-in_default-ds : goal.returns-in_default-ds
-returns-in_default-ds c = refuses c.refused-in_default-ds.ensures (λ e. omega arith) (rw ((dx (k1 (k2 (k3 (k4 (k5 c)))))).value, (dy (k2 (k3 (k4 (k5 c))))).value, (dz (k3 (k4 (k5 c)))).value, (rx (k4 (k5 c))).value, (ry (k5 c)).value, (rz c).value, ap is_absent c.in_default-ds.is))
-
-module _ (t : tie.After-known-told7) where
-  taken : ◌≡◌ {A = Values}
-      (record {
-        dx = to_z w64 (of_z w64 (k1 (k2 (k3 (k4 (k5 (k6 t)))))).before.dx.given.0.0);
-        dy = to_z w64 (of_z w64 (k2 (k3 (k4 (k5 (k6 t))))).before.dy.given.0.0);
-        dz = to_z w64 (of_z w64 (k3 (k4 (k5 (k6 t)))).before.dz.given.0.0);
-        rx = to_z w64 (of_z w64 (k4 (k5 (k6 t))).before.rx.given.0.0);
-        ry = to_z w64 (of_z w64 (k5 (k6 t)).before.ry.given.0.0);
-        rz = to_z w64 (of_z w64 (k6 t).before.rz.given.0.0);
-        ds = to_z w64 (of_z w64 t.before.ds.given.0.0);
-      })
-      (values_in (p7 t))
-  taken i =
-      record {
-        dx = (dx (k1 (k2 (k3 (k4 (k5 (k6 t))))))).is i;
-        dy = (dy (k2 (k3 (k4 (k5 (k6 t)))))).is i;
-        dz = (dz (k3 (k4 (k5 (k6 t))))).is i;
-        rx = (rx (k4 (k5 (k6 t)))).is i;
-        ry = (ry (k5 (k6 t))).is i;
-        rz = (rz (k6 t)).is i;
-        ds = (ds t).is i;
-      }
+returns-in_default-ds c = let ry : Has p5 c.ry c.in-Value-ry.ry = has c.in-Value-ry.is c.known_told-in-Value-ry-1.given.0.1 in
+    let rz : Has p6 c.rz c.in-Value-rz.rz = has c.in-Value-rz.is c.known_told-in-Value-rz-1.given.0.1 in
+    refuses c.refused-in_default-ds.ensures (λ e. omega arith) (rw ((dx (k1 (k2 (k3 (k4 c))))).value, (dy (k2 (k3 (k4 c)))).value, (dz (k3 (k4 c))).value, (rx (k4 c)).value, ry.value, rz.value, ap is_absent c.in_default-ds.is))
 
 pub returns : goal.returns
-returns c = numbered
+returns c = let p1 : Parameters = c.args.p in
+    let p2 : Parameters = p1 in
+    let p3 : Parameters = p2 in
+    let p4 : Parameters = p3 in
+    let p5 : Parameters = p4 in
+    let p6 : Parameters = p5 in
+    let rz : Has p6 c.rz c.in-Value-rz.rz = has c.in-Value-rz.is c.known_told-in-Value-rz-1.given.0.1 in
+    let p7 : Parameters = p6 in
+    let ds : Has p7 c.ds c.in-Value-ds.ds = has c.in-Value-ds.is c.known_told-in-Value-ds-1.given.0.1 in
+    let taken : ◌≡◌ {A = Values} (record { dx = to_z w64 (of_z w64 (k1 (k2 (k3 (k4 (k5 c))))).before.dx.given.0.0); dy = to_z w64 (of_z w64 (k2 (k3 (k4 (k5 c)))).before.dy.given.0.0); dz = to_z w64 (of_z w64 (k3 (k4 (k5 c))).before.dz.given.0.0); rx = to_z w64 (of_z w64 (k4 (k5 c)).before.rx.given.0.0); ry = to_z w64 (of_z w64 (k5 c).before.ry.given.0.0); rz = to_z w64 (of_z w64 c.in-Value-rz.rz); ds = to_z w64 (of_z w64 c.in-Value-ds.ds) }) (values_in p7) = λ i. record {
+      dx = (dx (k1 (k2 (k3 (k4 (k5 c)))))).is i;
+      dy = (dy (k2 (k3 (k4 (k5 c))))).is i;
+      dz = (dz (k3 (k4 (k5 c)))).is i;
+      rx = (rx (k4 (k5 c))).is i;
+      ry = (ry (k5 c)).is i;
+      rz = rz.is i;
+      ds = ds.is i;
+    } in
+    numbered
     (subst (λ (q : Type 0). q)
     (λ i.
-    Answered (521 * 10 ^ 32) (first (formula_tests (taken c i) (is-back c.ranges.x i) (is-back c.ranges.y i) (is-back c.ranges.z i)))
-    (taken c i) (is-back c.ranges.x i) (is-back c.ranges.y i) (is-back c.ranges.z i) c.transformed.result)
+    Answered (521 * 10 ^ 32) (first (formula_tests (taken i) (is-back c.ranges.x i) (is-back c.ranges.y i) (is-back c.ranges.z i)))
+    (taken i) (is-back c.ranges.x i) (is-back c.ranges.y i) (is-back c.ranges.z i) c.transformed.result)
     c.transformed.ensures)
-    (rw ((dx (k1 (k2 (k3 (k4 (k5 (k6 c))))))).value, (dy (k2 (k3 (k4 (k5 (k6 c)))))).value, (dz (k3 (k4 (k5 (k6 c))))).value, (rx (k4 (k5 (k6 c)))).value, (ry (k5 (k6 c))).value, (rz (k6 c)).value, (ds c).value))
+    (rw ((dx (k1 (k2 (k3 (k4 (k5 c)))))).value, (dy (k2 (k3 (k4 (k5 c))))).value, (dz (k3 (k4 (k5 c)))).value, (rx (k4 (k5 c))).value, (ry (k5 c)).value, rz.value, ds.value))
 
 pub refused-requires : goal.refused-requires
 refused-requires c = tt

@@ -17,40 +17,26 @@ use Rattle.datum.specs.Private.{step_by}
 use Rattle.datum.proofs.Refusals.{reading-stops, reading-passed}
 use Rattle.datum.proofs.datum_step.Goals as goal
 
-module _ (k : tie.After-read-helmert) where
-  abbrev s : tie.Start
-  s = k.before.before
-
-  abbrev m : List ℕ
-  m = s.args.message.now
-
-  read : k.read-helmert.result ≡ read_helmert m
-  read = k.read-helmert.ensures
-
 pub returns-then-refusal-ne0 : goal.returns-then-refusal-ne0
-returns-then-refusal-ne0 c = let a = (s c).args in
+returns-then-refusal-ne0 c = let m : List ℕ = c.args.message.now in
+    let read : c.read_helmert-r.result ≡ read_helmert m = c.read_helmert-r.ensures in
+    let a = c.args in
     refuses c.refused.ensures c.if-refusal-ne0.true
-    (reading-stops (m c) a.x a.y a.z (ap (λ (r : HelmertRead). r.refusal) (read c)) c.if-refusal-ne0.true)
-
-module _ (c : tie.After-struct-told) where
-  abbrev k : tie.After-read-helmert
-  k = c.before.before.before
-
-  none : (read_helmert (m k)).refusal ≡ 0
-  none = sym (ap (λ (r : HelmertRead). r.refusal) (read k)) ∙ c.before.before.if1.false
-
-  computation : to_z w64 (of_z w64 k.read-helmert.result.value.system.computation) ≡ (read_helmert (m k)).value.system.computation
-  computation = held k.read-helmert.result.value.system.computation (search rules) ∙ ap (λ (r : HelmertRead). r.value.system.computation) (read k)
+    (reading-stops m a.x a.y a.z (ap (λ (r : HelmertRead). r.refusal) read) c.if-refusal-ne0.true)
 
 pub returns : goal.returns
-returns c = let a = (s (k c)).args in
-    let f = (s (k c)).fits in
+returns c = let m : List ℕ = c.args.message.now in
+    let read : c.read_helmert-r.result ≡ read_helmert m = c.read_helmert-r.ensures in
+    let none : (read_helmert m).refusal ≡ 0 = sym (ap (λ (r : HelmertRead). r.refusal) read) ∙ c.if-refusal-ne0.false in
+    let computation : to_z w64 (of_z w64 c.read_helmert-r.result.value.system.computation) ≡ (read_helmert m).value.system.computation = held c.read_helmert-r.result.value.system.computation (search rules) ∙ ap (λ (r : HelmertRead). r.value.system.computation) read in
+    let a = (s c).args in
+    let f = (s c).fits in
     numbered
     (answered-wider (10 ^ 35) tt
     (subst (λ (q : Type 0). q)
-    (λ i. Answered (521 * 10 ^ 32) (step_by (computation c i) (read (k c) i).value.parameters (is-back f.x i) (is-back f.y i) (is-back f.z i)) (values_in (read (k c) i).value.parameters) (is-back f.x i) (is-back f.y i) (is-back f.z i) c.step_by.result)
+    (λ i. Answered (521 * 10 ^ 32) (step_by (computation i) (read i).value.parameters (is-back f.x i) (is-back f.y i) (is-back f.z i)) (values_in (read i).value.parameters) (is-back f.x i) (is-back f.y i) (is-back f.z i) c.step_by.result)
     c.step_by.ensures))
-    (reading-passed (m (k c)) a.x a.y a.z (none c))
+    (reading-passed m a.x a.y a.z none)
 
 pub read_helmert-r-requires : goal.read_helmert-r-requires
 read_helmert-r-requires c = tt

@@ -45,37 +45,6 @@ module _ (p : Values) (x y z : ℤ) where
   unfolding rotated_z
   row-z = refl
 
-module _ (s : tie.Start) where
-  abbrev x : Num
-  x = arg s.args.x (10 ^ 11) s.requires.1 tt
-
-  abbrev y : Num
-  y = arg s.args.y (10 ^ 11) s.pre.2 tt
-
-  abbrev z : Num
-  z = arg s.args.z (10 ^ 11) s.pre.3 tt
-
-  abbrev rx : Num
-  rx = arg s.args.v.rx (2 ^ 31) s.pre.0.rx tt
-
-  abbrev ry : Num
-  ry = arg s.args.v.ry (2 ^ 31) s.pre.0.ry tt
-
-  abbrev rz : Num
-  rz = arg s.args.v.rz (2 ^ 31) s.pre.0.rz tt
-
-  abbrev ds : Num
-  ds = arg s.args.v.ds (2 ^ 24) s.pre.0.ds tt
-
-  abbrev dx : Num
-  dx = arg s.args.v.dx (2 ^ 22) s.pre.0.dx tt
-
-  abbrev dy : Num
-  dy = arg s.args.v.dy (2 ^ 22) s.pre.0.dy tt
-
-  abbrev dz : Num
-  dz = arg s.args.v.dz (2 ^ 22) s.pre.0.dz tt
-
 pub coordinate-requires : goal.coordinate-requires
 coordinate-requires c = search rules
 
@@ -86,11 +55,20 @@ pub coordinate-requires-3 : goal.coordinate-requires-3
 coordinate-requires-3 c = search rules
 
 pub returns : goal.returns
-returns c = (
-  refl,
-  record {
-    at_x = answered (x c) (y c) (z c) (rz c) (ry c) (ds c) (dx c) c.coordinate.result c.coordinate.type_inv c.coordinate.ensures (row-x c.args.v c.args.x c.args.y c.args.z);
-    at_y = answered (y c) (z c) (x c) (rx c) (rz c) (ds c) (dy c) c.coordinate-2.result c.coordinate-2.type_inv c.coordinate-2.ensures (row-y c.args.v c.args.x c.args.y c.args.z);
-    at_z = answered (z c) (x c) (y c) (ry c) (rx c) (ds c) (dz c) c.coordinate-3.result c.coordinate-3.type_inv c.coordinate-3.ensures (row-z c.args.v c.args.x c.args.y c.args.z);
-  },
-)
+returns c = let x : Num = arg c.args.x (10 ^ 11) c.requires.1 tt in
+    let y : Num = arg c.args.y (10 ^ 11) c.requires.2 tt in
+    let z : Num = arg c.args.z (10 ^ 11) c.requires.3 tt in
+    let rx : Num = arg c.args.v.rx (2 ^ 31) c.requires.0.rx tt in
+    let ry : Num = arg c.args.v.ry (2 ^ 31) c.requires.0.ry tt in
+    let rz : Num = arg c.args.v.rz (2 ^ 31) c.requires.0.rz tt in
+    let ds : Num = arg c.args.v.ds (2 ^ 24) c.requires.0.ds tt in
+    let dx : Num = arg c.args.v.dx (2 ^ 22) c.requires.0.dx tt in
+    let dy : Num = arg c.args.v.dy (2 ^ 22) c.requires.0.dy tt in
+    let dz : Num = arg c.args.v.dz (2 ^ 22) c.requires.0.dz tt in (
+      refl,
+      record {
+        at_x = answered x y z rz ry ds dx c.coordinate.result c.coordinate.type_inv c.coordinate.ensures (row-x c.args.v c.args.x c.args.y c.args.z);
+        at_y = answered y z x rx rz ds dy c.coordinate-2.result c.coordinate-2.type_inv c.coordinate-2.ensures (row-y c.args.v c.args.x c.args.y c.args.z);
+        at_z = answered z x y ry rx ds dz c.coordinate-3.result c.coordinate-3.type_inv c.coordinate-3.ensures (row-z c.args.v c.args.x c.args.y c.args.z);
+      },
+    )

@@ -15,22 +15,6 @@ use Rattle.datum_formula.specs.Private.{Held}
 use Rattle.datum_formula.proofs.Refusals.{none-beyond, refuses, answers}
 use Rattle.datum_formula.proofs.transformed.Goals as goal
 
-module _ (k : tie.After-beyond2) where
-  abbrev v2 : Values
-  v2 = k.before.before.before.before.before.before.args.v
-
-  translations : k.beyond2.result ≡ beyond_any (2 ^ 22 - 1) v2.dx v2.dy v2.dz
-  translations =
-      k.beyond2.ensures ∙ (λ i. beyond_any (2 ^ 22 - 1) (held v2.dx (search rules) i) (held v2.dy (search rules) i) (held v2.dz (search rules) i))
-
-module _ (k : tie.After-beyond3) where
-  abbrev v3 : Values
-  v3 = k.before.before.before.before.before.before.before.before.before.before.before.args.v
-
-  rotations : k.beyond3.result ≡ beyond_any (2 ^ 31 - 1) v3.rx v3.ry v3.rz
-  rotations =
-      k.beyond3.ensures ∙ (λ i. beyond_any (2 ^ 31 - 1) (held v3.rx (search rules) i) (held v3.ry (search rules) i) (held v3.rz (search rules) i))
-
 -- behind all of them
 module _ (k : tie.After-magnitude) where
   abbrev s : tie.Start
@@ -61,25 +45,28 @@ module _ (k : tie.After-magnitude) where
 pub returns-then-beyond : goal.returns-then-beyond
 returns-then-beyond c = let position : c.beyond.result ≡ beyond_any (10 ^ 11) c.args.x c.args.y c.args.z = let f = c.ranges in
     c.beyond.ensures ∙ (λ i. beyond_any (10 ^ 11) (is-back f.x i) (is-back f.y i) (is-back f.z i)) in
-    refuses c.refused.ensures (λ e. omega arith) (rw (sym (position) ∙ c.if-beyond.true))
+    refuses c.refused.ensures (λ e. omega arith) (rw (sym position ∙ c.if-beyond.true))
 
 pub returns-then-beyond-2 : goal.returns-then-beyond-2
 returns-then-beyond-2 c = let position : c.beyond.result ≡ beyond_any (10 ^ 11) c.args.x c.args.y c.args.z = let f = c.ranges in
     c.beyond.ensures ∙ (λ i. beyond_any (10 ^ 11) (is-back f.x i) (is-back f.y i) (is-back f.z i)) in
+    let translations : c.beyond-2.result ≡ beyond_any (2 ^ 22 - 1) v2 c.dx v2 c.dy v2 c.dz = c.beyond-2.ensures ∙ (λ i. beyond_any (2 ^ 22 - 1) (held v2 c.dx (search rules) i) (held v2 c.dy (search rules) i) (held v2 c.dz (search rules) i)) in
     refuses c.refused-then-beyond-2.ensures (λ e. omega arith)
     (rw (
-      sym (position) ∙ c.if-beyond.false,
-      sym (translations c) ∙ c.if-beyond-2.true,
+      sym position ∙ c.if-beyond.false,
+      sym translations ∙ c.if-beyond-2.true,
     ))
 
 pub returns-then-beyond-3 : goal.returns-then-beyond-3
 returns-then-beyond-3 c = let position : c.beyond.result ≡ beyond_any (10 ^ 11) c.args.x c.args.y c.args.z = let f = c.ranges in
     c.beyond.ensures ∙ (λ i. beyond_any (10 ^ 11) (is-back f.x i) (is-back f.y i) (is-back f.z i)) in
+    let translations : c.beyond-2.result ≡ beyond_any (2 ^ 22 - 1) v2 c.dx v2 c.dy v2 c.dz = c.beyond-2.ensures ∙ (λ i. beyond_any (2 ^ 22 - 1) (held v2 c.dx (search rules) i) (held v2 c.dy (search rules) i) (held v2 c.dz (search rules) i)) in
+    let rotations : c.beyond-3.result ≡ beyond_any (2 ^ 31 - 1) v3 c.rx v3 c.ry v3 c.rz = c.beyond-3.ensures ∙ (λ i. beyond_any (2 ^ 31 - 1) (held v3 c.rx (search rules) i) (held v3 c.ry (search rules) i) (held v3 c.rz (search rules) i)) in
     refuses c.refused-then-beyond-3.ensures (λ e. omega arith)
     (rw (
-      sym (position) ∙ c.if-beyond.false,
-      sym (translations c) ∙ c.if-beyond-2.false,
-      sym (rotations c) ∙ c.if-beyond-3.true,
+      sym position ∙ c.if-beyond.false,
+      sym translations ∙ c.if-beyond-2.false,
+      sym rotations ∙ c.if-beyond-3.true,
     ))
 
 pub returns-then-magnitude-gt16777215 : goal.returns-then-magnitude-gt16777215

@@ -13,67 +13,65 @@ use Rattle.grid_cell.specs.Inner.{nodes_held, area_of, weights_held, in_bounds, 
 use Rattle.grid_cell.proofs.Held.{weighed-of, most-of, count_held, count_none}
 use Rattle.grid_cell.proofs.count_by.Goals as goal
 
-module _ (k : tie.After-weights-held) where
-  weights : {b : Bool} → k.weights-held.result ≡ b → weights_held k.before.args.k ≡ b
-  weights e = sym k.weights-held.ensures ∙ e
-
-module _ (k : tie.After-no-larger) where
-  abbrev s : tie.Start
-  s = k.before.before.before.before
-
-  small : {b : Bool} → k.no-larger.result ≡ b → leb (nat_abs s.args.mean) 1638400 ≡ b
-  small e = sym (k.no-larger.ensures ∙ ap (λ (z : ℤ). leb (nat_abs z) 1638400) (is-back s.fits.mean)) ∙ e
-
-module _ (k : tie.After-nodes-held) where
-  fit : {b : Bool} → k.nodes-held.result ≡ b → nodes_held (s k.before.before).args.n ≡ b
-  fit e = sym k.nodes-held.ensures ∙ e
-
 pub returns-then-not-weights_held : goal.returns-then-not-weights_held
 unfolding in_bounds
-returns-then-not-weights_held c = let a = c.args in
-    count_none a.mean a.factor a.n a.k (rw (weights c (c.if-not-weights_held.true)))
+returns-then-not-weights_held c = let weights : {b : Bool} → c.weights_held.result ≡ b → weights_held c.args.k ≡ b = λ e. sym c.weights_held.ensures ∙ e in
+    let a = c.args in
+    count_none a.mean a.factor a.n a.k (rw (weights (c.if-not-weights_held.true)))
 
 pub returns-then-factor-gt10 : goal.returns-then-factor-gt10
 unfolding in_bounds
-returns-then-factor-gt10 c = let a = c.args in
+returns-then-factor-gt10 c = let weights : {b : Bool} → c.weights_held.result ≡ b → weights_held c.args.k ≡ b = λ e. sym c.weights_held.ensures ∙ e in
+    let a = c.args in
     count_none a.mean a.factor a.n a.k
-    (rw (weights c (c.if-not-weights_held.false), lt-leb a.factor 10 c.if-factor-gt10.true))
+    (rw (weights (c.if-not-weights_held.false), lt-leb a.factor 10 c.if-factor-gt10.true))
 
 pub returns-then-not-no_larger : goal.returns-then-not-no_larger
 unfolding in_bounds
-returns-then-not-no_larger c = let a = (s c).args in
+returns-then-not-no_larger c = let weights : {b : Bool} → c.weights_held.result ≡ b → weights_held c.args.k ≡ b = λ e. sym c.weights_held.ensures ∙ e in
+    let small : {b : Bool} → c.no_larger.result ≡ b → leb (nat_abs c.args.mean) 1638400 ≡ b = λ e. sym (c.no_larger.ensures ∙ ap (λ (z : ℤ). leb (nat_abs z) 1638400) (is-back c.ranges.mean)) ∙ e in
+    let a = c.args in
     count_none a.mean a.factor a.n a.k
-    (rw (weights c (c.if-not-weights_held.false), le-leb a.factor 10 c.if-factor-gt10.false, small c (c.if-not-no_larger.true)))
+    (rw (weights (c.if-not-weights_held.false), le-leb a.factor 10 c.if-factor-gt10.false, small (c.if-not-no_larger.true)))
 
 pub returns-then-not-nodes_held : goal.returns-then-not-nodes_held
 unfolding in_bounds
-returns-then-not-nodes_held c = let a = (s c).args in
+returns-then-not-nodes_held c = let weights : {b : Bool} → c.weights_held.result ≡ b → weights_held c.args.k ≡ b = λ e. sym c.weights_held.ensures ∙ e in
+    let small : {b : Bool} → c.no_larger.result ≡ b → leb (nat_abs c.args.mean) 1638400 ≡ b = λ e. sym (c.no_larger.ensures ∙ ap (λ (z : ℤ). leb (nat_abs z) 1638400) (is-back c.ranges.mean)) ∙ e in
+    let fit : {b : Bool} → c.nodes_held.result ≡ b → nodes_held c.args.n ≡ b = λ e. sym c.nodes_held.ensures ∙ e in
+    let a = c.args in
     count_none a.mean a.factor a.n a.k
     (rw (
-      weights c (c.if-not-weights_held.false),
+      weights (c.if-not-weights_held.false),
       le-leb a.factor 10 c.if-factor-gt10.false,
-      small c (c.if-not-no_larger.false),
-      fit c (c.if-not-nodes_held.true),
+      small (c.if-not-no_larger.false),
+      fit (c.if-not-nodes_held.true),
     ))
 
 pub count_of-requires : goal.count_of-requires
-count_of-requires c = (
-  weighed-of (s c).args.k (weights c (c.if-not-weights_held.false)),
-  most-of (fit c (c.if-not-nodes_held.false)),
-  rw (is-back (s c).ranges.mean) (leb-true _ _ (small c (c.if-not-no_larger.false))),
-  c.if-factor-gt10.false,
-)
+count_of-requires c = let weights : {b : Bool} → c.weights_held.result ≡ b → weights_held c.args.k ≡ b = λ e. sym c.weights_held.ensures ∙ e in
+    let small : {b : Bool} → c.no_larger.result ≡ b → leb (nat_abs c.args.mean) 1638400 ≡ b = λ e. sym (c.no_larger.ensures ∙ ap (λ (z : ℤ). leb (nat_abs z) 1638400) (is-back c.ranges.mean)) ∙ e in
+    let fit : {b : Bool} → c.nodes_held.result ≡ b → nodes_held c.args.n ≡ b = λ e. sym c.nodes_held.ensures ∙ e in (
+      weighed-of c.args.k (weights (c.if-not-weights_held.false)),
+      most-of (fit (c.if-not-nodes_held.false)),
+      rw (is-back c.ranges.mean) (leb-true _ _ (small (c.if-not-no_larger.false))),
+      c.if-factor-gt10.false,
+    )
 
 pub returns : goal.returns
-returns c = let bounded : let a = (s c).args in in_bounds a.mean a.factor a.n a.k ≡ true = rw (
-  weights c (c.if-not-weights_held.false),
-  le-leb (s c).args.factor 10 c.if-factor-gt10.false,
-  small c (c.if-not-no_larger.false),
-  fit c (c.if-not-nodes_held.false),
-) in
+unfolding in_bounds
+returns c = let weights : {b : Bool} → c.weights_held.result ≡ b → weights_held c.args.k ≡ b = λ e. sym c.weights_held.ensures ∙ e in
+    let small : {b : Bool} → c.no_larger.result ≡ b → leb (nat_abs c.args.mean) 1638400 ≡ b = λ e. sym (c.no_larger.ensures ∙ ap (λ (z : ℤ). leb (nat_abs z) 1638400) (is-back c.ranges.mean)) ∙ e in
+    let fit : {b : Bool} → c.nodes_held.result ≡ b → nodes_held c.args.n ≡ b = λ e. sym c.nodes_held.ensures ∙ e in
+    let bounded : let a = c.args in in_bounds a.mean a.factor a.n a.k ≡ true = rw (
+      weights (c.if-not-weights_held.false),
+      le-leb c.args.factor 10 c.if-factor-gt10.false,
+      small (c.if-not-no_larger.false),
+      fit (c.if-not-nodes_held.false),
+    ) in
     let k = s c in
     let a = k.args in
     held c.count_of.result c.count_of.type_inv
     ∙ c.count_of.ensures
     ∙ ap (λ (z : ℤ). z +ℤ nearest_whole (sum_by a.factor a.k a.n) (area_of a.k)) (is-back k.fits.mean)
-    ∙ count_held a.mean a.factor a.n a.k (bounded)
+    ∙ count_held a.mean a.factor a.n a.k bounded

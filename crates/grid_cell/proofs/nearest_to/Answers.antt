@@ -30,4 +30,4 @@ with_sign-requires c = c.rounded.ensures.1
 pub returns : goal.returns
 returns c = let size : c.magnitude-size.result ≡ nat_abs c.args.sum = c.magnitude-size.ensures ∙ ap nat_abs (is-back c.ranges.sum) in
     let a = c.args in
-    back a.sum a.area c.ranges.sum (size) c.with_sign.type_inv c.with_sign.ensures c.rounded.ensures.0
+    back a.sum a.area c.ranges.sum size c.with_sign.type_inv c.with_sign.ensures c.rounded.ensures.0

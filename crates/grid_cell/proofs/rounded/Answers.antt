@@ -8,21 +8,18 @@ use borrow.Author.Rules.{rules}
 use Rattle.grid_cell.proofs.Sum.{half_up_lem, half_down}
 use Rattle.grid_cell.proofs.rounded.Goals as goal
 
-module _ (s : tie.Start) where
-  rest-less : s.args.size % s.args.area < s.args.area
-  rest-less = mod-lt s.args.size s.requires.1
-
-  whole-most : s.args.size / s.args.area ≤ 2560 * 1676902500000000
-  whole-most = omega (arith, div-le_self s.args.size s.args.area, s.pre.0)
-
 pub overflow_mul-rest : goal.overflow_mul-rest
-overflow_mul-rest c = record { fits = omega (arith, rest-less c, c.requires.2) }
+overflow_mul-rest c = let rest-less : c.args.size % c.args.area < c.args.area = mod-lt c.args.size c.requires.1 in
+    record { fits = omega (arith, rest-less, c.requires.2) }
 
 pub overflow_add-result : goal.overflow_add-result
-overflow_add-result c = record { fits = omega (arith, whole-most c) }
+overflow_add-result c = let whole-most : c.args.size / c.args.area ≤ 2560 * 1676902500000000 = omega (arith, div-le_self c.args.size c.args.area, c.requires.0) in
+    record { fits = omega (arith, whole-most) }
 
 pub returns-then-area-rest : goal.returns-then-area-rest
-returns-then-area-rest c = (sym (half_up_lem c.args.size c.args.area c.requires.1 (omega (arith, c.if-area-rest.true))), omega (arith, whole-most c))
+returns-then-area-rest c = let whole-most : c.args.size / c.args.area ≤ 2560 * 1676902500000000 = omega (arith, div-le_self c.args.size c.args.area, c.requires.0) in
+    (sym (half_up_lem c.args.size c.args.area c.requires.1 (omega (arith, c.if-area-rest.true))), omega (arith, whole-most))
 
 pub returns : goal.returns
-returns c = (sym (half_down c.args.size c.args.area c.requires.1 (omega (arith, c.if-area-rest.false))), omega (arith, whole-most c))
+returns c = let whole-most : c.args.size / c.args.area ≤ 2560 * 1676902500000000 = omega (arith, div-le_self c.args.size c.args.area, c.requires.0) in
+    (sym (half_down c.args.size c.args.area c.requires.1 (omega (arith, c.if-area-rest.false))), omega (arith, whole-most))

@@ -10,45 +10,49 @@ use Rattle.grid_cell.specs.Inner.{weighted_by}
 use Rattle.grid_cell.proofs.Sum.{sum-by-most}
 use Rattle.grid_cell.proofs.sum_by.Goals as goal
 
--- the nodes in counts
-module _ (s : tie.Start) where
-  abbrev f : Num
-  f = cast s.args.factor 10 s.requires.2 tt
-
-  abbrev sw : Num
-  sw = mul f (arg s.args.n.sw 256 s.pre.1.sw tt) tt
-
-  abbrev se : Num
-  se = mul f (arg s.args.n.se 256 s.pre.1.se tt) tt
-
-  abbrev nw : Num
-  nw = mul f (arg s.args.n.nw 256 s.pre.1.nw tt) tt
-
-  abbrev ne : Num
-  ne = mul f (arg s.args.n.ne 256 s.pre.1.ne tt) tt
-
 pub weighted_sum-requires : goal.weighted_sum-requires
-weighted_sum-requires c = (
-  c.requires.0,
-  passed (sw c) (λ z. nat_abs z ≤ 2560) (sw c).le,
-  passed (se c) (λ z. nat_abs z ≤ 2560) (se c).le,
-  passed (nw c) (λ z. nat_abs z ≤ 2560) (nw c).le,
-  passed (ne c) (λ z. nat_abs z ≤ 2560) (ne c).le,
-)
+weighted_sum-requires c = let f : Num = cast c.args.factor 10 c.requires.2 tt in
+    let sw : Num = mul f (arg c.args.n.sw 256 c.requires.1.sw tt) tt in
+    let se : Num = mul f (arg c.args.n.se 256 c.requires.1.se tt) tt in
+    let nw : Num = mul f (arg c.args.n.nw 256 c.requires.1.nw tt) tt in
+    let ne : Num = mul f (arg c.args.n.ne 256 c.requires.1.ne tt) tt in (
+      c.requires.0,
+      passed sw (λ z. nat_abs z ≤ 2560) sw.le,
+      passed se (λ z. nat_abs z ≤ 2560) se.le,
+      passed nw (λ z. nat_abs z ≤ 2560) nw.le,
+      passed ne (λ z. nat_abs z ≤ 2560) ne.le,
+    )
 
 pub returns : goal.returns
-returns c = (result c.weighted_sum.result (2560 * 1676902500000000)
-    (c.weighted_sum.ensures ∙ (λ i. weighted_by c.args.k ((sw c).held i) ((se c).held i) ((nw c).held i) ((ne c).held i)))
+returns c = let f : Num = cast c.args.factor 10 c.requires.2 tt in
+    let sw : Num = mul f (arg c.args.n.sw 256 c.requires.1.sw tt) tt in
+    let se : Num = mul f (arg c.args.n.se 256 c.requires.1.se tt) tt in
+    let nw : Num = mul f (arg c.args.n.nw 256 c.requires.1.nw tt) tt in
+    let ne : Num = mul f (arg c.args.n.ne 256 c.requires.1.ne tt) tt in
+    (result c.weighted_sum.result (2560 * 1676902500000000)
+    (c.weighted_sum.ensures ∙ (λ i. weighted_by c.args.k (sw.held i) (se.held i) (nw.held i) (ne.held i)))
     (le_trans (sum-by-most c.args.k c.args.factor c.args.n c.requires.2 c.requires.1) (mul-le-mul_left 2560 c.requires.0)) tt).held
 
 pub overflow_mul-f : goal.overflow_mul-f
-overflow_mul-f c = fits (sw c)
+overflow_mul-f c =
+    let f : Num = cast c.args.factor 10 c.requires.2 tt in
+    let sw : Num = mul f (arg c.args.n.sw 256 c.requires.1.sw tt) tt in
+    fits sw
 
 pub overflow_mul-f-2 : goal.overflow_mul-f-2
-overflow_mul-f-2 c = fits (se c)
+overflow_mul-f-2 c =
+    let f : Num = cast c.args.factor 10 c.requires.2 tt in
+    let se : Num = mul f (arg c.args.n.se 256 c.requires.1.se tt) tt in
+    fits se
 
 pub overflow_mul-f-3 : goal.overflow_mul-f-3
-overflow_mul-f-3 c = fits (nw c)
+overflow_mul-f-3 c =
+    let f : Num = cast c.args.factor 10 c.requires.2 tt in
+    let nw : Num = mul f (arg c.args.n.nw 256 c.requires.1.nw tt) tt in
+    fits nw
 
 pub overflow_mul-f-4 : goal.overflow_mul-f-4
-overflow_mul-f-4 c = fits (ne c)
+overflow_mul-f-4 c =
+    let f : Num = cast c.args.factor 10 c.requires.2 tt in
+    let ne : Num = mul f (arg c.args.n.ne 256 c.requires.1.ne tt) tt in
+    fits ne

@@ -15,9 +15,9 @@ returns-then-not-sum_held c = let a = c.args in
 
 pub sum_of-requires : goal.sum_of-requires
 sum_of-requires c = let fit : let a = c.args in sum_held a.factor a.n a.h a.w a.y a.x ≡ true = sym c.sum_held.ensures ∙ c.if-not-sum_held.false in
-    let a = c.args in held-says a.factor a.n a.h a.w a.y a.x (fit)
+    let a = c.args in held-says a.factor a.n a.h a.w a.y a.x fit
 
 pub returns : goal.returns
 returns c = let fit : let a = c.args in sum_held a.factor a.n a.h a.w a.y a.x ≡ true = sym c.sum_held.ensures ∙ c.if-not-sum_held.false in
     let a = c.args in
-    held c.sum_of.result c.sum_of.type_inv ∙ c.sum_of.ensures ∙ sum-held a.factor a.n a.h a.w a.y a.x (fit)
+    held c.sum_of.result c.sum_of.type_inv ∙ c.sum_of.ensures ∙ sum-held a.factor a.n a.h a.w a.y a.x fit

@@ -15,9 +15,9 @@ returns-then-not-place_held c = rw (sym c.place_held.ensures ∙ c.if-not-place_
 pub returns : goal.returns
 unfolding weights_in
 returns c = let fit : let a = c.args in place_held a.h a.w a.y a.x ≡ true = sym c.place_held.ensures ∙ c.if-not-place_held.false in
-    c.weights_of.ensures ∙ rw (fit)
+    c.weights_of.ensures ∙ rw fit
 
 pub weights_of-requires : goal.weights_of-requires
 weights_of-requires c =
     let fit : let a = c.args in place_held a.h a.w a.y a.x ≡ true = sym c.place_held.ensures ∙ c.if-not-place_held.false in
-    within_of (fit)
+    within_of fit

@@ -9,21 +9,19 @@ use Rattle.arith.proofs.Int.{ring, at, nat, minus, ◌⊟◌}
 use Rattle.arith.proofs.Machine.{Num, any, cast, lit, sub, fits, test}
 use Rattle.grid_cell.proofs.with_sign.Goals as goal
 
-module _ (s : tie.Start) where
-  abbrev size : Num
-  size = cast s.args.n 4611686018427387904 s.requires tt
-
-  abbrev opposite : Num
-  opposite = sub (lit 0 tt) (size) tt
-
-  abbrev given : Num
-  given = any s.args.z s.fits.z
-
 pub returns-then-z-lt0 : goal.returns-then-z-lt0
-returns-then-z-lt0 c = rw (test (given c) (lit 0 tt) c.if-z-lt0.true) ((opposite c).held ∙ ring (nat 0 ⊟ nat c.args.n) (minus (nat c.args.n)) (omega arith))
+returns-then-z-lt0 c = let size : Num = cast c.args.n 4611686018427387904 c.requires tt in
+    let opposite : Num = sub (lit 0 tt) size tt in
+    let given : Num = any c.args.z c.ranges.z in
+    rw (test given (lit 0 tt) c.if-z-lt0.true) (opposite.held ∙ ring (nat 0 ⊟ nat c.args.n) (minus (nat c.args.n)) (omega arith))
 
 pub returns : goal.returns
-returns c = rw (test (given c) (lit 0 tt) c.if-z-lt0.false) (size c).held
+returns c = let size : Num = cast c.args.n 4611686018427387904 c.requires tt in
+    let given : Num = any c.args.z c.ranges.z in
+    rw (test given (lit 0 tt) c.if-z-lt0.false) size.held
 
 pub overflow_sub-result : goal.overflow_sub-result
-overflow_sub-result c = fits (opposite c)
+overflow_sub-result c =
+    let size : Num = cast c.args.n 4611686018427387904 c.requires tt in
+    let opposite : Num = sub (lit 0 tt) size tt in
+    fits opposite

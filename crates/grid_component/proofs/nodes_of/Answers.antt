@@ -20,16 +20,13 @@ two-more zero o i = absurd (o refl)
 two-more (suc zero) o i = absurd (i refl)
 two-more (suc (suc c)) o i = omega arith
 
--- the cell asked for, of a component
-module _ (k : tie.After-cells-at) where
-  abbrev says : ℕ → Nodes
-  says c = let a = k.before.before.args in cell_says a.message.now c a.row a.column
-
 pub returns-then-component-eq0 : goal.returns-then-component-eq0
-returns-then-component-eq0 c = ap (λ (n : Cells). n.north) c.cells_at-n.ensures ∙ ap (says c) (sym c.if-component-eq0.true)
+returns-then-component-eq0 c = let says : ℕ → Nodes = λ c. let a = c.args in cell_says a.message.now c a.row a.column in
+    ap (λ (n : Cells). n.north) c.cells_at-n.ensures ∙ ap says (sym c.if-component-eq0.true)
 
 pub returns-then-component-eq1 : goal.returns-then-component-eq1
-returns-then-component-eq1 c = ap (λ (n : Cells). n.east) c.cells_at-n.ensures ∙ ap (says c) (sym c.if-component-eq1.true)
+returns-then-component-eq1 c = let says : ℕ → Nodes = λ c. let a = c.args in cell_says a.message.now c a.row a.column in
+    ap (λ (n : Cells). n.east) c.cells_at-n.ensures ∙ ap says (sym c.if-component-eq1.true)
 
 pub returns : goal.returns
 returns c = let a = c.args in

@@ -10,39 +10,23 @@ use Rattle.grid_counts.proofs.cell_lacks.Goals as goal
 pub returns-in_default : goal.returns-in_default
 returns-in_default c = rw (ap available c.in_default.is)
 
--- what each call has known
-module _ (k : tie.After-node-lacks) where
-  abbrev s : tie.Start
-  s = k.before.before.before
-
-  mean : available s.args.mean ≡ true
-  mean = ap available k.before.enum_told.given.1
-
-  sw : {b : Bool} → k.node-lacks.result ≡ b → lacks s.args.k.sw (available s.args.n.sw) ≡ b
-  sw e = sym k.node-lacks.ensures ∙ e
-
 pub returns-then-node_lacks : goal.returns-then-node_lacks
-returns-then-node_lacks c = rw (mean c, sw c c.if-node_lacks.true)
-
-module _ (k : tie.After-node-lacks2) where
-  abbrev a : tie.After-node-lacks
-  a = k.before.before
-
-  se : {b : Bool} → k.node-lacks2.result ≡ b → lacks (s a).args.k.se (available (s a).args.n.se) ≡ b
-  se e = sym k.node-lacks2.ensures ∙ e
+returns-then-node_lacks c = let mean : available c.args.mean ≡ true = ap available c.in-Value.is in
+    let sw : {b : Bool} → c.node_lacks.result ≡ b → lacks c.args.k.sw (available c.args.n.sw) ≡ b = λ e. sym c.node_lacks.ensures ∙ e in
+    rw (mean, sw c.if-node_lacks.true)
 
 pub returns-then-node_lacks-2 : goal.returns-then-node_lacks-2
-returns-then-node_lacks-2 c = rw (mean (a c), sw (a c) c.if-node_lacks.false, se c c.if-node_lacks-2.true)
-
-module _ (k : tie.After-node-lacks3) where
-  abbrev b : tie.After-node-lacks2
-  b = k.before.before
-
-  nw : {t : Bool} → k.node-lacks3.result ≡ t → lacks (s (a b)).args.k.nw (available (s (a b)).args.n.nw) ≡ t
-  nw e = sym k.node-lacks3.ensures ∙ e
+returns-then-node_lacks-2 c = let mean : available c.args.mean ≡ true = ap available c.in-Value.is in
+    let sw : {b : Bool} → c.node_lacks.result ≡ b → lacks c.args.k.sw (available c.args.n.sw) ≡ b = λ e. sym c.node_lacks.ensures ∙ e in
+    let se : {b : Bool} → c.node_lacks-2.result ≡ b → lacks c.args.k.se (available c.args.n.se) ≡ b = λ e. sym c.node_lacks-2.ensures ∙ e in
+    rw (mean, sw c.if-node_lacks.false, se c.if-node_lacks-2.true)
 
 pub returns-then-node_lacks-3 : goal.returns-then-node_lacks-3
-returns-then-node_lacks-3 c = rw (mean (a (b c)), sw (a (b c)) (b c).before.if1.false, se (b c) c.if-node_lacks-2.false, nw c c.if-node_lacks-3.true)
+returns-then-node_lacks-3 c = let se : {b : Bool} → c.node_lacks-2.result ≡ b → lacks c.args.k.se (available c.args.n.se) ≡ b = λ e. sym c.node_lacks-2.ensures ∙ e in
+    let nw : {t : Bool} → c.node_lacks-3.result ≡ t → lacks (s c).args.k.nw (available (s c).args.n.nw) ≡ t = λ e. sym c.node_lacks-3.ensures ∙ e in
+    rw (mean (a c), sw (a c) c.if-node_lacks.false, se c.if-node_lacks-2.false, nw c.if-node_lacks-3.true)
 
 pub returns : goal.returns
-returns c = rw (mean (a (b c)), sw (a (b c)) (b c).before.if1.false, se (b c) c.if-node_lacks-2.false, nw c c.if-node_lacks-3.false) c.node_lacks-4.ensures
+returns c = let se : {b : Bool} → c.node_lacks-2.result ≡ b → lacks c.args.k.se (available c.args.n.se) ≡ b = λ e. sym c.node_lacks-2.ensures ∙ e in
+    let nw : {t : Bool} → c.node_lacks-3.result ≡ t → lacks (s c).args.k.nw (available (s c).args.n.nw) ≡ t = λ e. sym c.node_lacks-3.ensures ∙ e in
+    rw (mean (a c), sw (a c) c.if-node_lacks.false, se c.if-node_lacks-2.false, nw c.if-node_lacks-3.false) c.node_lacks-4.ensures

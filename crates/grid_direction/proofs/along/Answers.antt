@@ -22,12 +22,12 @@ pub returns-then-magnitude-gt10000000000000 : goal.returns-then-magnitude-gt1000
 returns-then-magnitude-gt10000000000000 c = let size : c.magnitude.result ≡ nat_abs c.args.difference = c.magnitude.ensures ∙ ap nat_abs (is-back c.ranges.difference) in
     along-out c.args.spacing c.args.difference c.outer-then-magnitude-gt10000000000000.ensures
     (unplaced-is c.args.spacing c.args.difference (omega (arith, c.if-spacing-eq0.false)) c.if-spacing-gt40950000.false
-    (far-outside c.args.spacing c.args.difference c.if-spacing-gt40950000.false (subst (λ (n : ℕ). 10000000000000 < n) (size) c.if-magnitude-gt10000000000000.true)))
+    (far-outside c.args.spacing c.args.difference c.if-spacing-gt40950000.false (subst (λ (n : ℕ). 10000000000000 < n) size c.if-magnitude-gt10000000000000.true)))
 
 pub axis-requires : goal.axis-requires
 axis-requires c = let size : c.magnitude.result ≡ nat_abs c.args.difference = c.magnitude.ensures ∙ ap nat_abs (is-back c.ranges.difference) in
     rw (is-back c.ranges.difference)
-    (subst (λ (n : ℕ). n ≤ 10000000000000) (size) c.if-magnitude-gt10000000000000.false, omega (arith, c.if-spacing-eq0.false), c.if-spacing-gt40950000.false)
+    (subst (λ (n : ℕ). n ≤ 10000000000000) size c.if-magnitude-gt10000000000000.false, omega (arith, c.if-spacing-eq0.false), c.if-spacing-gt40950000.false)
 
 pub returns : goal.returns
 returns c = c.axis.ensures ∙ ap (along_of c.args.spacing) (is-back c.ranges.difference)

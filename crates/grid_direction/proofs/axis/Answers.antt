@@ -13,40 +13,47 @@ use Rattle.arith.proofs.Machine.{Num, arg, cast, lit, add, fits, test}
 use Rattle.grid_direction.proofs.Placed.{along-out, unplaced-is, along-in}
 use Rattle.grid_direction.proofs.axis.Goals as goal
 
-module _ (c : tie.Start) where
-  abbrev u : ℤ
-  u = c.args.u
-
-  abbrev d : ℕ
-  d = c.args.d
-
-  abbrev t : Num
-  t = add (arg u 10000000000000 c.requires.0 tt) (cast (3 * (d / 2)) 61425000 (omega (arith, c.requires.2)) tt) tt
-
-  abbrev far : Num
-  far = cast (3 * d) 122850000 (omega (arith, c.requires.2)) tt
-
 pub returns-then-t-lt0 : goal.returns-then-t-lt0
-returns-then-t-lt0 c = let outside-first : lt_z (t c).z (pos 0) ≡ true → outside (d c) (u c) ≡ true = λ e. rw e in
-    along-out (d c) (u c) c.outer.ensures (unplaced-is (d c) (u c) c.requires.1 c.requires.2 (outside-first (test (t c) (lit 0 tt) c.if-t-lt0.true)))
+unfolding outside from_edge
+returns-then-t-lt0 c = let u : ℤ = c.args.u in
+    let d : ℕ = c.args.d in
+    let t : Num = add (arg u 10000000000000 c.requires.0 tt) (cast (3 * (d / 2)) 61425000 (omega (arith, c.requires.2)) tt) tt in
+    let outside-first : lt_z t.z (pos 0) ≡ true → outside d u ≡ true = λ e. rw e in
+    along-out d u c.outer.ensures (unplaced-is d u c.requires.1 c.requires.2 (outside-first (test t (lit 0 tt) c.if-t-lt0.true)))
 
 pub returns-then-d-t : goal.returns-then-d-t
-returns-then-d-t c = let outside-is : {b : Bool} → lt_z (t c).z (pos 0) ≡ false → lt_z (far c).z (t c).z ≡ b → outside (d c) (u c) ≡ b = λ e f. rw (e, f) in
-    along-out (d c) (u c) c.outer-then-d-t.ensures
-    (unplaced-is (d c) (u c) c.requires.1 c.requires.2 (outside-is (test (t c) (lit 0 tt) c.if-t-lt0.false) (test (far c) (t c) c.if-d-t.true)))
+unfolding outside from_edge
+returns-then-d-t c = let u : ℤ = c.args.u in
+    let d : ℕ = c.args.d in
+    let t : Num = add (arg u 10000000000000 c.requires.0 tt) (cast (3 * (d / 2)) 61425000 (omega (arith, c.requires.2)) tt) tt in
+    let far : Num = cast (3 * d) 122850000 (omega (arith, c.requires.2)) tt in
+    let outside-is : {b : Bool} → lt_z t.z (pos 0) ≡ false → lt_z far.z t.z ≡ b → outside d u ≡ b = λ e f. rw (e, f) in
+    along-out d u c.outer-then-d-t.ensures
+    (unplaced-is d u c.requires.1 c.requires.2 (outside-is (test t (lit 0 tt) c.if-t-lt0.false) (test far t c.if-d-t.true)))
 
 pub overflow_cast-steps : goal.overflow_cast-steps
-overflow_cast-steps c = let e = cast-natural (t c).z (t c).fit.sfits (test (t c) (lit 0 tt) c.if-t-lt0.false) in
-    rw (t c).held (e.0, record { fits = e.1 })
+overflow_cast-steps c = let u : ℤ = c.args.u in
+    let d : ℕ = c.args.d in
+    let t : Num = add (arg u 10000000000000 c.requires.0 tt) (cast (3 * (d / 2)) 61425000 (omega (arith, c.requires.2)) tt) tt in
+    let e = cast-natural t.z t.fit.sfits (test t (lit 0 tt) c.if-t-lt0.false) in
+    rw t.held (e.0, record { fits = e.1 })
 
 pub returns : goal.returns
-unfolding from_edge
-returns c = let outside-is : {b : Bool} → lt_z (t c).z (pos 0) ≡ false → lt_z (far c).z (t c).z ≡ b → outside (d c) (u c) ≡ b = λ e f. rw (e, f) in
-    along-in (d c) (u c) c.requires.1 c.requires.2 refl (ap nat_abs (t c).held) (c.cell_of.ensures ∙ ap (λ z. cell (d c) (nat_abs z)) (t c).held)
-    (outside-is (test (t c) (lit 0 tt) c.if-t-lt0.false) (test (far c) (t c) c.if-d-t.false))
+unfolding from_edge outside
+returns c = let u : ℤ = c.args.u in
+    let d : ℕ = c.args.d in
+    let t : Num = add (arg u 10000000000000 c.requires.0 tt) (cast (3 * (d / 2)) 61425000 (omega (arith, c.requires.2)) tt) tt in
+    let far : Num = cast (3 * d) 122850000 (omega (arith, c.requires.2)) tt in
+    let outside-is : {b : Bool} → lt_z t.z (pos 0) ≡ false → lt_z far.z t.z ≡ b → outside d u ≡ b = λ e f. rw (e, f) in
+    along-in d u c.requires.1 c.requires.2 refl (ap nat_abs t.held) (c.cell_of.ensures ∙ ap (λ z. cell d (nat_abs z)) t.held)
+    (outside-is (test t (lit 0 tt) c.if-t-lt0.false) (test far t c.if-d-t.false))
 
 pub overflow_add-t : goal.overflow_add-t
-overflow_add-t c = fits (t c)
+overflow_add-t c =
+    let u : ℤ = c.args.u in
+    let d : ℕ = c.args.d in
+    let t : Num = add (arg u 10000000000000 c.requires.0 tt) (cast (3 * (d / 2)) 61425000 (omega (arith, c.requires.2)) tt) tt in
+    fits t
 
 pub outer-requires : goal.outer-requires
 outer-requires c = tt

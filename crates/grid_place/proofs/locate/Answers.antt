@@ -15,11 +15,11 @@ returns-then-not-settings_held c = let a = c.args in
 
 pub place_of-requires : goal.place_of-requires
 place_of-requires c = let framed : settings_held c.args.f ≡ true = sym c.settings_held.ensures ∙ c.if-not-settings_held.false in
-    held-fields c.args.f (framed)
+    held-fields c.args.f framed
 
 pub returns : goal.returns
 returns c = let framed : settings_held c.args.f ≡ true = sym c.settings_held.ensures ∙ c.if-not-settings_held.false in
     let a = c.args in
     c.place_of.ensures
     ∙ (λ i. located a.f a.component (is-back c.ranges.north i) (is-back c.ranges.east i))
-    ∙ place-held a.f (framed) a.component a.north a.east
+    ∙ place-held a.f framed a.component a.north a.east

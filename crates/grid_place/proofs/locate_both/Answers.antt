@@ -22,22 +22,16 @@ returns-then-not-settings_held c = let a = c.args in
 
 pub place_of-h-requires : goal.place_of-h-requires
 place_of-h-requires c = let framed : settings_held c.args.f ≡ true = sym c.settings_held.ensures ∙ c.if-not-settings_held.false in
-    held-fields c.args.f (framed)
+    held-fields c.args.f framed
 
 pub vertical_of-v-requires : goal.vertical_of-v-requires
 vertical_of-v-requires c = let framed : settings_held c.args.f ≡ true = sym c.settings_held.ensures ∙ c.if-not-settings_held.false in
-    (held-fields c.args.f (framed), c.place_of-h.ensures)
-
-module _ (c : tie.Else1) where
-  abbrev s : tie.Start
-  s = c.before.before
-
-  placed : (k : ℕ) {r : Located} → r ≡ located s.args.f k (to_z w64 (of_z w64 s.args.north)) (to_z w64 (of_z w64 s.args.east)) → r ≡ held_place s.args.f k s.args.north s.args.east
-  placed k h =
-      h
-      ∙ (λ i. located s.args.f k (is-back s.fits.north i) (is-back s.fits.east i))
-      ∙ place-held s.args.f (framed c) k s.args.north s.args.east
+    (held-fields c.args.f framed, c.place_of-h.ensures)
 
 pub returns : goal.returns
 unfolding held_two_places
-returns c = c.two_places_of-2.ensures ∙ (λ i. two_places_of (placed c 0 c.place_of-h.ensures i) (placed c 2 c.vertical_of-v.ensures i))
+returns c = let framed : settings_held c.args.f ≡ true = sym c.settings_held.ensures ∙ c.if-not-settings_held.false in
+    let placed : (k : ℕ) {r : Located} → r ≡ located c.args.f k (to_z w64 (of_z w64 c.args.north)) (to_z w64 (of_z w64 c.args.east)) → r ≡ held_place c.args.f k c.args.north c.args.east = λ k h. h
+    ∙ (λ i. located c.args.f k (is-back c.ranges.north i) (is-back c.ranges.east i))
+    ∙ place-held c.args.f framed k c.args.north c.args.east in
+    c.two_places_of-2.ensures ∙ (λ i. two_places_of (placed 0 c.place_of-h.ensures i) (placed 2 c.vertical_of-v.ensures i))

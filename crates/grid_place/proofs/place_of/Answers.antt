@@ -46,178 +46,123 @@ east-asks a b c d h = rw (a, b, c, d) h
 along-asks : (d : ℕ) (u : ℤ) {h : ℕ} {p : PlaceAlong} → Spaced d → outside d u ≡ false → p ≡ along_of d u → h ≡ d → p.cell * h ≤ p.steps
 along-asks d u s o e k = rw (e, k) (in_cell_lem d u s o).1
 
-module _ (k : tie.After-early-refusal) where
-  abbrev s : tie.Start
-  s = k.before
-
-  abbrev f : Settings
-  f = s.args.f
-
-  abbrev c : ℕ
-  c = s.args.component
-
-  abbrev n : ℤ
-  n = s.args.north
-
-  abbrev e : ℤ
-  e = s.args.east
-
-  refusal_is : k.early-refusal.result ≡ first (field_tests f c n e)
-  refusal_is = k.early-refusal.ensures ∙ (λ i. first (field_tests f c (is-back s.fits.north i) (is-back s.fits.east i)))
-
 pub returns-then-early-ne0 : goal.returns-then-early-ne0
-returns-then-early-ne0 c = c.no_place.ensures ∙ early-out (f c) (c c) (n c) (e c) (refusal_is c) c.if-early-ne0.true
-
-module _ (b : tie.After-struct-told2) where
-  abbrev k : tie.After-early-refusal
-  k = b.before.before.before.before.before.before
-
-  none : first (field_tests (f k) (c k) (n k) (e k)) ≡ 0
-  none = sym (refusal_is k) ∙ b.before.before.before.before.before.if1.left
-
-  known : Early (f k) (n k) (e k)
-  known = early (f k) (c k) (n k) (e k) none
-
-  number : to_z w64 (of_z w64 (f k).number) ≡ (f k).number
-  number = held (f k).number b.before.before.before.before.struct_told.given.0.1
-
-  steps : b.before.before.before.steps_of.result ≡ steps_of (f k).number
-  steps = b.before.before.before.steps_of.ensures ∙ ap steps_of number
-
-  few : steps_of (f k).number ≤ 10000
-  few = (steps-some (f k).number).1
-
-  rows : to_z w64 (of_z w64 (f k).spacing.north) ≡ (f k).spacing.north
-  rows = held (f k).spacing.north b.struct-told2.given.0.1
-
-  abbrev h : ℕ
-  h = height_of (f k)
-
-  abbrev w : ℕ
-  w = width_of (f k)
-
-  abbrev u : ℤ
-  u = north_from (f k) (n k)
-
-  abbrev v : ℤ
-  v = east_from (f k) (e k)
-
-  sizes : Spaced h × Spaced w
-  sizes = spacings (f k) (n k) (e k) (s k).pre known
+returns-then-early-ne0 c = let f : Settings = c c.args.f in
+    let c : ℕ = c.args.component in
+    let n : ℤ = c c.args.north in
+    let e : ℤ = c c.args.east in
+    let refusal_is : c c.early_refusal-early.result ≡ first (field_tests f c c n e) = c c.early_refusal-early.ensures ∙ (λ i. first (field_tests f c c (is-back c c.ranges.north i) (is-back c c.ranges.east i))) in
+    c.no_place.ensures ∙ early-out f c n e refusal_is c.if-early-ne0.true
 
 pub spacing_of-h-requires : goal.spacing_of-h-requires
-spacing_of-h-requires c = let p = (s (k c)).pre.rows in raw (rows c) (steps c) (p.0, p.1, few c)
-
-module _ (m : tie.After-value-in) where
-  abbrev b : tie.After-struct-told2
-  b = m.before.before
-
-  height : m.before.spacing-of.result ≡ h b
-  height = m.before.spacing-of.ensures ∙ (λ i. natural (rows b i) * steps b i)
-
-  latitude : to_z w64 (of_z w64 m.value_in.result) ≡ value_in (f (k b)).origin.north
-  latitude = held m.value_in.result m.value_in.ok ∙ m.value_in.ensures
+spacing_of-h-requires c = let f : Settings = c c.args.f in
+    let number : to_z w64 (of_z w64 f.number) ≡ f.number = held f.number c.type_inv.f.0.1 in
+    let steps : c.steps_of-steps.result ≡ steps_of f.number = c.steps_of-steps.ensures ∙ ap steps_of number in
+    let few : steps_of f.number ≤ 10000 = (steps-some f.number).1 in
+    let rows : to_z w64 (of_z w64 f.spacing.north) ≡ f.spacing.north = held f.spacing.north c.type_inv.spacing.0.1 in
+    let p = (s c).pre.rows in raw rows steps (p.0, p.1, few)
 
 pub difference-u-requires : goal.difference-u-requires
-difference-u-requires c = let a = s (k (b c)) in
-    asks (is-back a.fits.north) (latitude c) (steps (b c)) ((known (b c)).north, a.pre.north, few (b c))
-
-module _ (a : tie.After-along) where
-  abbrev d : tie.After-struct-told2
-  d = b a.before.before
-
-  apart-north : to_z w64 (of_z w64 a.before.difference.result) ≡ u d
-  apart-north =
-      held _ a.before.difference.ok ∙ a.before.difference.ensures
-      ∙ (λ i. is-back (s (k d)).fits.north i -ℤ pos (steps d i) *ℤ latitude a.before.before i)
-
-  placed-north : a.along.result ≡ along_of (h d) (u d)
-  placed-north = a.along.ensures ∙ (λ i. along_of (height a.before.before i) (apart-north i))
-
-  refusal-north : a.along.result.refusal ≡ cond (outside (h d) (u d)) 14 0
-  refusal-north = ap (λ (p : PlaceAlong). p.refusal) placed-north ∙ along-refusal (h d) (u d) (sizes d).0.0 (sizes d).0.1
+difference-u-requires c = let f : Settings = c c.args.f in
+    let c : ℕ = c.args.component in
+    let n : ℤ = c c.args.north in
+    let e : ℤ = c c.args.east in
+    let refusal_is : c c.early_refusal-early.result ≡ first (field_tests f c c n e) = c c.early_refusal-early.ensures ∙ (λ i. first (field_tests f c c (is-back c c.ranges.north i) (is-back c c.ranges.east i))) in
+    let none : first (field_tests f c n e) ≡ 0 = sym refusal_is ∙ c.if-early-ne0.left in
+    let known : Early f n e = early f c n e none in
+    let number : to_z w64 (of_z w64 f.number) ≡ f.number = held f.number c.type_inv.f.0.1 in
+    let steps : c.steps_of-steps.result ≡ steps_of f.number = c.steps_of-steps.ensures ∙ ap steps_of number in
+    let few : steps_of f.number ≤ 10000 = (steps-some f.number).1 in
+    let latitude : to_z w64 (of_z w64 c.value_in.result) ≡ value_in f.origin.north = held c.value_in.result c.value_in.type_inv ∙ c.value_in.ensures in
+    let a = s (k c) in
+    asks (is-back a.fits.north) latitude steps (known.north, a.pre.north, few)
 
 pub returns-then-n-ne0 : goal.returns-then-n-ne0
-returns-then-n-ne0 c = let k = k (d c) in
+returns-then-n-ne0 c = let f : Settings = c c.args.f in
+    let number : to_z w64 (of_z w64 f.number) ≡ f.number = held f.number c.type_inv.f.0.1 in
+    let steps : c.steps_of-steps.result ≡ steps_of f.number = c.steps_of-steps.ensures ∙ ap steps_of number in
+    let rows : to_z w64 (of_z w64 f.spacing.north) ≡ f.spacing.north = held f.spacing.north c.type_inv.spacing.0.1 in
+    let h : ℕ = height_of f in
+    let height : c.spacing_of-h.result ≡ h = c.spacing_of-h.ensures ∙ (λ i. natural (rows i) * steps i) in
+    let latitude : to_z w64 (of_z w64 c.value_in.result) ≡ value_in f.origin.north = held c.value_in.result c.value_in.type_inv ∙ c.value_in.ensures in
+    let d : tie.After-struct-told2 = b c in
+    let apart-north : to_z w64 (of_z w64 c.difference-u.result) ≡ u d = held _ c.difference-u.type_inv ∙ c.difference-u.ensures
+    ∙ (λ i. is-back (s (k d)).fits.north i -ℤ pos (steps d i) *ℤ latitude i) in
+    let placed-north : c.along-n.result ≡ along_of (h d) (u d) = c.along-n.ensures ∙ (λ i. along_of (height i) (apart-north i)) in
+    let refusal-north : c.along-n.result.refusal ≡ cond (outside (h d) (u d)) 14 0 = ap (λ (p : PlaceAlong). p.refusal) placed-north ∙ along-refusal (h d) (u d) (sizes d).0.0 (sizes d).0.1 in
+    let k = k d in
     c.no_place-then-n-ne0.ensures
-    ∙ north-out (f k) (c k) (n k) (e k) (none (d c)) (outside-yes (outside (h (d c)) (u (d c))) (refusal-north c) c.if-n-ne0.true)
-
-module _ (r : tie.After-struct-told3) where
-  abbrev a : tie.After-along
-  a = r.before.before.before
-
-  abbrev j : tie.After-struct-told2
-  j = d a
-
-  in-north : outside (h j) (u j) ≡ false
-  in-north = outside-no (outside (h j) (u j)) (refusal-north a) r.before.if2.left
-
-  columns : to_z w64 (of_z w64 (f (k j)).spacing.east) ≡ (f (k j)).spacing.east
-  columns = held (f (k j)).spacing.east r.struct-told3.given.1.0.1
+    ∙ north-out (f k) (c k) (n k) (e k) (none d) (outside-yes (outside (h d) (u d)) refusal-north c.if-n-ne0.true)
 
 pub spacing_of-w-requires : goal.spacing_of-w-requires
-spacing_of-w-requires c = let p = (s (k (j c))).pre.columns in raw (columns c) (steps (j c)) (p.0, p.1, few (j c))
-
-module _ (m : tie.After-value-in2) where
-  abbrev r : tie.After-struct-told3
-  r = m.before.before
-
-  width : m.before.spacing-of2.result ≡ w (j r)
-  width = m.before.spacing-of2.ensures ∙ (λ i. natural (columns r i) * steps (j r) i)
-
-  longitude : to_z w64 (of_z w64 m.value-in2.result) ≡ value_in (f (k (j r))).origin.east
-  longitude = held m.value-in2.result m.value-in2.ok ∙ m.value-in2.ensures
+spacing_of-w-requires c = let d : tie.After-struct-told2 = b c in
+    let j : tie.After-struct-told2 = d in
+    let columns : to_z w64 (of_z w64 (f (k j)).spacing.east) ≡ (f (k j)).spacing.east = held (f (k j)).spacing.east c.type_inv.spacing.1.0.1 in
+    let p = (s (k j)).pre.columns in raw columns (steps j) (p.0, p.1, few j)
 
 pub east_difference-v-requires : goal.east_difference-v-requires
-east_difference-v-requires c = let i = j (r c) in
+east_difference-v-requires c = let d : tie.After-struct-told2 = b c in
+    let j : tie.After-struct-told2 = d in
+    let longitude : to_z w64 (of_z w64 c.value_in-2.result) ≡ value_in (f (k j)).origin.east = held c.value_in-2.result c.value_in-2.type_inv ∙ c.value_in-2.ensures in
+    let i = j in
     let a = s (k i) in
     let p = known i in
-    east-asks (number i) (is-back a.fits.east) (longitude c) (steps i)
+    east-asks (number i) (is-back a.fits.east) longitude (steps i)
     (p.east, a.pre.east, few i, λ t. turn-most (f (k i)).number (e (k i)) (value_in (f (k i)).origin.east) t (p.turn t) (a.pre.longitude t))
 
-module _ (q : tie.After-along2) where
-  abbrev l : tie.After-struct-told3
-  l = r q.before.before
-
-  abbrev o : tie.After-struct-told2
-  o = j l
-
-  apart-east : to_z w64 (of_z w64 q.before.east-difference.result) ≡ v o
-  apart-east =
-      held _ q.before.east-difference.ok ∙ q.before.east-difference.ensures
-      ∙ (λ i. east_by (number o i) (is-back (s (k o)).fits.east i -ℤ pos (steps o i) *ℤ longitude q.before.before i))
-
-  placed-east : q.along2.result ≡ along_of (w o) (v o)
-  placed-east = q.along2.ensures ∙ (λ i. along_of (width q.before.before i) (apart-east i))
-
-  refusal-east : q.along2.result.refusal ≡ cond (outside (w o) (v o)) 14 0
-  refusal-east = ap (λ (p : PlaceAlong). p.refusal) placed-east ∙ along-refusal (w o) (v o) (sizes o).1.0 (sizes o).1.1
-
 pub returns-then-e-ne0 : goal.returns-then-e-ne0
-returns-then-e-ne0 c = let k = k (o c) in
+returns-then-e-ne0 c = let d : tie.After-struct-told2 = b c in
+    let j : tie.After-struct-told2 = d in
+    let columns : to_z w64 (of_z w64 (f (k j)).spacing.east) ≡ (f (k j)).spacing.east = held (f (k j)).spacing.east c.type_inv.spacing.1.0.1 in
+    let width : c.spacing_of-w.result ≡ w j = c.spacing_of-w.ensures ∙ (λ i. natural (columns i) * steps j i) in
+    let longitude : to_z w64 (of_z w64 c.value_in-2.result) ≡ value_in (f (k j)).origin.east = held c.value_in-2.result c.value_in-2.type_inv ∙ c.value_in-2.ensures in
+    let l : tie.After-struct-told3 = r c in
+    let o : tie.After-struct-told2 = j l in
+    let apart-east : to_z w64 (of_z w64 c.east_difference-v.result) ≡ v o = held _ c.east_difference-v.type_inv ∙ c.east_difference-v.ensures
+    ∙ (λ i. east_by (number o i) (is-back (s (k o)).fits.east i -ℤ pos (steps o i) *ℤ longitude i)) in
+    let placed-east : c.along-e.result ≡ along_of (w o) (v o) = c.along-e.ensures ∙ (λ i. along_of (width i) (apart-east i)) in
+    let refusal-east : c.along-e.result.refusal ≡ cond (outside (w o) (v o)) 14 0 = ap (λ (p : PlaceAlong). p.refusal) placed-east ∙ along-refusal (w o) (v o) (sizes o).1.0 (sizes o).1.1 in
+    let k = k o in
     c.no_place-then-e-ne0.ensures
-    ∙ east-out (f k) (c k) (n k) (e k) (none (o c)) (in-north (l c)) (outside-yes (outside (w (o c)) (v (o c))) (refusal-east c) c.if-e-ne0.true)
-
-module _ (t : tie.Else3) where
-  abbrev q : tie.After-along2
-  q = t.before.before
-
-  in-east : outside (w (o q)) (v (o q)) ≡ false
-  in-east = outside-no (outside (w (o q)) (v (o q))) (refusal-east q) t.if3.left
+    ∙ east-out (f k) (c k) (n k) (e k) (none o) (in-north l) (outside-yes (outside (w o) (v o)) refusal-east c.if-e-ne0.true)
 
 pub place_in-requires : goal.place_in-requires
-place_in-requires c = let i = o (q c) in
-    let g = a (l (q c)) in (
-      along-asks (h i) (u i) (sizes i).0 (in-north (l (q c))) (placed-north g) (height g.before.before),
-      along-asks (w i) (v i) (sizes i).1 (in-east c) (placed-east (q c)) (width (q c).before.before),
+place_in-requires c = let d : tie.After-struct-told2 = b c in
+    let j : tie.After-struct-told2 = d in
+    let columns : to_z w64 (of_z w64 (f (k j)).spacing.east) ≡ (f (k j)).spacing.east = held (f (k j)).spacing.east c.type_inv.spacing.1.0.1 in
+    let width : c.spacing_of-w.result ≡ w j = c.spacing_of-w.ensures ∙ (λ i. natural (columns i) * steps j i) in
+    let longitude : to_z w64 (of_z w64 c.value_in-2.result) ≡ value_in (f (k j)).origin.east = held c.value_in-2.result c.value_in-2.type_inv ∙ c.value_in-2.ensures in
+    let l : tie.After-struct-told3 = r c in
+    let o : tie.After-struct-told2 = j l in
+    let apart-east : to_z w64 (of_z w64 c.east_difference-v.result) ≡ v o = held _ c.east_difference-v.type_inv ∙ c.east_difference-v.ensures
+    ∙ (λ i. east_by (number o i) (is-back (s (k o)).fits.east i -ℤ pos (steps o i) *ℤ longitude i)) in
+    let placed-east : c.along-e.result ≡ along_of (w o) (v o) = c.along-e.ensures ∙ (λ i. along_of (width i) (apart-east i)) in
+    let refusal-east : c.along-e.result.refusal ≡ cond (outside (w o) (v o)) 14 0 = ap (λ (p : PlaceAlong). p.refusal) placed-east ∙ along-refusal (w o) (v o) (sizes o).1.0 (sizes o).1.1 in
+    let in-east : outside (w o) (v o) ≡ false = outside-no (outside (w o) (v o)) refusal-east c.if-e-ne0.left in
+    let i = o in
+    let g = a l in (
+      along-asks (h i) (u i) (sizes i).0 (in-north l) (placed-north g) (height g.before.before),
+      along-asks (w i) (v i) (sizes i).1 in-east placed-east width,
     )
 
 pub returns : goal.returns
-returns c = let i = o (q c) in
-    let g = a (l (q c)) in
+returns c = let d : tie.After-struct-told2 = b c in
+    let j : tie.After-struct-told2 = d in
+    let columns : to_z w64 (of_z w64 (f (k j)).spacing.east) ≡ (f (k j)).spacing.east = held (f (k j)).spacing.east c.type_inv.spacing.1.0.1 in
+    let width : c.spacing_of-w.result ≡ w j = c.spacing_of-w.ensures ∙ (λ i. natural (columns i) * steps j i) in
+    let longitude : to_z w64 (of_z w64 c.value_in-2.result) ≡ value_in (f (k j)).origin.east = held c.value_in-2.result c.value_in-2.type_inv ∙ c.value_in-2.ensures in
+    let l : tie.After-struct-told3 = r c in
+    let o : tie.After-struct-told2 = j l in
+    let apart-east : to_z w64 (of_z w64 c.east_difference-v.result) ≡ v o = held _ c.east_difference-v.type_inv ∙ c.east_difference-v.ensures
+    ∙ (λ i. east_by (number o i) (is-back (s (k o)).fits.east i -ℤ pos (steps o i) *ℤ longitude i)) in
+    let placed-east : c.along-e.result ≡ along_of (w o) (v o) = c.along-e.ensures ∙ (λ i. along_of (width i) (apart-east i)) in
+    let refusal-east : c.along-e.result.refusal ≡ cond (outside (w o) (v o)) 14 0 = ap (λ (p : PlaceAlong). p.refusal) placed-east ∙ along-refusal (w o) (v o) (sizes o).1.0 (sizes o).1.1 in
+    let in-east : outside (w o) (v o) ≡ false = outside-no (outside (w o) (v o)) refusal-east c.if-e-ne0.left in
+    let i = o in
+    let g = a l in
     c.place_in.ensures
-    ∙ (λ x. place_of (placed-north g x) (placed-east (q c) x) (height g.before.before x) (width (q c).before.before x))
-    ∙ both-in (f (k i)) (c (k i)) (n (k i)) (e (k i)) (none i) (in-north (l (q c))) (in-east c)
+    ∙ (λ x. place_of (placed-north g x) (placed-east x) (height g.before.before x) (width x))
+    ∙ both-in (f (k i)) (c (k i)) (n (k i)) (e (k i)) (none i) (in-north l) in-east
 
 pub early_refusal-early-requires : goal.early_refusal-early-requires
 early_refusal-early-requires c = tt

@@ -11,15 +11,14 @@ use Rattle.arith.specs.Whole.{natural}
 use Rattle.arith.proofs.Machine.{is-back}
 use Rattle.grid_place.proofs.spacing_of.Goals as goal
 
-module _ (c : tie.Start) where
-  raw : to_z w64 (of_z w64 c.args.raw) ≡ pos (natural c.args.raw)
-  raw = is-back c.ranges.raw ∙ c.requires.0
-
 pub overflow_cast-result : goal.overflow_cast-result
-overflow_cast-result c = rw (raw c) (tt, omega (arith, c.requires.1))
+overflow_cast-result c = let raw : to_z w64 (of_z w64 c.args.raw) ≡ pos (natural c.args.raw) = is-back c.ranges.raw ∙ c.requires.0 in
+    rw raw (tt, omega (arith, c.requires.1))
 
 pub overflow_mul-result : goal.overflow_mul-result
-overflow_mul-result c = rw (raw c) (omega (arith, mul-le-mul c.requires.1 c.requires.2))
+overflow_mul-result c = let raw : to_z w64 (of_z w64 c.args.raw) ≡ pos (natural c.args.raw) = is-back c.ranges.raw ∙ c.requires.0 in
+    rw raw (omega (arith, mul-le-mul c.requires.1 c.requires.2))
 
 pub returns : goal.returns
-returns c = ap (λ (z : ℤ). nat_abs z * c.args.steps) (raw c)
+returns c = let raw : to_z w64 (of_z w64 c.args.raw) ≡ pos (natural c.args.raw) = is-back c.ranges.raw ∙ c.requires.0 in
+    ap (λ (z : ℤ). nat_abs z * c.args.steps) raw

@@ -22,38 +22,41 @@ Asks f p n e = (first (field_tests f 0 n e) ≡ 0) × (p ≡ located f 0 n e)
 asks : (f : Settings) (p : Located) {n n' e e' : ℤ} → n' ≡ n → e' ≡ e → Asks f p n e → Asks f p n' e'
 asks f p a b h = rw (a, b) h
 
-module _ (s : tie.Start) where
-  abbrev f : Settings
-  f = s.args.f
-
-  abbrev n : ℤ
-  n = s.args.north
-
-  abbrev e : ℤ
-  e = s.args.east
-
-  -- the refusal that is given
-  known : {r : ℕ} → s.args.p.refusal ≡ r → first (place_tests f 0 n e) ≡ r
-  known h = sym (located-refusal f 0 n e) ∙ sym (ap (λ (p : Located). p.refusal) s.pre.1) ∙ h
-
-  back : {r : Located} → r ≡ located f 2 (to_z w64 (of_z w64 n)) (to_z w64 (of_z w64 e)) → r ≡ located f 2 n e
-  back h = h ∙ (λ i. located f 2 (is-back s.fits.north i) (is-back s.fits.east i))
-
 pub vertical_at-requires : goal.vertical_at-requires
-vertical_at-requires c = asks (f c) c.args.p (is-back c.ranges.north) (is-back c.ranges.east)
-    (placed-passes (f c) (n c) (e c) 0 (known c c.if-refusal-eq0.true), c.requires.1)
+vertical_at-requires c = let f : Settings = c.args.f in
+    let n : ℤ = c.args.north in
+    let e : ℤ = c.args.east in
+    let known : {r : ℕ} → c.args.p.refusal ≡ r → first (place_tests f 0 n e) ≡ r = λ h. sym (located-refusal f 0 n e) ∙ sym (ap (λ (p : Located). p.refusal) c.requires.1) ∙ h in
+    asks f c.args.p (is-back c.ranges.north) (is-back c.ranges.east)
+    (placed-passes f n e 0 (known c.if-refusal-eq0.true), c.requires.1)
 
 pub returns-then-refusal-eq0 : goal.returns-then-refusal-eq0
-returns-then-refusal-eq0 c = back c c.vertical_at.ensures
+returns-then-refusal-eq0 c = let f : Settings = c.args.f in
+    let n : ℤ = c.args.north in
+    let e : ℤ = c.args.east in
+    let back : {r : Located} → r ≡ located f 2 (to_z w64 (of_z w64 n)) (to_z w64 (of_z w64 e)) → r ≡ located f 2 n e = λ h. h ∙ (λ i. located f 2 (is-back c.ranges.north i) (is-back c.ranges.east i)) in
+    back c.vertical_at.ensures
 
 pub vertical_at-requires-then-refusal-eq-OUTSIDE : goal.vertical_at-requires-then-refusal-eq-OUTSIDE
-vertical_at-requires-then-refusal-eq-OUTSIDE c = asks (f c) c.args.p (is-back c.ranges.north) (is-back c.ranges.east) (outer-passes (f c) (n c) (e c) 0 (known c c.if-refusal-eq-OUTSIDE.true), c.requires.1)
+vertical_at-requires-then-refusal-eq-OUTSIDE c = let f : Settings = c.args.f in
+    let n : ℤ = c.args.north in
+    let e : ℤ = c.args.east in
+    let known : {r : ℕ} → c.args.p.refusal ≡ r → first (place_tests f 0 n e) ≡ r = λ h. sym (located-refusal f 0 n e) ∙ sym (ap (λ (p : Located). p.refusal) c.requires.1) ∙ h in
+    asks f c.args.p (is-back c.ranges.north) (is-back c.ranges.east) (outer-passes f n e 0 (known c.if-refusal-eq-OUTSIDE.true), c.requires.1)
 
 pub returns-then-refusal-eq-OUTSIDE : goal.returns-then-refusal-eq-OUTSIDE
-returns-then-refusal-eq-OUTSIDE c = back c c.vertical_at-then-refusal-eq-OUTSIDE.ensures
+returns-then-refusal-eq-OUTSIDE c = let f : Settings = c.args.f in
+    let n : ℤ = c.args.north in
+    let e : ℤ = c.args.east in
+    let back : {r : Located} → r ≡ located f 2 (to_z w64 (of_z w64 n)) (to_z w64 (of_z w64 e)) → r ≡ located f 2 n e = λ h. h ∙ (λ i. located f 2 (is-back c.ranges.north i) (is-back c.ranges.east i)) in
+    back c.vertical_at-then-refusal-eq-OUTSIDE.ensures
 
 pub returns : goal.returns
-returns c = back c c.place_of.ensures
+returns c = let f : Settings = c.args.f in
+    let n : ℤ = c.args.north in
+    let e : ℤ = c.args.east in
+    let back : {r : Located} → r ≡ located f 2 (to_z w64 (of_z w64 n)) (to_z w64 (of_z w64 e)) → r ≡ located f 2 n e = λ h. h ∙ (λ i. located f 2 (is-back c.ranges.north i) (is-back c.ranges.east i)) in
+    back c.place_of.ensures
 
 pub place_of-requires : goal.place_of-requires
 place_of-requires c = c.requires.0

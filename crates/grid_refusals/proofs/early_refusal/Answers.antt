@@ -15,56 +15,37 @@ use Rattle.arith.proofs.First.{stops, goes_on}
 use Rattle.arith.proofs.Machine.{is-back}
 use Rattle.grid_refusals.proofs.early_refusal.Goals as goal
 
-module _ (k : tie.After-position-refusal) where
-  abbrev s : tie.Start
-  s = k.before.before
-
-  number : to_z w64 (of_z w64 s.args.f.number) ≡ s.args.f.number
-  number = held s.args.f.number k.before.struct_told.given.0.1
-
-  abbrev before : List Test
-  before = (8, ltb 2 s.args.component) ∷ (9, beyond s.args.f.number s.args.north s.args.east) ∷ []
-
-  abbrev behind : List Test
-  behind =
-      (10, same_z (side s.args.component s.args.f.indicators) (pos 0))
-      ∷ (11, not (same_z (side s.args.component s.args.f.methods) (pos 0)))
-      ∷ (12, not (origin_available s.args.f.origin))
-      ∷ (13, same_z s.args.f.spacing.north (pos 0) || same_z s.args.f.spacing.east (pos 0))
-      ∷ []
-
-  known : k.position-refusal.result ≡ first before
-  known =
-      k.position-refusal.ensures
-      ∙ (λ i. first ((8, ltb 2 s.args.component) ∷ (9, beyond (number i) (is-back s.fits.north i) (is-back s.fits.east i)) ∷ []))
-
 pub returns-then-p-ne0 : goal.returns-then-p-ne0
-returns-then-p-ne0 c = stops (before c) (behind c) tt (known c) c.if-p-ne0.true
-
-module _ (c : tie.After-field-refusal) where
-  abbrev l : tie.Else1
-  l = c.before.before.before.before.before.before.before
-
-  abbrev k : tie.After-position-refusal
-  k = l.before
-
-  shown : to_z w64 (of_z w64 c.before.before.before.before.before.before.side-of.result) ≡ side (s k).args.component (s k).args.f.indicators
-  shown = let r = c.before.before.before.before.before.before.side-of in held r.result r.type-inv ∙ r.ensures
-
-  method : to_z w64 (of_z w64 c.before.before.before.before.before.side-of2.result) ≡ side (s k).args.component (s k).args.f.methods
-  method = let r = c.before.before.before.before.before.side-of2 in held r.result r.type-inv ∙ r.ensures
-
-  fields : c.field-refusal.result ≡ first (behind k)
-  fields =
-      c.field-refusal.ensures
-      ∙ (λ i. first ((10, same_z (shown i) (pos 0))
-      ∷ (11, not (same_z (method i) (pos 0)))
-      ∷ (12, not (origin_available (s k).args.f.origin))
-      ∷ (13, same_z (held (s k).args.f.spacing.north c.before.before.struct-told2.given.0.1 i) (pos 0) || same_z (held (s k).args.f.spacing.east c.before.struct-told3.given.1.0.1 i) (pos 0))
-      ∷ []))
+returns-then-p-ne0 c = let number : to_z w64 (of_z w64 c.args.f.number) ≡ c.args.f.number = held c.args.f.number c.type_inv.f.0.1 in
+    let before : List Test = (8, ltb 2 c.args.component) ∷ (9, beyond c.args.f.number c.args.north c.args.east) ∷ [] in
+    let behind : List Test = (10, same_z (side c.args.component c.args.f.indicators) (pos 0))
+    ∷ (11, not (same_z (side c.args.component c.args.f.methods) (pos 0)))
+    ∷ (12, not (origin_available c.args.f.origin))
+    ∷ (13, same_z c.args.f.spacing.north (pos 0) || same_z c.args.f.spacing.east (pos 0))
+    ∷ [] in
+    let known : c.position_refusal-p.result ≡ first before = c.position_refusal-p.ensures
+    ∙ (λ i. first ((8, ltb 2 c.args.component) ∷ (9, beyond (number i) (is-back c.ranges.north i) (is-back c.ranges.east i)) ∷ [])) in
+    stops before behind tt known c.if-p-ne0.true
 
 pub returns : goal.returns
-returns c = fields c ∙ goes_on (before (k c)) (behind (k c)) tt (sym (known (k c)) ∙ (l c).if1.false)
+returns c = let number : to_z w64 (of_z w64 c.args.f.number) ≡ c.args.f.number = held c.args.f.number c.type_inv.f.0.1 in
+    let before : List Test = (8, ltb 2 c.args.component) ∷ (9, beyond c.args.f.number c.args.north c.args.east) ∷ [] in
+    let behind : List Test = (10, same_z (side c.args.component c.args.f.indicators) (pos 0))
+    ∷ (11, not (same_z (side c.args.component c.args.f.methods) (pos 0)))
+    ∷ (12, not (origin_available c.args.f.origin))
+    ∷ (13, same_z c.args.f.spacing.north (pos 0) || same_z c.args.f.spacing.east (pos 0))
+    ∷ [] in
+    let known : c.position_refusal-p.result ≡ first before = c.position_refusal-p.ensures
+    ∙ (λ i. first ((8, ltb 2 c.args.component) ∷ (9, beyond (number i) (is-back c.ranges.north i) (is-back c.ranges.east i)) ∷ [])) in
+    let shown : to_z w64 (of_z w64 c.side_of-indicator.result) ≡ side c.args.component c.args.f.indicators = held c.side_of-indicator.result c.side_of-indicator.type_inv ∙ c.side_of-indicator.ensures in
+    let method : to_z w64 (of_z w64 c.side_of-method.result) ≡ side c.args.component c.args.f.methods = held c.side_of-method.result c.side_of-method.type_inv ∙ c.side_of-method.ensures in
+    let fields : c.field_refusal.result ≡ first behind = c.field_refusal.ensures
+    ∙ (λ i. first ((10, same_z (shown i) (pos 0))
+    ∷ (11, not (same_z (method i) (pos 0)))
+    ∷ (12, not (origin_available c.args.f.origin))
+    ∷ (13, same_z (held c.args.f.spacing.north c.type_inv.spacing.0.1 i) (pos 0) || same_z (held c.args.f.spacing.east c.type_inv.spacing.1.0.1 i) (pos 0))
+    ∷ [])) in
+    fields ∙ goes_on before behind tt (sym known ∙ c.if-p-ne0.false)
 
 pub position_refusal-p-requires : goal.position_refusal-p-requires
 position_refusal-p-requires c = tt

@@ -7,34 +7,38 @@ use Rattle.arith.proofs.Order.{signed-tests}
 use Rattle.arith.proofs.Machine.{is-back}
 use Rattle.grid_refusals.proofs.position_refusal.Goals as goal
 
--- what both calls answer
-module _ (k : tie.After-magnitude2) where
-  n : nat_abs k.before.before.args.north ≡ k.before.magnitude.result
-  n = sym (k.before.magnitude.ensures ∙ ap nat_abs (is-back k.before.before.ranges.north))
-
-  e : nat_abs k.before.before.args.east ≡ k.magnitude2.result
-  e = sym (k.magnitude2.ensures ∙ ap nat_abs (is-back k.before.before.fits.east))
-
 pub returns-then-component-gt2 : goal.returns-then-component-gt2
 returns-then-component-gt2 c = search signed-tests
 
 pub returns-then-n-gt3240000000 : goal.returns-then-n-gt3240000000
-returns-then-n-gt3240000000 c = rw (n c, e c) (search signed-tests)
+returns-then-n-gt3240000000 c = let n : nat_abs c.args.north ≡ c.magnitude-n.result = sym (c.magnitude-n.ensures ∙ ap nat_abs (is-back c.ranges.north)) in
+    let e : nat_abs c.args.east ≡ c.magnitude-e.result = sym (c.magnitude-e.ensures ∙ ap nat_abs (is-back c.ranges.east)) in
+    rw (n, e) (search signed-tests)
 
 pub returns-then-e-gt6480000000 : goal.returns-then-e-gt6480000000
-returns-then-e-gt6480000000 c = rw (n c, e c) (search (signed-tests, le-ltb _ _ c.if-n-gt3240000000.false))
+returns-then-e-gt6480000000 c = let n : nat_abs c.args.north ≡ c.magnitude-n.result = sym (c.magnitude-n.ensures ∙ ap nat_abs (is-back c.ranges.north)) in
+    let e : nat_abs c.args.east ≡ c.magnitude-e.result = sym (c.magnitude-e.ensures ∙ ap nat_abs (is-back c.ranges.east)) in
+    rw (n, e) (search (signed-tests, le-ltb _ _ c.if-n-gt3240000000.false))
 
 pub returns-then-number-eq1023 : goal.returns-then-number-eq1023
-returns-then-number-eq1023 c = rw (n c, e c) (search (signed-tests, le-ltb _ _ c.if-n-gt3240000000.false, le-ltb _ _ c.if-e-gt6480000000.false))
+returns-then-number-eq1023 c = let n : nat_abs c.args.north ≡ c.magnitude-n.result = sym (c.magnitude-n.ensures ∙ ap nat_abs (is-back c.ranges.north)) in
+    let e : nat_abs c.args.east ≡ c.magnitude-e.result = sym (c.magnitude-e.ensures ∙ ap nat_abs (is-back c.ranges.east)) in
+    rw (n, e) (search (signed-tests, le-ltb _ _ c.if-n-gt3240000000.false, le-ltb _ _ c.if-e-gt6480000000.false))
 
 pub returns-then-n-gt1000000000000 : goal.returns-then-n-gt1000000000000
-returns-then-n-gt1000000000000 c = rw (n c, e c) (search signed-tests)
+returns-then-n-gt1000000000000 c = let n : nat_abs c.args.north ≡ c.magnitude-n.result = sym (c.magnitude-n.ensures ∙ ap nat_abs (is-back c.ranges.north)) in
+    let e : nat_abs c.args.east ≡ c.magnitude-e.result = sym (c.magnitude-e.ensures ∙ ap nat_abs (is-back c.ranges.east)) in
+    rw (n, e) (search signed-tests)
 
 pub returns-then-e-gt1000000000000 : goal.returns-then-e-gt1000000000000
-returns-then-e-gt1000000000000 c = rw (n c, e c) (search (signed-tests, le-ltb _ _ c.if-n-gt1000000000000.false))
+returns-then-e-gt1000000000000 c = let n : nat_abs c.args.north ≡ c.magnitude-n.result = sym (c.magnitude-n.ensures ∙ ap nat_abs (is-back c.ranges.north)) in
+    let e : nat_abs c.args.east ≡ c.magnitude-e.result = sym (c.magnitude-e.ensures ∙ ap nat_abs (is-back c.ranges.east)) in
+    rw (n, e) (search (signed-tests, le-ltb _ _ c.if-n-gt1000000000000.false))
 
 pub returns : goal.returns
-returns c = rw (n c, e c) (search (signed-tests, le-ltb _ _ c.if-n-gt1000000000000.false, le-ltb _ _ c.if-e-gt1000000000000.false))
+returns c = let n : nat_abs c.args.north ≡ c.magnitude-n.result = sym (c.magnitude-n.ensures ∙ ap nat_abs (is-back c.ranges.north)) in
+    let e : nat_abs c.args.east ≡ c.magnitude-e.result = sym (c.magnitude-e.ensures ∙ ap nat_abs (is-back c.ranges.east)) in
+    rw (n, e) (search (signed-tests, le-ltb _ _ c.if-n-gt1000000000000.false, le-ltb _ _ c.if-e-gt1000000000000.false))
 
 pub magnitude-n-requires : goal.magnitude-n-requires
 magnitude-n-requires c = tt

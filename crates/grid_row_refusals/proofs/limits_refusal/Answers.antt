@@ -31,25 +31,19 @@ returns-then-step-lt0 c = let a = c.args in
     let e : lt_z a.step (pos 0) ≡ true = test (any a.step c.ranges.step) (lit 0 tt) c.if-step-lt0.true in
     rw (le-ltb 2 a.component c.if-component-gt2.false, ne_eqb a.count 0 c.if-count-eq0.false, le-ltb 4096 a.count c.if-count-gt4096.false, e)
 
-module _ (c : tie.Else4) where
-  abbrev s : tie.Start
-  s = c.before.before.before.before
-
-  up : lt_z s.args.step (pos 0) ≡ false
-  up = test (any s.args.step s.fits.step) (lit 0 tt) c.if4.false
-
 pub ends_refusal-requires : goal.ends_refusal-requires
-ends_refusal-requires c = (
+ends_refusal-requires c = let up : lt_z c.args.step (pos 0) ≡ false = test (any c.args.step c.ranges.step) (lit 0 tt) c.if-step-lt0.false in (
   c.if-component-gt2.false,
   omega (arith, c.if-count-eq0.false),
   c.if-count-gt4096.false,
-  subst (λ (z : ℤ). pos 0 ≤ℤ z) (sym (is-back (s c).ranges.step)) (not-less (up c)),
+  subst (λ (z : ℤ). pos 0 ≤ℤ z) (sym (is-back c.ranges.step)) (not-less up),
 )
 
 pub returns : goal.returns
 unfolding misplaced
-returns c = let a = (s c).args in
-    let f = (s c).ranges in
-    rw (le-ltb 2 a.component c.if-component-gt2.false, ne_eqb a.count 0 c.if-count-eq0.false, le-ltb 4096 a.count c.if-count-gt4096.false, up c)
+returns c = let up : lt_z c.args.step (pos 0) ≡ false = test (any c.args.step c.ranges.step) (lit 0 tt) c.if-step-lt0.false in
+    let a = c.args in
+    let f = c.ranges in
+    rw (le-ltb 2 a.component c.if-component-gt2.false, ne_eqb a.count 0 c.if-count-eq0.false, le-ltb 4096 a.count c.if-count-gt4096.false, up)
     (c.ends_refusal.ensures
     ∙ (λ i. cond (any_beyond (is-back f.number i) (is-back f.north i) (is-back f.east i) (is-back f.step i) a.count) 9 0))

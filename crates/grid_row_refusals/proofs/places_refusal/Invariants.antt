@@ -14,7 +14,7 @@ use Rattle.grid_row_refusals.proofs.places_refusal.Given as goal
 
 abbrev pub invariant-loop-i : goal.invariant-loop-i
 invariant-loop-i l =
-    (l.i ≤ l.count) × (first_refused l.message l.component (to_z w64 l.north) (to_z w64 l.east) (pos l.step) 0 l.i ≡ 0)
+    (l.i ≤ l.count) × (first_refused l.message l.component l.north l.east (pos l.step) 0 l.i ≡ 0)
 
 abbrev pub decreases-loop-i : goal.decreases-loop-i
 decreases-loop-i l = l.count - l.i

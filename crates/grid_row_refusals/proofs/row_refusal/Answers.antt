@@ -25,77 +25,96 @@ pub returns-then-kind-ne0 : goal.returns-then-kind-ne0
 returns-then-kind-ne0 c = let a = c.args in
     kind-refuses a.message.now a.component a.north a.east a.step a.count a.room c.check_kind-kind.ensures c.if-kind-ne0.true
 
-module _ (k : tie.After-limits-refusal) where
-  abbrev s : tie.Start
-  s = k.before.before.before.before.before.before
-
-  abbrev m : List ℕ
-  m = s.args.message.now
-
-  abbrev settings : Settings
-  settings = k.before.before.settings-at.result
-
-  none : kind_refusal 1023 1024 m ≡ 0
-  none = sym k.before.before.before.before.check-kind.ensures ∙ k.before.before.before.if1.left
-
-  number : settings.number ≡ (grid_of (says (row m))).number
-  number = number-said m none k.before.before.settings-at.ensures
-
-  known : k.limits-refusal.result
-      ≡ first ((8, ltb 2 s.args.component) ∷ (9, misplaced (grid_of (says (row m))).number s.args.north s.args.east s.args.step s.args.count) ∷ [])
-  known =
-      k.limits-refusal.ensures
-      ∙ (λ i. first ((8, ltb 2 s.args.component)
-      ∷ (9, misplaced ((held settings.number k.before.struct_told.given.0.1 ∙ number) i) (is-back s.fits.north i) (is-back s.fits.east i) (is-back s.fits.step i) s.args.count)
-      ∷ []))
-
 pub returns-then-limits-ne0 : goal.returns-then-limits-ne0
-returns-then-limits-ne0 c = let a = (s c).args in
-    limits-refuse (m c) a.component a.north a.east a.step a.count a.room (none c) (known c) c.if-limits-ne0.true
-
-module _ (c : tie.Else2) where
-  abbrev k : tie.After-limits-refusal
-  k = c.before
-
-  within : first ((8, ltb 2 (s k).args.component) ∷ (9, misplaced (grid_of (says (row (m k)))).number (s k).args.north (s k).args.east (s k).args.step (s k).args.count) ∷ []) ≡ 0
-  within = sym (known k) ∙ c.if2.false
-
-  fits : Fit (grid_of (says (row (m k)))).number (s k).args.north (s k).args.east (s k).args.step (s k).args.count
-  fits = row-fit (m k) (s k).args.component (s k).args.north (s k).args.east (s k).args.step (s k).args.count (s k).args.room (none k) within
-
-  back : to_z w64 (of_z w64 (s k).args.step) ≡ (s k).args.step
-  back = is-back (s k).fits.step
+returns-then-limits-ne0 c = let m : List ℕ = c.args.message.now in
+    let none : kind_refusal 1023 1024 m ≡ 0 = sym c.check_kind-kind.ensures ∙ c.if-kind-ne0.left in
+    let number : settings c.number ≡ (grid_of (says (row m))).number = number-said m none c.settings_at-f.ensures in
+    let known : c.limits_refusal-limits.result ≡ first ((8, ltb 2 c.args.component) ∷ (9, misplaced (grid_of (says (row m))).number c.args.north c.args.east c.args.step c.args.count) ∷ []) = c.limits_refusal-limits.ensures
+    ∙ (λ i. first ((8, ltb 2 c.args.component)
+    ∷ (9, misplaced ((held settings c.number c.type_inv.f.0.1 ∙ number) i) (is-back c.ranges.north i) (is-back c.ranges.east i) (is-back c.ranges.step i) c.args.count)
+    ∷ [])) in
+    let a = c.args in
+    limits-refuse m a.component a.north a.east a.step a.count a.room none known c.if-limits-ne0.true
 
 pub overflow_cast-step : goal.overflow_cast-step
-overflow_cast-step c = let z = s (k c) in
-    let e = cast-natural z.args.step z.fits.step.sfits (fits c).up in
-    rw (back c) (e.0, record { fits = e.1 })
+overflow_cast-step c = let m : List ℕ = c.args.message.now in
+    let none : kind_refusal 1023 1024 m ≡ 0 = sym c.check_kind-kind.ensures ∙ c.if-kind-ne0.left in
+    let number : settings c.number ≡ (grid_of (says (row m))).number = number-said m none c.settings_at-f.ensures in
+    let known : c.limits_refusal-limits.result ≡ first ((8, ltb 2 c.args.component) ∷ (9, misplaced (grid_of (says (row m))).number c.args.north c.args.east c.args.step c.args.count) ∷ []) = c.limits_refusal-limits.ensures
+    ∙ (λ i. first ((8, ltb 2 c.args.component)
+    ∷ (9, misplaced ((held settings c.number c.type_inv.f.0.1 ∙ number) i) (is-back c.ranges.north i) (is-back c.ranges.east i) (is-back c.ranges.step i) c.args.count)
+    ∷ [])) in
+    let within : first ((8, ltb 2 c.args.component) ∷ (9, misplaced (grid_of (says (row m))).number c.args.north c.args.east c.args.step c.args.count) ∷ []) ≡ 0 = sym known ∙ c.if-limits-ne0.false in
+    let fits : Fit (grid_of (says (row m))).number c.args.north c.args.east c.args.step c.args.count = row-fit m c.args.component c.args.north c.args.east c.args.step c.args.count c.args.room none within in
+    let back : to_z w64 (of_z w64 c.args.step) ≡ c.args.step = is-back c.ranges.step in
+    let z = s c in
+    let e = cast-natural z.args.step z.fits.step.sfits fits.up in
+    rw back (e.0, record { fits = e.1 })
 
 pub places_refusal-places-requires : goal.places_refusal-places-requires
-places_refusal-places-requires c = let k = k c in
-    rw (is-back (s k).fits.north, is-back (s k).fits.east, back c) (ready (none k) k.before.before.settings-at.ensures (fits c))
-
-module _ (q : tie.After-places-refusal) where
-  abbrev b : tie.Else2
-  b = q.before
-
-  abbrev z : tie.Start
-  z = s (k b)
-
-  found : q.places-refusal.result ≡ first_refused z.args.message.now z.args.component z.args.north z.args.east z.args.step 0 z.args.count
-  found =
-      q.places-refusal.ensures
-      ∙ (λ i. first_refused z.args.message.now z.args.component (is-back z.fits.north i) (is-back z.fits.east i) (pos (nat_abs (back b i))) 0 z.args.count)
-      ∙ ap (λ (t : ℤ). first_refused z.args.message.now z.args.component z.args.north z.args.east t 0 z.args.count) (natural-step z.args.step (fits b).up)
+places_refusal-places-requires c = let m : List ℕ = c.args.message.now in
+    let none : kind_refusal 1023 1024 m ≡ 0 = sym c.check_kind-kind.ensures ∙ c.if-kind-ne0.left in
+    let number : settings c.number ≡ (grid_of (says (row m))).number = number-said m none c.settings_at-f.ensures in
+    let known : c.limits_refusal-limits.result ≡ first ((8, ltb 2 c.args.component) ∷ (9, misplaced (grid_of (says (row m))).number c.args.north c.args.east c.args.step c.args.count) ∷ []) = c.limits_refusal-limits.ensures
+    ∙ (λ i. first ((8, ltb 2 c.args.component)
+    ∷ (9, misplaced ((held settings c.number c.type_inv.f.0.1 ∙ number) i) (is-back c.ranges.north i) (is-back c.ranges.east i) (is-back c.ranges.step i) c.args.count)
+    ∷ [])) in
+    let within : first ((8, ltb 2 c.args.component) ∷ (9, misplaced (grid_of (says (row m))).number c.args.north c.args.east c.args.step c.args.count) ∷ []) ≡ 0 = sym known ∙ c.if-limits-ne0.false in
+    let fits : Fit (grid_of (says (row m))).number c.args.north c.args.east c.args.step c.args.count = row-fit m c.args.component c.args.north c.args.east c.args.step c.args.count c.args.room none within in
+    let back : to_z w64 (of_z w64 c.args.step) ≡ c.args.step = is-back c.ranges.step in
+    let k = k c in
+    rw (is-back (s k).fits.north, is-back (s k).fits.east, back) (ready (none k) k.before.before.settings-at.ensures fits)
 
 pub returns-then-places-ne0 : goal.returns-then-places-ne0
-returns-then-places-ne0 c = let a = (z c).args in
-    places-refuse a.message.now a.component a.north a.east a.step a.count a.room (none (k (b c))) (within (b c)) (found c) c.if-places-ne0.true
+returns-then-places-ne0 c = let m : List ℕ = c.args.message.now in
+    let none : kind_refusal 1023 1024 m ≡ 0 = sym c.check_kind-kind.ensures ∙ c.if-kind-ne0.left in
+    let number : settings c.number ≡ (grid_of (says (row m))).number = number-said m none c.settings_at-f.ensures in
+    let known : c.limits_refusal-limits.result ≡ first ((8, ltb 2 c.args.component) ∷ (9, misplaced (grid_of (says (row m))).number c.args.north c.args.east c.args.step c.args.count) ∷ []) = c.limits_refusal-limits.ensures
+    ∙ (λ i. first ((8, ltb 2 c.args.component)
+    ∷ (9, misplaced ((held settings c.number c.type_inv.f.0.1 ∙ number) i) (is-back c.ranges.north i) (is-back c.ranges.east i) (is-back c.ranges.step i) c.args.count)
+    ∷ [])) in
+    let within : first ((8, ltb 2 c.args.component) ∷ (9, misplaced (grid_of (says (row m))).number c.args.north c.args.east c.args.step c.args.count) ∷ []) ≡ 0 = sym known ∙ c.if-limits-ne0.false in
+    let fits : Fit (grid_of (says (row m))).number c.args.north c.args.east c.args.step c.args.count = row-fit m c.args.component c.args.north c.args.east c.args.step c.args.count c.args.room none within in
+    let back : to_z w64 (of_z w64 c.args.step) ≡ c.args.step = is-back c.ranges.step in
+    let z : tie.Start = s c in
+    let found : c.places_refusal-places.result ≡ first_refused z c.args.message.now z c.args.component z c.args.north z c.args.east z c.args.step 0 z c.args.count = c.places_refusal-places.ensures
+    ∙ (λ i. first_refused z c.args.message.now z c.args.component (is-back z c.fits.north i) (is-back z c.fits.east i) (pos (nat_abs (back i))) 0 z c.args.count)
+    ∙ ap (λ (t : ℤ). first_refused z c.args.message.now z c.args.component z c.args.north z c.args.east t 0 z c.args.count) (natural-step z c.args.step fits.up) in
+    let a = z.args in
+    places-refuse a.message.now a.component a.north a.east a.step a.count a.room (none (k c)) within found c.if-places-ne0.true
 
 pub returns-then-room-count : goal.returns-then-room-count
-returns-then-room-count c = let a = (z c).args in
-    room-refuses a.message.now a.component a.north a.east a.step a.count a.room (none (k (b c))) (within (b c)) (found c) c.if-places-ne0.false c.if-room-count.true
+returns-then-room-count c = let m : List ℕ = c.args.message.now in
+    let none : kind_refusal 1023 1024 m ≡ 0 = sym c.check_kind-kind.ensures ∙ c.if-kind-ne0.left in
+    let number : settings c.number ≡ (grid_of (says (row m))).number = number-said m none c.settings_at-f.ensures in
+    let known : c.limits_refusal-limits.result ≡ first ((8, ltb 2 c.args.component) ∷ (9, misplaced (grid_of (says (row m))).number c.args.north c.args.east c.args.step c.args.count) ∷ []) = c.limits_refusal-limits.ensures
+    ∙ (λ i. first ((8, ltb 2 c.args.component)
+    ∷ (9, misplaced ((held settings c.number c.type_inv.f.0.1 ∙ number) i) (is-back c.ranges.north i) (is-back c.ranges.east i) (is-back c.ranges.step i) c.args.count)
+    ∷ [])) in
+    let within : first ((8, ltb 2 c.args.component) ∷ (9, misplaced (grid_of (says (row m))).number c.args.north c.args.east c.args.step c.args.count) ∷ []) ≡ 0 = sym known ∙ c.if-limits-ne0.false in
+    let fits : Fit (grid_of (says (row m))).number c.args.north c.args.east c.args.step c.args.count = row-fit m c.args.component c.args.north c.args.east c.args.step c.args.count c.args.room none within in
+    let back : to_z w64 (of_z w64 c.args.step) ≡ c.args.step = is-back c.ranges.step in
+    let z : tie.Start = s c in
+    let found : c.places_refusal-places.result ≡ first_refused z c.args.message.now z c.args.component z c.args.north z c.args.east z c.args.step 0 z c.args.count = c.places_refusal-places.ensures
+    ∙ (λ i. first_refused z c.args.message.now z c.args.component (is-back z c.fits.north i) (is-back z c.fits.east i) (pos (nat_abs (back i))) 0 z c.args.count)
+    ∙ ap (λ (t : ℤ). first_refused z c.args.message.now z c.args.component z c.args.north z c.args.east t 0 z c.args.count) (natural-step z c.args.step fits.up) in
+    let a = z.args in
+    room-refuses a.message.now a.component a.north a.east a.step a.count a.room (none (k c)) within found c.if-places-ne0.false c.if-room-count.true
 
 pub returns : goal.returns
-returns c = let a = (z c).args in
-    none-refuses a.message.now a.component a.north a.east a.step a.count a.room (none (k (b c))) (within (b c)) (found c) c.if-places-ne0.false c.if-room-count.false
+returns c = let m : List ℕ = c.args.message.now in
+    let none : kind_refusal 1023 1024 m ≡ 0 = sym c.check_kind-kind.ensures ∙ c.if-kind-ne0.left in
+    let number : settings c.number ≡ (grid_of (says (row m))).number = number-said m none c.settings_at-f.ensures in
+    let known : c.limits_refusal-limits.result ≡ first ((8, ltb 2 c.args.component) ∷ (9, misplaced (grid_of (says (row m))).number c.args.north c.args.east c.args.step c.args.count) ∷ []) = c.limits_refusal-limits.ensures
+    ∙ (λ i. first ((8, ltb 2 c.args.component)
+    ∷ (9, misplaced ((held settings c.number c.type_inv.f.0.1 ∙ number) i) (is-back c.ranges.north i) (is-back c.ranges.east i) (is-back c.ranges.step i) c.args.count)
+    ∷ [])) in
+    let within : first ((8, ltb 2 c.args.component) ∷ (9, misplaced (grid_of (says (row m))).number c.args.north c.args.east c.args.step c.args.count) ∷ []) ≡ 0 = sym known ∙ c.if-limits-ne0.false in
+    let fits : Fit (grid_of (says (row m))).number c.args.north c.args.east c.args.step c.args.count = row-fit m c.args.component c.args.north c.args.east c.args.step c.args.count c.args.room none within in
+    let back : to_z w64 (of_z w64 c.args.step) ≡ c.args.step = is-back c.ranges.step in
+    let z : tie.Start = s c in
+    let found : c.places_refusal-places.result ≡ first_refused z c.args.message.now z c.args.component z c.args.north z c.args.east z c.args.step 0 z c.args.count = c.places_refusal-places.ensures
+    ∙ (λ i. first_refused z c.args.message.now z c.args.component (is-back z c.fits.north i) (is-back z c.fits.east i) (pos (nat_abs (back i))) 0 z c.args.count)
+    ∙ ap (λ (t : ℤ). first_refused z c.args.message.now z c.args.component z c.args.north z c.args.east t 0 z c.args.count) (natural-step z c.args.step fits.up) in
+    let a = z.args in
+    none-refuses a.message.now a.component a.north a.east a.step a.count a.room (none (k c)) within found c.if-places-ne0.false c.if-room-count.false

@@ -28,35 +28,32 @@ fill-requires c = let level : nat_abs (to_z w64 (of_z w64 c.args.mean)) ≤ 1000
 pub returns-then-row-lt2 : goal.returns-then-row-lt2
 returns-then-row-lt2 c = alone c.requires c.if-row-lt2.true (number_of (c.args.h * c.args.w) (pos 0) 0) (is-back c.ranges.mean) c.part_at-first.ensures.0.total c.fill.ensures
 
-module _ (c : tie.Else1) where
-  abbrev s : tie.Start
-  s = c.before.before
-
-  two : s.args.x + s.args.step ≤ s.args.w
-  two = second-in s.pre c.if1.false
-
 pub part_at-second-requires : goal.part_at-second-requires
-part_at-second-requires c = let p = (s c).requires in
+part_at-second-requires c = let two : c.args.x + c.args.step ≤ c.args.w = second-in c.requires c.if-row-lt2.false in
+    let p = c.requires in
     let w = p.within in
-    (record { north = w.north; east = two c; high = w.high; wide = w.wide }, p.nodes, p.factor)
+    (record { north = w.north; east = two; high = w.high; wide = w.wide }, p.nodes, p.factor)
 
 pub fill-requires-2 : goal.fill-requires-2
-fill-requires-2 c = let p = c.part_at-first.ensures in
+fill-requires-2 c = let level : nat_abs (to_z w64 (of_z w64 c.args.mean)) ≤ 10000000 = subst (λ (z : ℤ). nat_abs z ≤ 10000000) (sym (is-back c.ranges.mean)) c.requires.level in
+    let p = c.part_at-first.ensures in
     record {
       rest = p.0.rest;
       grows = c.growth.ensures.rest;
       whole = omega (arith, p.1);
       slope = omega (arith, c.growth.ensures.most);
-      level = level (s c);
-      places = (s c).requires.most;
+      level = level;
+      places = c.requires.most;
     }
 
 pub returns : goal.returns
-returns c = growing (s c).requires c.if-row-lt2.false (is-back (s c).ranges.mean) c.part_at-first.ensures.0.total c.part_at-second.ensures.0.total
+returns c = growing c.requires c.if-row-lt2.false (is-back c.ranges.mean) c.part_at-first.ensures.0.total c.part_at-second.ensures.0.total
     c.growth.ensures.total c.fill-2.ensures
 
 pub overflow_mul-area : goal.overflow_mul-area
 overflow_mul-area c = fits-weight (area-most c.requires.within)
 
 pub overflow_add-x : goal.overflow_add-x
-overflow_add-x c = omega (arith, two c, (s c).requires.within.wide.1)
+overflow_add-x c =
+    let two : c.args.x + c.args.step ≤ c.args.w = second-in c.requires c.if-row-lt2.false in
+    omega (arith, two, c.requires.within.wide.1)

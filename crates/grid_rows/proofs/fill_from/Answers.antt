@@ -25,92 +25,86 @@ use Rattle.grid_rows.specs.Private.{cell_counts, count_at}
 use Rattle.grid_rows.proofs.Counts.{bounds, counts-are}
 use Rattle.grid_rows.proofs.fill_from.Goals as goal
 
-module _ (s : tie.Start) where
-  abbrev t : Num
-  t = stands s.requires.0.ready s.args.i s.requires.1
-
-  way : s.args.i * s.args.step ≤ 2000000000000
-  way = way-most s.pre.0.ready s.args.i s.pre.1
-
-module _ (k : tie.After-locate) where
-  abbrev s : tie.Start
-  s = k.before.before
-
-  abbrev p : Located
-  p = k.locate.result
-
-  is : p ≡ held_place s.args.f s.args.component s.args.north (east_at s.args.east (pos s.args.step) s.args.i)
-  is = k.locate.ensures ∙ (λ i. held_place s.args.f s.args.component (is-back s.fits.north i) ((t s).held i))
-
-module _ (q : tie.After-places-in) where
-  abbrev k : tie.After-locate
-  k = q.before
-
-  abbrev b : tie.Start
-  b = s k
-
-  abbrev n : ℕ
-  n = q.places-in.result
-
-  abbrev end : ℕ
-  end = b.args.i + n
-
-  reach : Reaches (b.args.count - b.args.i) (p k).width (p k).east b.args.step n
-  reach =
-      subst (Reaches (b.args.count - b.args.i) (p k).width (p k).east b.args.step) (sym q.places-in.ensures.0)
-      (reaches (b.args.count - b.args.i) (p k).width (p k).east b.args.step (omega (arith, b.pre.1)) (bounds b.pre.0 b.args.i b.pre.1 (is k)).within.east)
-
-  inside : end ≤ b.args.count
-  inside = omega (arith, reach.most, b.pre.1)
-
-  -- the places of the run
-  long : length (mid_of b.args.i (end - b.args.i) b.args.row.now) ≡ n
-  long =
-      let e : end - b.args.i ≡ n = omega arith in
-      mid_len b.args.i end b.args.row.now (omega (arith, inside, b.pre.0.enough)) ∙ e
-
 asked : {m n w : ℕ} (a step : ℕ) {P : Type 0} → m ≡ n → P → 0 < n → n ≤ 4096 → a + (n - 1) * step ≤ w → P × (0 < m) × (m ≤ 4096) × (a + (m - 1) * step ≤ w)
 asked a step q p h b d = (p, rw q h, rw q b, rw q d)
 
 pub fill_run-requires : goal.fill_run-requires
-fill_run-requires c = let z = b c in
-    let r = reach c in
-    asked (p (k c)).east z.args.step (long c) (bounds z.pre.0 z.args.i z.pre.1 (is (k c))) r.some (omega (arith, inside c, z.pre.0.ready.most)) r.last
+fill_run-requires c = let t : Num = stands c.requires.0.ready c.args.i c.requires.1 in
+    let p : Located = c.locate-p.result in
+    let is : p ≡ held_place c.args.f c.args.component c.args.north (east_at c.args.east (pos c.args.step) c.args.i) = c.locate-p.ensures ∙ (λ i. held_place c.args.f c.args.component (is-back c.ranges.north i) (t.held i)) in
+    let b : tie.Start = s c in
+    let n : ℕ = c.places_in.result in
+    let end : ℕ = b c.args.i + n in
+    let reach : Reaches (b c.args.count - b c.args.i) p.width p.east b c.args.step n = subst (Reaches (b c.args.count - b c.args.i) p.width p.east b c.args.step) (sym c.places_in.ensures.number)
+    (reaches (b c.args.count - b c.args.i) p.width p.east b c.args.step (omega (arith, b c.pre.1)) (bounds b c.pre.0 b c.args.i b c.pre.1 is).within.east) in
+    let inside : end ≤ b c.args.count = omega (arith, reach c.most, b c.pre.1) in
+    let long : length (mid_of b c.args.i (end - b c.args.i) b c.args.row.now) ≡ n = let e : end - b c.args.i ≡ n = omega arith in
+    mid_len b c.args.i end b c.args.row.now (omega (arith, inside, b c.pre.0.enough)) ∙ e in
+    let z = b in
+    let r = reach in
+    asked p.east z.args.step long (bounds z.pre.0 z.args.i z.pre.1 is) r.some (omega (arith, inside, z.pre.0.ready.most)) r.last
 
 pub returns : goal.returns
-returns c = let z = b c in
+returns c = let t : Num = stands c.requires.0.ready c.args.i c.requires.1 in
+    let p : Located = c.locate-p.result in
+    let is : p ≡ held_place c.args.f c.args.component c.args.north (east_at c.args.east (pos c.args.step) c.args.i) = c.locate-p.ensures ∙ (λ i. held_place c.args.f c.args.component (is-back c.ranges.north i) (t.held i)) in
+    let b : tie.Start = s c in
+    let n : ℕ = c.places_in.result in
+    let end : ℕ = b c.args.i + n in
+    let reach : Reaches (b c.args.count - b c.args.i) p.width p.east b c.args.step n = subst (Reaches (b c.args.count - b c.args.i) p.width p.east b c.args.step) (sym c.places_in.ensures.number)
+    (reaches (b c.args.count - b c.args.i) p.width p.east b c.args.step (omega (arith, b c.pre.1)) (bounds b c.pre.0 b c.args.i b c.pre.1 is).within.east) in
+    let inside : end ≤ b c.args.count = omega (arith, reach c.most, b c.pre.1) in
+    let long : length (mid_of b c.args.i (end - b c.args.i) b c.args.row.now) ≡ n = let e : end - b c.args.i ≡ n = omega arith in
+    mid_len b c.args.i end b c.args.row.now (omega (arith, inside, b c.pre.0.enough)) ∙ e in
+    let z = b in
     let a = z.args in
-    let w = p (k c) in
-    let r = reach c in
-    let v : a.i + n c - a.i ≡ n c = omega arith in
+    let w = p in
+    let r = reach in
+    let v : a.i + n - a.i ≡ n = omega arith in
     let counts : ℤ → ℕ → List ℤ = λ m l. up_to (cell_counts (pos mean_factor *ℤ value_in (mean_says a.message.now a.component)) (node_factor m a.component) w.height w.width w.north w.east a.step
     (values_in (cell_says a.message.now a.component w.row w.column))) l in
     let filled =
-    c.fill_run.ensures ∙ (λ i. counts (held a.f.number c.type_inv.f.0.1 i) (long c i))
-    ∙ counts-are z.pre.0 a.i z.pre.1 (is (k c)) (n c) r.most r.last in record {
+    c.fill_run.ensures ∙ (λ i. counts (held a.f.number c.type_inv.f.0.1 i) (long i))
+    ∙ counts-are z.pre.0 a.i z.pre.1 is n r.most r.last in record {
       filled = record {
         some = omega (arith, r.some);
-        most = inside c;
+        most = inside;
         row =
-            ap (put_mid a.i (a.i + n c - a.i) a.row.now) filled
-            ∙ ap (λ (l : List ℤ). take a.i a.row.now ++ (up_to (λ j. count_at a.message.now a.component a.north a.east (pos a.step) (a.i + j)) (n c) ++ l))
-            (Post-is a.i (a.i + n c) a.row.now (omega arith))
-            ∙ ap (λ (m : ℕ). take a.i a.row.now ++ (up_to (λ j. count_at a.message.now a.component a.north a.east (pos a.step) (a.i + j)) m ++ drop (a.i + n c) a.row.now)) (sym v);
+            ap (put_mid a.i (a.i + n - a.i) a.row.now) filled
+            ∙ ap (λ (l : List ℤ). take a.i a.row.now ++ (up_to (λ j. count_at a.message.now a.component a.north a.east (pos a.step) (a.i + j)) n ++ l))
+            (Post-is a.i (a.i + n) a.row.now (omega arith))
+            ∙ ap (λ (m : ℕ). take a.i a.row.now ++ (up_to (λ j. count_at a.message.now a.component a.north a.east (pos a.step) (a.i + j)) m ++ drop (a.i + n) a.row.now)) (sym v);
       };
-      reaches = ap (λ (m : ℕ). a.i + m) c.places_in.ensures.number ∙ ap (λ (l : Located). a.i + places_in (a.count - a.i) l.width l.east a.step) (is (k c));
+      reaches = ap (λ (m : ℕ). a.i + m) c.places_in.ensures.number ∙ ap (λ (l : Located). a.i + places_in (a.count - a.i) l.width l.east a.step) is;
     }
 
 pub overflow_mul-t : goal.overflow_mul-t
-overflow_mul-t c = record { fits = omega (arith, way c) }
+overflow_mul-t c =
+    let way : c.args.i * c.args.step ≤ 2000000000000 = way-most c.requires.0.ready c.args.i c.requires.1 in
+    record { fits = omega (arith, way) }
 
 pub overflow_cast-t : goal.overflow_cast-t
-overflow_cast-t c = (cast (c.args.i * c.args.step) 2000000000000 (way c) tt).fit
+overflow_cast-t c =
+    let way : c.args.i * c.args.step ≤ 2000000000000 = way-most c.requires.0.ready c.args.i c.requires.1 in
+    (cast (c.args.i * c.args.step) 2000000000000 way tt).fit
 
 pub overflow_add-t : goal.overflow_add-t
-overflow_add-t c = fits (t c)
+overflow_add-t c =
+    let t : Num = stands c.requires.0.ready c.args.i c.requires.1 in
+    fits t
 
 pub overflow_add-end : goal.overflow_add-end
-overflow_add-end c = record { fits = omega (arith, inside c, (b c).requires.0.ready.most) }
+overflow_add-end c =
+    let b : tie.Start = s c in
+    let n : ℕ = c.places_in.result in
+    let end : ℕ = b c.args.i + n in
+    let inside : end ≤ b c.args.count = omega (arith, reach c.most, b c.pre.1) in
+    record { fits = omega (arith, inside, b.requires.0.ready.most) }
 
 pub slice_bounds-fill_run-end : goal.slice_bounds-fill_run-end
-slice_bounds-fill_run-end c = omega (arith, inside c, (b c).requires.0.enough)
+slice_bounds-fill_run-end c =
+    let b : tie.Start = s c in
+    let n : ℕ = c.places_in.result in
+    let end : ℕ = b c.args.i + n in
+    let inside : end ≤ b c.args.count = omega (arith, reach c.most, b c.pre.1) in
+    omega (arith, inside, b.requires.0.enough)

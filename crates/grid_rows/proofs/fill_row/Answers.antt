@@ -17,27 +17,20 @@ use Rattle.grid_rows.proofs.fill_row.Goals as goal
 pub loop-i-init : goal.loop-i-init
 loop-i-init c = (omega arith, refl, refl)
 
-module _ (s : tie.Start invariant-loop decreases-loop) where
-  abbrev counts : ℕ → ℤ
-  counts = count_at s.args.message.now s.args.component (to_z w64 (of_z w64 s.args.north)) (to_z w64 (of_z w64 s.args.east)) (pos s.args.step)
-
-  answered : {room : ℕ} → room ≡ length s.args.row.now
-      → Answered s.args.message.now s.args.f s.args.component (to_z w64 (of_z w64 s.args.north)) (to_z w64 (of_z w64 s.args.east)) s.args.step s.args.count room
-  answered {room} q =
-      let a =
-      subst₂ (λ (x y : ℤ). Answered s.args.message.now s.args.f s.args.component x y s.args.step s.args.count (length s.args.row.now))
-      (sym (is-back s.fits.north)) (sym (is-back s.fits.east)) s.pre in
-      record { ready = a.ready; none = a.none; enough = rw q a.enough }
-
 pub fill_from-i-requires : goal.fill_from-i-requires
-fill_from-i-requires c = (answered c c.loop-i.invariant.1, c.loop-i-test.true)
+fill_from-i-requires c = let answered : {room : ℕ} → room ≡ length c.args.row.now → Answered c.args.message.now c.args.f c.args.component (to_z w64 (of_z w64 c.args.north)) (to_z w64 (of_z w64 c.args.east)) c.args.step c.args.count room = λ {room} q. let a =
+    subst₂ (λ (x y : ℤ). Answered c.args.message.now c.args.f c.args.component x y c.args.step c.args.count (length c.args.row.now))
+    (sym (is-back c.ranges.north)) (sym (is-back c.ranges.east)) c.requires in
+    record { ready = a.ready; none = a.none; enough = rw q a.enough } in
+    (answered c.loop-i.invariant.1, c.loop-i-test.true)
 
 pub loop-i-preserved : goal.loop-i-preserved
-loop-i-preserved c = let r = c.fill_from-i.ensures.filled in (
-  r.most,
-  c.fill_from-i.auto.0 ∙ c.loop-i.invariant.1,
-  fills-on (counts c) c.args.row.now c.loop-i.row c.loop-i.i c.loop-i.invariant.2 _ _ r.some r.row,
-)
+loop-i-preserved c = let counts : ℕ → ℤ = count_at c.args.message.now c.args.component (to_z w64 (of_z w64 c.args.north)) (to_z w64 (of_z w64 c.args.east)) (pos c.args.step) in
+    let r = c.fill_from-i.ensures.filled in (
+      r.most,
+      c.fill_from-i.auto.0 ∙ c.loop-i.invariant.1,
+      fills-on counts c.args.row.now c.loop-i.row c.loop-i.i c.loop-i.invariant.2 _ _ r.some r.row,
+    )
 
 pub returns : goal.returns
 returns c = let a = c.args in

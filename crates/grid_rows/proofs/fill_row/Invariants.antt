@@ -16,7 +16,7 @@ use Rattle.grid_rows.proofs.fill_row.Given as goal
 
 abbrev pub invariant-loop-i : goal.invariant-loop-i
 invariant-loop-i l =
-    (l.i ≤ l.count) × (length l.row ≡ length l.initial.row) × (l.row ≡ up_to (count_at l.message l.component (to_z w64 l.north) (to_z w64 l.east) (pos l.step)) l.i ++ drop l.i l.initial.row)
+    (l.i ≤ l.count) × (length l.row ≡ length l.initial.row) × (l.row ≡ up_to (count_at l.message l.component l.north l.east (pos l.step)) l.i ++ drop l.i l.initial.row)
 
 abbrev pub decreases-loop-i : goal.decreases-loop-i
 decreases-loop-i l = l.count - l.i

@@ -22,41 +22,25 @@ use Rattle.grid_rows.specs.Private.{cell_counts}
 use Rattle.grid_rows.proofs.Counts.{run_of}
 use Rattle.grid_rows.proofs.fill_run.Goals as goal
 
-module _ (k : tie.After-value-in) where
-  abbrev s : tie.Start
-  s = k.before.before.before.before.before.before
-
-  abbrev m : List ℕ
-  m = s.args.message.now
-
-  abbrev p : Located
-  p = s.args.p
-
-  abbrev mean : Num
-  mean =
-      mul (lit 100 tt)
-      (result k.value_in.result 16384 (k.value_in.ensures ∙ ap value_in k.before.before.before.before.mean-at.ensures) s.pre.0.mean tt) tt
-
-  factor : k.before.before.factor-of.result ≡ node_factor s.args.number s.args.component
-  factor = k.before.before.factor-of.ensures ∙ ap (λ (z : ℤ). node_factor z s.args.component) (is-back s.fits.number)
-
-module _ (c : tie.After-values-of) where
-  abbrev k : tie.After-value-in
-  k = c.before
-
-  nodes : c.values_of.result ≡ values_in (cell_says (m k) (s k).args.component (p k).row (p k).column)
-  nodes = c.values_of.ensures ∙ ap (λ (n : Nodes). values_in n) k.before.before.before.nodes-at.ensures
-
 pub fill_cell-requires : goal.fill_cell-requires
-fill_cell-requires c = let k = k c in
+fill_cell-requires c = let m : List ℕ = c.args.message.now in
+    let p : Located = c.args.p in
+    let nodes : c.values_of.result ≡ values_in (cell_says m c.args.component p.row p.column) = c.values_of.ensures ∙ ap (λ (n : Nodes). values_in n) c.nodes_at-n.ensures in
+    let k = k c in
     let b = (s k).pre in
-    run_of b.0 (s k).args.number (s k).args.component (s k).args.step (length (s k).args.row.now) b.1 b.2 b.3 (mean k).held (factor k) (nodes c)
+    run_of b.0 (s k).args.number (s k).args.component (s k).args.step (length (s k).args.row.now) b.1 b.2 b.3 (mean k).held (factor k) nodes
 
 pub returns : goal.returns
-returns c = let k = k c in
+returns c = let m : List ℕ = c.args.message.now in
+    let p : Located = c.args.p in
+    let nodes : c.values_of.result ≡ values_in (cell_says m c.args.component p.row p.column) = c.values_of.ensures ∙ ap (λ (n : Nodes). values_in n) c.nodes_at-n.ensures in
+    let k = k c in
     let a = (s k).args in
     c.fill_cell.ensures
-    ∙ (λ i. up_to (cell_counts ((mean k).held i) (factor k i) a.p.height a.p.width a.p.north a.p.east a.step (nodes c i)) (length a.row.now))
+    ∙ (λ i. up_to (cell_counts ((mean k).held i) (factor k i) a.p.height a.p.width a.p.north a.p.east a.step (nodes i)) (length a.row.now))
 
 pub overflow_mul-value_in : goal.overflow_mul-value_in
-overflow_mul-value_in c = fits (mean c)
+overflow_mul-value_in c =
+    let mean : Num = mul (lit 100 tt)
+    (result c.value_in.result 16384 (c.value_in.ensures ∙ ap value_in c.mean_at-mean.ensures) c.requires.0.mean tt) tt in
+    fits mean

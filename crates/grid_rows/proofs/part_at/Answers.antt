@@ -14,25 +14,21 @@ use Rattle.grid_cell.proofs.Held.{says-held, sum-held}
 use Rattle.grid_rows.specs.Private.{Split}
 use Rattle.grid_rows.proofs.part_at.Goals as goal
 
-module _ (c : tie.After-sum-in) where
-  abbrev s : tie.Start
-  s = c.before
-
-  sum : to_z w64 (of_z w64 c.sum-in.result) ≡ sum_of s.args.factor s.args.h s.args.w s.args.y s.args.x s.args.n
-  sum =
-      let a = s.args in
-      held c.sum-in.result c.sum-in.type-inv ∙ c.sum-in.ensures
-      ∙ sym (sum-held a.factor a.n a.h a.w a.y a.x (says-held a.factor a.n a.h a.w a.y a.x s.pre.0 s.pre.1 s.pre.2))
-
 pub part_of-requires : goal.part_of-requires
-part_of-requires c = let p = (s c).requires in (
-  subst (λ (z : ℤ). nat_abs z ≤ 2560 * ((s c).args.h * (s c).args.w)) (sym (sum c)) (sum-most p.0 (s c).args.factor (s c).args.n p.2 p.1),
-  mul-pos p.0.high.0 p.0.wide.0,
-  area-most p.0,
-)
+part_of-requires c = let sum : to_z w64 (of_z w64 c.sum_in.result) ≡ sum_of c.args.factor c.args.h c.args.w c.args.y c.args.x c.args.n = let a = c.args in
+    held c.sum_in.result c.sum_in.type_inv ∙ c.sum_in.ensures
+    ∙ sym (sum-held a.factor a.n a.h a.w a.y a.x (says-held a.factor a.n a.h a.w a.y a.x c.requires.0 c.requires.1 c.requires.2)) in
+    let p = c.requires in (
+      subst (λ (z : ℤ). nat_abs z ≤ 2560 * (c.args.h * c.args.w)) (sym sum) (sum-most p.0 c.args.factor c.args.n p.2 p.1),
+      mul-pos p.0.high.0 p.0.wide.0,
+      area-most p.0,
+    )
 
 pub returns : goal.returns
-returns c = (subst (λ (z : ℤ). Split ((s c).args.h * (s c).args.w) z c.part_of.result) (sum c) c.part_of.ensures.0, c.part_of.ensures.1)
+returns c = let sum : to_z w64 (of_z w64 c.sum_in.result) ≡ sum_of c.args.factor c.args.h c.args.w c.args.y c.args.x c.args.n = let a = c.args in
+    held c.sum_in.result c.sum_in.type_inv ∙ c.sum_in.ensures
+    ∙ sym (sum-held a.factor a.n a.h a.w a.y a.x (says-held a.factor a.n a.h a.w a.y a.x c.requires.0 c.requires.1 c.requires.2)) in
+    (subst (λ (z : ℤ). Split (c.args.h * c.args.w) z c.part_of.result) sum c.part_of.ensures.0, c.part_of.ensures.1)
 
 pub overflow_mul-h : goal.overflow_mul-h
-overflow_mul-h c = fits-weight (area-most (s c).requires.0)
+overflow_mul-h c = fits-weight (area-most c.requires.0)

@@ -10,36 +10,35 @@ use Rattle.arith.proofs.Machine.{Num, cast, lit, sub, fits, is-back}
 use Rattle.grid_rows.proofs.Parts.{raised-most, whole-most, cut}
 use Rattle.grid_rows.proofs.part_of.Goals as goal
 
-module _ (c : tie.After-raised) where
-  abbrev s : tie.Start
-  s = c.before
-
-  is : pos c.raised.result ≡ s.args.sum +ℤ pos (2560 * s.args.area)
-  is = c.raised.ensures ∙ ap (λ (z : ℤ). z +ℤ pos (2560 * s.args.area)) (is-back s.fits.sum)
-
-  abbrev whole : ℕ
-  whole = c.raised.result / s.args.area
-
-  most : whole ≤ 5120
-  most = whole-most s.args.area s.args.sum c.raised.result s.pre.1 s.pre.0 is
-
-  low : whole * s.args.area ≤ c.raised.result
-  low = div-mul-le_self c.raised.result s.args.area
-
-  abbrev number : Num
-  number = sub (cast whole 5120 most tt) (lit 2560 tt) tt
-
 pub overflow_cast-result : goal.overflow_cast-result
-overflow_cast-result c = (cast (whole c) 5120 (most c) tt).fit
+overflow_cast-result c =
+    let is : pos c.raised-n.result ≡ c.args.sum +ℤ pos (2560 * c.args.area) = c.raised-n.ensures ∙ ap (λ (z : ℤ). z +ℤ pos (2560 * c.args.area)) (is-back c.ranges.sum) in
+    let whole : ℕ = c.raised-n.result / c.args.area in
+    let most : whole ≤ 5120 = whole-most c.args.area c.args.sum c.raised-n.result c.requires.1 c.requires.0 is in
+    (cast whole 5120 most tt).fit
 
 pub overflow_sub-result : goal.overflow_sub-result
-overflow_sub-result c = fits (number c)
+overflow_sub-result c =
+    let is : pos c.raised-n.result ≡ c.args.sum +ℤ pos (2560 * c.args.area) = c.raised-n.ensures ∙ ap (λ (z : ℤ). z +ℤ pos (2560 * c.args.area)) (is-back c.ranges.sum) in
+    let whole : ℕ = c.raised-n.result / c.args.area in
+    let most : whole ≤ 5120 = whole-most c.args.area c.args.sum c.raised-n.result c.requires.1 c.requires.0 is in
+    let number : Num = sub (cast whole 5120 most tt) (lit 2560 tt) tt in
+    fits number
 
 pub overflow_mul-result : goal.overflow_mul-result
-overflow_mul-result c = omega (arith, low c, raised-most (s c).args.area (s c).args.sum c.raised-n.result (s c).requires.1 (s c).requires.0 (is c), (s c).requires.2)
+overflow_mul-result c =
+    let is : pos c.raised-n.result ≡ c.args.sum +ℤ pos (2560 * c.args.area) = c.raised-n.ensures ∙ ap (λ (z : ℤ). z +ℤ pos (2560 * c.args.area)) (is-back c.ranges.sum) in
+    let whole : ℕ = c.raised-n.result / c.args.area in
+    let low : whole * c.args.area ≤ c.raised-n.result = div-mul-le_self c.raised-n.result c.args.area in
+    omega (arith, low, raised-most c.args.area c.args.sum c.raised-n.result c.requires.1 c.requires.0 is, c.requires.2)
 
 pub overflow_sub-result-2 : goal.overflow_sub-result-2
 overflow_sub-result-2 c = low c
 
 pub returns : goal.returns
-returns c = cut (s c).args.area (s c).args.sum c.raised-n.result (s c).requires.1 (s c).requires.0 (is c) _ (number c).held
+returns c =
+    let is : pos c.raised-n.result ≡ c.args.sum +ℤ pos (2560 * c.args.area) = c.raised-n.ensures ∙ ap (λ (z : ℤ). z +ℤ pos (2560 * c.args.area)) (is-back c.ranges.sum) in
+    let whole : ℕ = c.raised-n.result / c.args.area in
+    let most : whole ≤ 5120 = whole-most c.args.area c.args.sum c.raised-n.result c.requires.1 c.requires.0 is in
+    let number : Num = sub (cast whole 5120 most tt) (lit 2560 tt) tt in
+    cut c.args.area c.args.sum c.raised-n.result c.requires.1 c.requires.0 is _ number.held

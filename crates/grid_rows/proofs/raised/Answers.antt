@@ -12,21 +12,21 @@ use Rattle.arith.proofs.Machine.{Num, arg, cast, add, fits}
 use Rattle.grid_rows.proofs.Parts.{raised-above, not-below}
 use Rattle.grid_rows.proofs.raised.Goals as goal
 
-module _ (c : tie.Start) where
-  abbrev t : Num
-  t =
-      add (arg c.args.sum (2560 * 1676902500000000) (omega (arith, c.requires.0, c.requires.1)) tt)
-      (cast (2560 * c.args.area) (2560 * 1676902500000000) (omega (arith, c.requires.1)) tt) tt
-
-  above : pos 0 ≤ℤ t.z
-  above = raised-above c.args.sum (2560 * c.args.area) c.requires.0
-
 pub overflow_cast-result-2 : goal.overflow_cast-result-2
-overflow_cast-result-2 c = let e = cast-natural (t c).z (t c).fit.sfits (not-below (above c)) in
-    rw (t c).held (e.0, record { fits = e.1 })
+overflow_cast-result-2 c = let t : Num = add (arg c.args.sum (2560 * 1676902500000000) (omega (arith, c.requires.0, c.requires.1)) tt)
+    (cast (2560 * c.args.area) (2560 * 1676902500000000) (omega (arith, c.requires.1)) tt) tt in
+    let above : pos 0 ≤ℤ t c.z = raised-above c.args.sum (2560 * c.args.area) c.requires.0 in
+    let e = cast-natural t.z t.fit.sfits (not-below above) in
+    rw t.held (e.0, record { fits = e.1 })
 
 pub returns : goal.returns
-returns c = ap (λ (z : ℤ). pos (nat_abs z)) (t c).held ∙ sym (abs-above (above c))
+returns c = let t : Num = add (arg c.args.sum (2560 * 1676902500000000) (omega (arith, c.requires.0, c.requires.1)) tt)
+    (cast (2560 * c.args.area) (2560 * 1676902500000000) (omega (arith, c.requires.1)) tt) tt in
+    let above : pos 0 ≤ℤ t c.z = raised-above c.args.sum (2560 * c.args.area) c.requires.0 in
+    ap (λ (z : ℤ). pos (nat_abs z)) t.held ∙ sym (abs-above above)
 
 pub overflow_add-result : goal.overflow_add-result
-overflow_add-result c = fits (t c)
+overflow_add-result c =
+    let t : Num = add (arg c.args.sum (2560 * 1676902500000000) (omega (arith, c.requires.0, c.requires.1)) tt)
+    (cast (2560 * c.args.area) (2560 * 1676902500000000) (omega (arith, c.requires.1)) tt) tt in
+    fits t

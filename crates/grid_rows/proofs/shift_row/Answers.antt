@@ -19,69 +19,58 @@ use Rattle.grid_rows.specs.Private.{Answered, count_at}
 use Rattle.grid_rows.proofs.Fills.{keeps, fills}
 use Rattle.grid_rows.proofs.shift_row.Goals as goal
 
-module _ (k : tie.After-row-refusal) where
-  abbrev s : tie.Start
-  s = k.before.before
-
-  abbrev m : List ℕ
-  m = s.args.message.now
-
-  abbrev full : List ℤ
-  full = up_to (count_at m s.args.component s.args.north s.args.east s.args.step) s.args.count ++ drop s.args.count s.args.row.now
-
-  known : k.row-refusal.result ≡ shift_row_refusal m s.args.component s.args.north s.args.east s.args.step s.args.count (length s.args.row.now)
-  known =
-      k.row-refusal.ensures
-      ∙ (λ i. shift_row_refusal m s.args.component (is-back s.fits.north i) (is-back s.fits.east i) (is-back s.fits.step i) s.args.count (length s.args.row.now))
-
 pub returns-then-refusal-ne0 : goal.returns-then-refusal-ne0
 unfolding shift_row_filled
-returns-then-refusal-ne0 c = record { answer = known c; output = keeps (full c) (s c).args.row.now (known c) c.if-refusal-ne0.true }
-
-module _ (c : tie.After-settings-at) where
-  abbrev k : tie.After-row-refusal
-  k = c.before.before
-
-  none : shift_row_refusal (m k) (s k).args.component (s k).args.north (s k).args.east (s k).args.step (s k).args.count (length (s k).args.row.now) ≡ 0
-  none = sym (known k) ∙ c.before.if1.false
-
-  passed : Passed (m k) (s k).args.component (s k).args.north (s k).args.east (s k).args.step (s k).args.count (length (s k).args.row.now)
-  passed = row-passes (m k) (s k).args.component (s k).args.north (s k).args.east (s k).args.step (s k).args.count (length (s k).args.row.now) none
-
-  back : to_z w64 (of_z w64 (s k).args.step) ≡ (s k).args.step
-  back = is-back (s k).fits.step
-
-  up : pos (nat_abs (s k).args.step) ≡ (s k).args.step
-  up = natural-step (s k).args.step passed.within.up
-
-  answered : Answered (m k) c.settings-at.result (s k).args.component (s k).args.north (s k).args.east (nat_abs (s k).args.step) (s k).args.count (length (s k).args.row.now)
-  answered =
-      let p = passed in
-      let a = (s k).args in
-      record {
-        ready = ready p.kind c.settings-at.ensures p.within;
-        none = λ j l. ap (λ (z : ℤ). (message_shift (m k) a.component a.north (east_at a.east z j)).refusal) up ∙ p.none j l;
-        enough = p.enough;
-      }
+returns-then-refusal-ne0 c = let m : List ℕ = c.args.message.now in
+    let full : List ℤ = up_to (count_at m c.args.component c.args.north c.args.east c.args.step) c.args.count ++ drop c.args.count c.args.row.now in
+    let known : c.row_refusal-refusal.result ≡ shift_row_refusal m c.args.component c.args.north c.args.east c.args.step c.args.count (length c.args.row.now) = c.row_refusal-refusal.ensures
+    ∙ (λ i. shift_row_refusal m c.args.component (is-back c.ranges.north i) (is-back c.ranges.east i) (is-back c.ranges.step i) c.args.count (length c.args.row.now)) in record { answer = known; output = keeps full c.args.row.now known c.if-refusal-ne0.true }
 
 pub overflow_cast-step : goal.overflow_cast-step
-overflow_cast-step c = let z = s (k c) in
-    let e = cast-natural z.args.step z.fits.step.sfits (passed c).within.up in
-    rw (back c) (e.0, record { fits = e.1 })
+overflow_cast-step c = let m : List ℕ = c.args.message.now in
+    let known : c.row_refusal-refusal.result ≡ shift_row_refusal m c.args.component c.args.north c.args.east c.args.step c.args.count (length c.args.row.now) = c.row_refusal-refusal.ensures
+    ∙ (λ i. shift_row_refusal m c.args.component (is-back c.ranges.north i) (is-back c.ranges.east i) (is-back c.ranges.step i) c.args.count (length c.args.row.now)) in
+    let none : shift_row_refusal m c.args.component c.args.north c.args.east c.args.step c.args.count (length c.args.row.now) ≡ 0 = sym known ∙ c.if-refusal-ne0.false in
+    let passed : Passed m c.args.component c.args.north c.args.east c.args.step c.args.count (length c.args.row.now) = row-passes m c.args.component c.args.north c.args.east c.args.step c.args.count (length c.args.row.now) none in
+    let back : to_z w64 (of_z w64 c.args.step) ≡ c.args.step = is-back c.ranges.step in
+    let z = s c in
+    let e = cast-natural z.args.step z.fits.step.sfits passed.within.up in
+    rw back (e.0, record { fits = e.1 })
 
 moved : {m : List ℕ} {f : Settings} {c : ℕ} {n n' e e' z z' : ℤ} {count room : ℕ} → n' ≡ n → e' ≡ e → z' ≡ z → Answered m f c n e (nat_abs z) count room → Answered m f c n' e' (nat_abs z') count room
 moved p q r h = rw (p, q, r) h
 
 pub fill_row-requires : goal.fill_row-requires
-fill_row-requires c = moved (is-back (s (k c)).fits.north) (is-back (s (k c)).fits.east) (back c) (answered c)
+fill_row-requires c = let m : List ℕ = c.args.message.now in
+    let known : c.row_refusal-refusal.result ≡ shift_row_refusal m c.args.component c.args.north c.args.east c.args.step c.args.count (length c.args.row.now) = c.row_refusal-refusal.ensures
+    ∙ (λ i. shift_row_refusal m c.args.component (is-back c.ranges.north i) (is-back c.ranges.east i) (is-back c.ranges.step i) c.args.count (length c.args.row.now)) in
+    let none : shift_row_refusal m c.args.component c.args.north c.args.east c.args.step c.args.count (length c.args.row.now) ≡ 0 = sym known ∙ c.if-refusal-ne0.false in
+    let passed : Passed m c.args.component c.args.north c.args.east c.args.step c.args.count (length c.args.row.now) = row-passes m c.args.component c.args.north c.args.east c.args.step c.args.count (length c.args.row.now) none in
+    let back : to_z w64 (of_z w64 c.args.step) ≡ c.args.step = is-back c.ranges.step in
+    let up : pos (nat_abs c.args.step) ≡ c.args.step = natural-step c.args.step passed c.within.up in
+    let answered : Answered m c.settings_at-f.result c.args.component c.args.north c.args.east (nat_abs c.args.step) c.args.count (length c.args.row.now) = let p = passed in
+    let a = c.args in
+    record {
+      ready = ready p.kind c.settings_at-f.ensures p.within;
+      none = λ j l. ap (λ (z : ℤ). (message_shift m a.component a.north (east_at a.east z j)).refusal) up ∙ p.none j l;
+      enough = p.enough;
+    } in
+    moved (is-back (s c).fits.north) (is-back (s c).fits.east) back answered
 
 pub returns : goal.returns
 unfolding shift_row_filled
-returns c = let z = s (k c) in
+returns c = let m : List ℕ = c.args.message.now in
+    let full : List ℤ = up_to (count_at m c.args.component c.args.north c.args.east c.args.step) c.args.count ++ drop c.args.count c.args.row.now in
+    let known : c.row_refusal-refusal.result ≡ shift_row_refusal m c.args.component c.args.north c.args.east c.args.step c.args.count (length c.args.row.now) = c.row_refusal-refusal.ensures
+    ∙ (λ i. shift_row_refusal m c.args.component (is-back c.ranges.north i) (is-back c.ranges.east i) (is-back c.ranges.step i) c.args.count (length c.args.row.now)) in
+    let none : shift_row_refusal m c.args.component c.args.north c.args.east c.args.step c.args.count (length c.args.row.now) ≡ 0 = sym known ∙ c.if-refusal-ne0.false in
+    let back : to_z w64 (of_z w64 c.args.step) ≡ c.args.step = is-back c.ranges.step in
+    let up : pos (nat_abs c.args.step) ≡ c.args.step = natural-step c.args.step passed c.within.up in
+    let z = s c in
     let a = z.args in record {
-      answer = sym (none c);
+      answer = sym none;
       output = c.fill_row.ensures
-          ∙ (λ i. up_to (count_at (m (k c)) a.component (is-back z.fits.north i) (is-back z.fits.east i) (pos (nat_abs (back c i)))) a.count ++ drop a.count a.row.now)
-          ∙ (λ i. up_to (count_at (m (k c)) a.component a.north a.east (up c i)) a.count ++ drop a.count a.row.now)
-          ∙ fills (full (k c)) a.row.now (none c);
+          ∙ (λ i. up_to (count_at m a.component (is-back z.fits.north i) (is-back z.fits.east i) (pos (nat_abs (back i)))) a.count ++ drop a.count a.row.now)
+          ∙ (λ i. up_to (count_at m a.component a.north a.east (up i)) a.count ++ drop a.count a.row.now)
+          ∙ fills full a.row.now none;
     }

@@ -32,34 +32,25 @@ use Rattle.grid_shifts.proofs.Said.{settings-said, mean-said, nodes-said}
 use Rattle.grid_shifts.proofs.TwoPlaces.{Side, north-side, east-side, height-side, message-none-given}
 use Rattle.grid_shifts.proofs.shifts_at.Goals as goal
 
--- the arguments, and the record of the message
-module _ (s : tie.Start) where
-  abbrev m : List ℕ
-  m = s.args.message.now
-
-  abbrev n : ℤ
-  n = s.args.north
-
-  abbrev e : ℤ
-  e = s.args.east
-
-  abbrev g : Grid
-  g = grid_of (says (row m))
-
 pub returns-then-refusal-ne0 : goal.returns-then-refusal-ne0
 unfolding message_shifts
-returns-then-refusal-ne0 c = let h = c.check_kind-refusal.ensures in
+returns-then-refusal-ne0 c = let m : List ℕ = c.args.message.now in
+    let n : ℤ = c.args.north in
+    let e : ℤ = c.args.east in
+    let g : Grid = grid_of (says (row m)) in
+    let h = c.check_kind-refusal.ensures in
     let o = c.if-refusal-ne0.true in
-    c.all_refused.ensures (g c).number
-    ∙ (λ i. three_of (message-none-given 0 (n c) (e c) (m c) h o i) (message-none-given 1 (n c) (e c) (m c) h o i) (message-none-given 2 (n c) (e c) (m c) h o i))
+    c.all_refused.ensures g.number
+    ∙ (λ i. three_of (message-none-given 0 n e m h o i) (message-none-given 1 n e m h o i) (message-none-given 2 n e m h o i))
 
 three : ◌≡◌ {A = ℕ} 3 0 → ⊥
 three z = omega arith
 
 -- no grid message is so short
 pub returns-then-message-lt71 : goal.returns-then-message-lt71
-returns-then-message-lt71 c = let h = sym c.check_kind-refusal.ensures ∙ c.if-refusal-ne0.false in
-    absurd (omega (arith, grid-long (m c) h, c.if-message-lt71.true))
+returns-then-message-lt71 c = let m : List ℕ = c.args.message.now in
+    let h = sym c.check_kind-refusal.ensures ∙ c.if-refusal-ne0.false in
+    absurd (omega (arith, grid-long m h, c.if-message-lt71.true))
 
 -- a grid message: its settings and the sides of the position
 module _ (q : tie.After-means-at) where

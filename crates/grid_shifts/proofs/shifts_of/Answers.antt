@@ -28,57 +28,47 @@ use Rattle.grid_shifts.proofs.Accepted.{record-passed, record-fields}
 use Rattle.grid_shifts.proofs.TwoPlaces.{Side, north-side, east-side, height-side, some-cell, record-none-given}
 use Rattle.grid_shifts.proofs.shifts_of.Goals as goal
 
--- the arguments
-module _ (s : tie.Start) where
-  abbrev g : Grid
-  g = s.args.grid
-
-  abbrev n : ℤ
-  n = s.args.north
-
-  abbrev e : ℤ
-  e = s.args.east
-
 five : ◌≡◌ {A = ℕ} 5 0 → ⊥
 five z = omega arith
 
 pub returns-then-not-grid_held : goal.returns-then-not-grid_held
 unfolding record_shifts
-returns-then-not-grid_held c = let h : grid_held (g c) ≡ false = sym c.grid_held.ensures ∙ c.if-not-grid_held.true in
-    c.all_refused.ensures (g c).number
-    ∙ (λ i. three_of (record-none-given 0 (n c) (e c) (g c) refl five h i) (record-none-given 1 (n c) (e c) (g c) refl five h i) (record-none-given 2 (n c) (e c) (g c) refl five h i))
-
--- a record that a message holds, and the sides of the position
-module _ (l : tie.After-locate-both) where
-  abbrev s : tie.Start
-  s = l.before.before.before.before.before
-
-  holds : grid_held (g s) ≡ true
-  holds = sym l.before.before.before.before.grid-held.ensures ∙ not-false _ l.before.before.before.if1.left
-
-  fields : Held (g s)
-  fields = record-fields (g s) holds
-
-  settings : l.before.before.settings-of.result ≡ settings_of (g s)
-  settings = l.before.before.settings-of.ensures
-
-  number : to_z w64 (of_z w64 l.before.before.settings-of.result.number) ≡ (g s).number
-  number = held l.before.before.settings-of.result.number l.before.struct_told.given.0.1 ∙ ap (λ (f : Settings). f.number) settings
-
-  sides : l.locate-both.result ≡ held_two_places (settings_of (g s)) (n s) (e s)
-  sides = l.locate-both.ensures ∙ (λ i. held_two_places (settings i) (is-back s.fits.north i) (is-back s.fits.east i))
-
-  abbrev t : Located
-  t = l.locate-both.result.place
+returns-then-not-grid_held c = let g : Grid = c.args.grid in
+    let n : ℤ = c.args.north in
+    let e : ℤ = c.args.east in
+    let h : grid_held g ≡ false = sym c.grid_held.ensures ∙ c.if-not-grid_held.true in
+    c.all_refused.ensures g.number
+    ∙ (λ i. three_of (record-none-given 0 n e g refl five h i) (record-none-given 1 n e g refl five h i) (record-none-given 2 n e g refl five h i))
 
 pub nodes_of-a-requires : goal.nodes_of-a-requires
-nodes_of-a-requires c = some-cell (g (s c)) (n (s c)) (e (s c)) (fields c) (sides c)
+nodes_of-a-requires c = let g : Grid = c.args.grid in
+    let n : ℤ = c.args.north in
+    let e : ℤ = c.args.east in
+    let holds : grid_held g ≡ true = sym c.grid_held.ensures ∙ not-false _ c.if-not-grid_held.left in
+    let fields : Held g = record-fields g holds in
+    let settings : c.settings_of-settings.result ≡ settings_of g = c.settings_of-settings.ensures in
+    let sides : c.locate_both-p.result ≡ held_two_places (settings_of g) n e = c.locate_both-p.ensures ∙ (λ i. held_two_places (settings i) (is-back c.ranges.north i) (is-back c.ranges.east i)) in
+    some-cell g n e fields sides
 
 pub nodes_of-b-requires : goal.nodes_of-b-requires
-nodes_of-b-requires c = some-cell (g (s c)) (n (s c)) (e (s c)) (fields c) (sides c)
+nodes_of-b-requires c = let g : Grid = c.args.grid in
+    let n : ℤ = c.args.north in
+    let e : ℤ = c.args.east in
+    let holds : grid_held g ≡ true = sym c.grid_held.ensures ∙ not-false _ c.if-not-grid_held.left in
+    let fields : Held g = record-fields g holds in
+    let settings : c.settings_of-settings.result ≡ settings_of g = c.settings_of-settings.ensures in
+    let sides : c.locate_both-p.result ≡ held_two_places (settings_of g) n e = c.locate_both-p.ensures ∙ (λ i. held_two_places (settings i) (is-back c.ranges.north i) (is-back c.ranges.east i)) in
+    some-cell g n e fields sides
 
 pub nodes_of-c-requires : goal.nodes_of-c-requires
-nodes_of-c-requires c = some-cell (g (s c)) (n (s c)) (e (s c)) (fields c) (sides c)
+nodes_of-c-requires c = let g : Grid = c.args.grid in
+    let n : ℤ = c.args.north in
+    let e : ℤ = c.args.east in
+    let holds : grid_held g ≡ true = sym c.grid_held.ensures ∙ not-false _ c.if-not-grid_held.left in
+    let fields : Held g = record-fields g holds in
+    let settings : c.settings_of-settings.result ≡ settings_of g = c.settings_of-settings.ensures in
+    let sides : c.locate_both-p.result ≡ held_two_places (settings_of g) n e = c.locate_both-p.ensures ∙ (λ i. held_two_places (settings i) (is-back c.ranges.north i) (is-back c.ranges.east i)) in
+    some-cell g n e fields sides
 
 module _ (q : tie.After-nodes-of3) where
   abbrev l : tie.After-locate-both

@@ -17,22 +17,20 @@ use Rattle.heights_mean.specs.Means.{less, near, near_at, fits}
 use Rattle.heights.specs.Heights.{value_with}
 use Rattle.heights.proofs.value_with.Goals as goal
 
--- one of the row's own values
-module _ (s : tie.Start) where
-  abbrev z : ℤ
-  z = at s.args.values.now s.args.k
-
 pub returns-then-k-lt10 : goal.returns-then-k-lt10
 unfolding value_with
-returns-then-k-lt10 c = held (z c) c.result-1.given ∙ rw (lt-leb 10 _ c.if-k-lt10.true)
+returns-then-k-lt10 c = let z : ℤ = at c.args.values.now c.args.k in
+    held z c.result-1.given ∙ rw (lt-leb 10 _ c.if-k-lt10.true)
 
 pub returns-then-k-gt58 : goal.returns-then-k-gt58
 unfolding value_with
-returns-then-k-gt58 c = held (z c) c.result-then-k-gt58-1.given ∙ rw (le-leb 10 _ c.if-k-lt10.false, lt-leb _ 58 c.if-k-gt58.true)
+returns-then-k-gt58 c = let z : ℤ = at c.args.values.now c.args.k in
+    held z c.result-then-k-gt58-1.given ∙ rw (le-leb 10 _ c.if-k-lt10.false, lt-leb _ 58 c.if-k-gt58.true)
 
 pub returns-then-k-ne1 : goal.returns-then-k-ne1
 unfolding value_with
-returns-then-k-ne1 c = held (z c) c.result-then-k-ne1-1.given
+returns-then-k-ne1 c = let z : ℤ = at c.args.values.now c.args.k in
+    held z c.result-then-k-ne1-1.given
     ∙ rw (le-leb 10 _ c.if-k-lt10.false, le-leb _ 58 c.if-k-gt58.false, ne_eqb _ 1 c.if-k-ne1.true)
 
 pub returns-then-k-eq10 : goal.returns-then-k-eq10
@@ -40,29 +38,18 @@ unfolding value_with
 returns-then-k-eq10 c = is-back c.ranges.mean
     ∙ rw (le-leb 10 _ c.if-k-lt10.false, le-leb _ 58 c.if-k-gt58.false, eq-eqb _ 1 c.if-k-ne1.false, eq-eqb _ 10 c.if-k-eq10.true)
 
--- a wanted height
-module _ (c : tie.After-height-at) where
-  abbrev s : tie.Start
-  s = c.before.before.before.before.before
-
-  abbrev i : ℕ
-  i = (s.args.k - 13) / 3
-
-  small : i < 16
-  small = omega arith
-
-  known : to_z w64 (of_z w64 c.height-at.result) ≡ at s.args.wanted.now i
-  known = held c.height-at.result c.height-at.type-inv ∙ c.height-at.ensures
-
-  near-at : near s.args.mean (at s.args.wanted.now i) ≡ true
-  unfolding fits
-  near-at = all-at (near_at s.args.wanted.now s.args.mean) 16 s.pre.1.1 i small
-
 pub height_less-requires : goal.height_less-requires
-height_less-requires c = rw (is-back (s c).ranges.mean, known c) ((s c).requires.1.0, near-at c)
+unfolding fits
+height_less-requires c = let i : ℕ = (c.args.k - 13) / 3 in
+    let small : i < 16 = omega arith in
+    let known : to_z w64 (of_z w64 c.height_at.result) ≡ at c.args.wanted.now i = held c.height_at.result c.height_at.type_inv ∙ c.height_at.ensures in
+    let near-at : near c.args.mean (at c.args.wanted.now i) ≡ true = all-at (near_at c.args.wanted.now c.args.mean) 16 c.requires.1.1 i small in
+    rw (is-back c.ranges.mean, known) (c.requires.1.0, near-at)
 
 pub returns : goal.returns
 unfolding value_with
-returns c = held c.height_less.result c.height_less.type_inv ∙ c.height_less.ensures
-    ∙ (λ x. less (known c x) (is-back (s c).ranges.mean x))
+returns c = let i : ℕ = (c.args.k - 13) / 3 in
+    let known : to_z w64 (of_z w64 c.height_at.result) ≡ at c.args.wanted.now i = held c.height_at.result c.height_at.type_inv ∙ c.height_at.ensures in
+    held c.height_less.result c.height_less.type_inv ∙ c.height_less.ensures
+    ∙ (λ x. less (known x) (is-back c.ranges.mean x))
     ∙ rw (le-leb 10 _ c.if-k-lt10.false, le-leb _ 58 c.if-k-gt58.false, eq-eqb _ 1 c.if-k-ne1.false, ne_eqb _ 10 c.if-k-eq10.false)

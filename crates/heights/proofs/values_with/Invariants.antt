@@ -16,7 +16,7 @@ use Rattle.heights.specs.Heights.{value_with, height_values}
 use Rattle.heights.proofs.values_with.Given as goal
 
 abbrev pub invariant-loop-k : goal.invariant-loop-k
-invariant-loop-k l = (l.k ≤ 64) × (l.row ≡ up_to (value_with l.values l.wanted (to_z w64 l.mean)) l.k ++ drop l.k l.initial.row)
+invariant-loop-k l = (l.k ≤ 64) × (l.row ≡ up_to (value_with l.values l.wanted l.mean) l.k ++ drop l.k l.initial.row)
 
 abbrev pub decreases-loop-k : goal.decreases-loop-k
 decreases-loop-k l = 64 - l.k

@@ -17,32 +17,20 @@ use Rattle.arith.proofs.Machine.{is-back}
 use Rattle.heights_mean.specs.Means.{near, near_at, fits}
 use Rattle.heights_mean.proofs.all_near.Goals as goal
 
--- what the calls said
-module _ (c : tie.After-is-near invariant-loop decreases-loop) where
-  abbrev l : tie.At-loop invariant-loop decreases-loop
-  l = c.before.before.before
-
-  abbrev wanted : List ℤ
-  wanted = l.before.args.wanted.now
-
-  abbrev mean : ℤ
-  mean = l.before.args.mean
-
-  mean-back : to_z w64 (of_z w64 mean) ≡ mean
-  mean-back = is-back l.before.fits.mean
-
-  known : c.is-near.result ≡ near_at wanted (to_z w64 (of_z w64 mean)) l.loop.i
-  known =
-      let h = c.before.height-at in
-      c.is-near.ensures ∙ ap (near (to_z w64 (of_z w64 mean))) (held h.result h.type-inv ∙ h.ensures)
-
 pub loop-i-preserved : goal.loop-i-preserved
-loop-i-preserved c = (omega arith, all_more (near_at (wanted c) (to_z w64 (of_z w64 (mean c)))) (l c).loop.i (l c).loop.invariant.1 (is (known c) (c.if-not-is_near.false)))
+loop-i-preserved c = let wanted : List ℤ = c.args.wanted.now in
+    let mean : ℤ = c.args.mean in
+    let known : c.is_near.result ≡ near_at wanted (to_z w64 (of_z w64 mean)) c.loop-i.i = c.is_near.ensures ∙ ap (near (to_z w64 (of_z w64 mean))) (held c.height_at.result c.height_at.type_inv ∙ c.height_at.ensures) in
+    (omega arith, all_more (near_at wanted (to_z w64 (of_z w64 mean))) c.loop-i.i c.loop-i.invariant.1 (is known (c.if-not-is_near.false)))
 
 pub returns-then-not-is_near : goal.returns-then-not-is_near
 unfolding fits
-returns-then-not-is_near c = sym (all-stops (near_at (wanted c) (mean c)) (l c).loop.i 16
-    (subst (λ (m : ℤ). near_at (wanted c) m (l c).loop.i ≡ false) (mean-back c) (is (known c) (c.if-not-is_near.true))) (omega arith))
+returns-then-not-is_near c = let wanted : List ℤ = c.args.wanted.now in
+    let mean : ℤ = c.args.mean in
+    let mean-back : to_z w64 (of_z w64 mean) ≡ mean = is-back c.ranges.mean in
+    let known : c.is_near.result ≡ near_at wanted (to_z w64 (of_z w64 mean)) c.loop-i.i = c.is_near.ensures ∙ ap (near (to_z w64 (of_z w64 mean))) (held c.height_at.result c.height_at.type_inv ∙ c.height_at.ensures) in
+    sym (all-stops (near_at wanted mean) c.loop-i.i 16
+    (subst (λ (m : ℤ). near_at wanted m c.loop-i.i ≡ false) mean-back (is known (c.if-not-is_near.true))) (omega arith))
 
 pub returns : goal.returns
 unfolding fits

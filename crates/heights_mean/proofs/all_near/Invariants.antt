@@ -18,7 +18,7 @@ use Rattle.heights_mean.specs.Means.{near, near_at, fits}
 use Rattle.heights_mean.proofs.all_near.Given as goal
 
 abbrev pub invariant-loop-i : goal.invariant-loop-i
-invariant-loop-i l = (l.i ≤ 16) × (all_below (near_at l.wanted (to_z w64 l.mean)) l.i ≡ true)
+invariant-loop-i l = (l.i ≤ 16) × (all_below (near_at l.wanted l.mean) l.i ≡ true)
 
 abbrev pub decreases-loop-i : goal.decreases-loop-i
 decreases-loop-i l = 16 - l.i

@@ -12,7 +12,7 @@ use Rattle.heights_mean.specs.Private.{greater, greatest}
 use Rattle.heights_mean.proofs.greatest_of.Given as goal
 
 abbrev pub invariant-loop-i : goal.invariant-loop-i
-invariant-loop-i l = (l.i ≤ 16) × (to_z w64 l.r ≡ greatest (at l.wanted) l.i)
+invariant-loop-i l = (l.i ≤ 16) × (l.r ≡ greatest (at l.wanted) l.i)
 
 abbrev pub decreases-loop-i : goal.decreases-loop-i
 decreases-loop-i l = 16 - l.i

@@ -15,33 +15,38 @@ use Rattle.report_prepared.proofs.middle.Goals as goal
 pub returns-then-magnitude-gt67108864 : goal.returns-then-magnitude-gt67108864
 unfolding middle_of
 returns-then-magnitude-gt67108864 c = let magnitude : c.magnitude.result ≡ nat_abs c.args.raw = c.magnitude.ensures ∙ ap nat_abs (is-back c.ranges.raw) in
-    rw (lt-ltb 67108864 (nat_abs c.args.raw) (rw (magnitude) at c.if-magnitude-gt67108864.true))
-
-module _ (c : tie.Else1) where
-  abbrev raw : ℤ
-  raw = c.before.before.args.raw
-
-  small : nat_abs raw ≤ 67108864
-  small = subst (λ (n : ℕ). n ≤ 67108864) (magnitude c.before) c.if1.false
-
-  abbrev seconds : Num
-  seconds = mul (lit 5000 tt) (arg raw 67108864 small tt) tt
-
-  abbrev metres : Num
-  metres = mul (lit 10000 tt) (arg raw 67108864 small tt) tt
-
-  is : (b : Bool) → ellipsoidal c.before.before.args.number ≡ b → pos (cond b 5000 10000) *ℤ raw ≡ middle_of c.before.before.args.number raw
-  unfolding middle_of
-  is b e = rw (le-ltb 67108864 (nat_abs raw) small, e)
+    rw (lt-ltb 67108864 (nat_abs c.args.raw) (rw magnitude at c.if-magnitude-gt67108864.true))
 
 pub returns-then-number-eq1023 : goal.returns-then-number-eq1023
-returns-then-number-eq1023 c = (seconds c).held ∙ is c true (search signed-tests)
+unfolding middle_of
+returns-then-number-eq1023 c = let magnitude : c.magnitude.result ≡ nat_abs c.args.raw = c.magnitude.ensures ∙ ap nat_abs (is-back c.ranges.raw) in
+    let raw : ℤ = c.args.raw in
+    let small : nat_abs raw ≤ 67108864 = subst (λ (n : ℕ). n ≤ 67108864) magnitude c.if-magnitude-gt67108864.false in
+    let seconds : Num = mul (lit 5000 tt) (arg raw 67108864 small tt) tt in
+    let is : (b : Bool) → ellipsoidal c.args.number ≡ b → pos (cond b 5000 10000) *ℤ raw ≡ middle_of c.args.number raw = λ b e. rw (le-ltb 67108864 (nat_abs raw) small, e) in
+    seconds.held ∙ is true (search signed-tests)
 
 pub returns : goal.returns
-returns c = (metres c).held ∙ is c false (search signed-tests)
+unfolding middle_of
+returns c = let magnitude : c.magnitude.result ≡ nat_abs c.args.raw = c.magnitude.ensures ∙ ap nat_abs (is-back c.ranges.raw) in
+    let raw : ℤ = c.args.raw in
+    let small : nat_abs raw ≤ 67108864 = subst (λ (n : ℕ). n ≤ 67108864) magnitude c.if-magnitude-gt67108864.false in
+    let metres : Num = mul (lit 10000 tt) (arg raw 67108864 small tt) tt in
+    let is : (b : Bool) → ellipsoidal c.args.number ≡ b → pos (cond b 5000 10000) *ℤ raw ≡ middle_of c.args.number raw = λ b e. rw (le-ltb 67108864 (nat_abs raw) small, e) in
+    metres.held ∙ is false (search signed-tests)
 
 pub overflow_mul-result : goal.overflow_mul-result
-overflow_mul-result c = fits (seconds c)
+overflow_mul-result c =
+    let magnitude : c.magnitude.result ≡ nat_abs c.args.raw = c.magnitude.ensures ∙ ap nat_abs (is-back c.ranges.raw) in
+    let raw : ℤ = c.args.raw in
+    let small : nat_abs raw ≤ 67108864 = subst (λ (n : ℕ). n ≤ 67108864) magnitude c.if-magnitude-gt67108864.false in
+    let seconds : Num = mul (lit 5000 tt) (arg raw 67108864 small tt) tt in
+    fits seconds
 
 pub overflow_mul-result-2 : goal.overflow_mul-result-2
-overflow_mul-result-2 c = fits (metres c)
+overflow_mul-result-2 c =
+    let magnitude : c.magnitude.result ≡ nat_abs c.args.raw = c.magnitude.ensures ∙ ap nat_abs (is-back c.ranges.raw) in
+    let raw : ℤ = c.args.raw in
+    let small : nat_abs raw ≤ 67108864 = subst (λ (n : ℕ). n ≤ 67108864) magnitude c.if-magnitude-gt67108864.false in
+    let metres : Num = mul (lit 10000 tt) (arg raw 67108864 small tt) tt in
+    fits metres

@@ -41,65 +41,30 @@ pub returns-then-kept-ne0 : goal.returns-then-kept-ne0
 returns-then-kept-ne0 c = let a = c.args in
     c.no_edges.ensures ∙ refused a.message.now a.kept a.component c.if-kept-ne0.true
 
-module _ (t : tie.After-is-available) where
-  abbrev s : tie.Start
-  s = t.before.before.before.before.before
-
-  abbrev m : List ℕ
-  m = s.args.message.now
-
-  abbrev kept : Kept
-  kept = s.args.kept
-
-  abbrev c : ℕ
-  c = s.args.component
-
-  accepted : kept.refusal ≡ 0
-  accepted = t.before.before.if1.left
-
-  mean : t.is-available.result ≡ available (mean_says m c)
-  mean = t.is-available.ensures ∙ ap available t.before.mean-at.ensures
-
 pub returns-then-not-is_available : goal.returns-then-not-is_available
-returns-then-not-is_available c = c.no_edges-then-not-is_available.ensures ∙ no-mean (m c) (kept c) (c c) (accepted c) (sym (mean c) ∙ c.if-not-is_available.true)
-
-module _ (h : tie.After-nodes-available) where
-  abbrev t : tie.After-is-available
-  t = h.before.before
-
-  mean-there : available (mean_says (m t) (c t)) ≡ true
-  mean-there = sym (mean t) ∙ not-false _ h.before.if2.left
+returns-then-not-is_available c = let m : List ℕ = c c.args.message.now in
+    let kept : Kept = c c.args.kept in
+    let c : ℕ = c.args.component in
+    let accepted : kept c.refusal ≡ 0 = c c.if-kept-ne0.left in
+    let mean : c c.is_available.result ≡ available (mean_says m c c) = c c.is_available.ensures ∙ ap available c c.mean_at.ensures in
+    c.no_edges-then-not-is_available.ensures ∙ no-mean m kept c accepted (sym mean ∙ c.if-not-is_available.true)
 
 pub returns-then-not-nodes_available : goal.returns-then-not-nodes_available
-returns-then-not-nodes_available c = let t = t c in
-    c.no_edges-then-not-nodes_available.ensures ∙ no-nodes (m t) (kept t) (c t) (accepted t) (mean-there c) (sym c.nodes_available.ensures ∙ c.if-not-nodes_available.true)
-
-module _ (b : tie.After-middle2) where
-  abbrev o : tie.After-origin
-  o = b.before.before.before.before
-
-  abbrev h : tie.After-nodes-available
-  h = o.before.before.before.before
-
-  abbrev f : Settings
-  f = (kept (t h)).settings
-
-  number : to_z w64 (of_z w64 f.number) ≡ f.number
-  number = held f.number o.before.struct_told.given.0.1
-
-  north : to_z w64 (of_z w64 b.before.before.middle.result) ≡ (middles (m (t h)) (kept (t h)) (c (t h))).0
-  north =
-      let k = b.before.before in
-      let r = k.before.value_in in
-      held k.middle.result k.middle.ok ∙ k.middle.ensures ∙ (λ i. middle_of (number i) ((held r.result r.ok ∙ r.ensures) i))
-
-  east : to_z w64 (of_z w64 b.middle2.result) ≡ (middles (m (t h)) (kept (t h)) (c (t h))).1
-  east =
-      let r = b.before.value-in2 in
-      held b.middle2.result b.middle2.ok ∙ b.middle2.ensures ∙ (λ i. middle_of (number i) ((held r.result r.ok ∙ r.ensures) i))
+returns-then-not-nodes_available c = let m : List ℕ = c c.args.message.now in
+    let c : ℕ = c.args.component in
+    let mean : c c.is_available.result ≡ available (mean_says m c c) = c c.is_available.ensures ∙ ap available c c.mean_at.ensures in
+    let mean-there : available (mean_says m c) ≡ true = sym mean ∙ not-false _ c.if-not-is_available.left in
+    let t = t c in
+    c.no_edges-then-not-nodes_available.ensures ∙ no-nodes (m t) (kept t) (c t) (accepted t) mean-there (sym c.nodes_available.ensures ∙ c.if-not-nodes_available.true)
 
 pub returns : goal.returns
-returns c = let h = h c in
+returns c = let m : List ℕ = c c.args.message.now in
+    let kept : Kept = c c.args.kept in
+    let c : ℕ = c.args.component in
+    let number : to_z w64 (of_z w64 f c.number) ≡ f c.number = held f c.number c.type_inv.f.0.1 in
+    let north : to_z w64 (of_z w64 c.middle-north.result) ≡ (middles m kept c).0 = held c.middle-north.result c.middle-north.type_inv ∙ c.middle-north.ensures ∙ (λ i. middle_of (number i) ((held c.value_in.result c.value_in.type_inv ∙ c.value_in.ensures) i)) in
+    let east : to_z w64 (of_z w64 c.middle-east.result) ≡ (middles m kept c).1 = held c.middle-east.result c.middle-east.type_inv ∙ c.middle-east.ensures ∙ (λ i. middle_of (number i) ((held c.value_in-2.result c.value_in-2.type_inv ∙ c.value_in-2.ensures) i)) in
+    let h = h c in
     let t = t h in
-    c.prepare_at.ensures ∙ (λ i. edges_at (m t) (kept t).settings (c t) (north c i) (east c i))
-    ∙ all_there (m t) (kept t) (c t) (accepted t) (mean-there h) (sym h.nodes-available.ensures ∙ not-false _ (o c).before.before.before.if3.false)
+    c.prepare_at.ensures ∙ (λ i. edges_at (m t) (kept t).settings (c t) (north i) (east i))
+    ∙ all_there (m t) (kept t) (c t) (accepted t) (mean-there h) (sym h.nodes-available.ensures ∙ c.if-not-nodes_available.false)

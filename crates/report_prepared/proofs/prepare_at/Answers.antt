@@ -59,104 +59,117 @@ module _ (s : List ℕ) (f : Settings) (c : ℕ) (n e : ℤ) where
 abbrev back : ℤ → ℤ
 back z = to_z w64 (of_z w64 z)
 
-module _ (k : tie.After-locate) where
-  abbrev s : tie.Start
-  s = k.before.before.before
-
-  abbrev m : List ℕ
-  m = s.args.message.now
-
-  abbrev f : Settings
-  f = s.args.kept.settings
-
-  abbrev c : ℕ
-  c = s.args.component
-
-  abbrev n : ℤ
-  n = s.args.north
-
-  abbrev e : ℤ
-  e = s.args.east
-
-  place : k.locate.result ≡ held_place f c n e
-  place = k.locate.ensures ∙ (λ i. held_place f c (is-back s.fits.north i) (is-back s.fits.east i))
-
-  refusal : k.locate.result.refusal ≡ (held_place f c n e).refusal
-  refusal = ap (λ (p : Located). p.refusal) place
-
 pub returns-then-q-ne0 : goal.returns-then-q-ne0
-returns-then-q-ne0 c = c.no_edges.ensures ∙ no_place_lem (m c) (f c) (c c) (n c) (e c) (λ z. c.if-q-ne0.true (refusal c ∙ z))
-
-module _ (v : tie.After-value-in) where
-  abbrev k : tie.After-locate
-  k = v.before.before.before.before.before.before
-
-  none : (held_place (f k) (c k) (n k) (e k)).refusal ≡ 0
-  none = sym (refusal k) ∙ v.before.before.before.before.if1.left
-
-  abbrev mean : Num
-  mean =
-      mul (lit 100 tt)
-      (result v.value_in.result 16384 (v.value_in.ensures ∙ ap value_in v.before.before.mean-at.ensures) (mean-most (m k) (c k)) tt) tt
-
-  number : back (f k).number ≡ (f k).number
-  number = held (f k).number v.before.before.before.struct_told.given.0.1
-
-  factor : v.before.factor-of.result ≡ node_factor (f k).number (c k)
-  factor = v.before.factor-of.ensures ∙ ap (λ (z : ℤ). node_factor z (c k)) number
+returns-then-q-ne0 c = let m : List ℕ = c c.args.message.now in
+    let f : Settings = c c.args.kept.settings in
+    let c : ℕ = c.args.component in
+    let n : ℤ = c c.args.north in
+    let e : ℤ = c c.args.east in
+    let place : c c.locate-q.result ≡ held_place f c c n e = c c.locate-q.ensures ∙ (λ i. held_place f c c (is-back c c.ranges.north i) (is-back c c.ranges.east i)) in
+    let refusal : c c.locate-q.result.refusal ≡ (held_place f c c n e).refusal = ap (λ (p : Located). p.refusal) place in
+    c.no_edges.ensures ∙ no_place_lem m f c n e (λ z. c.if-q-ne0.true (refusal ∙ z))
 
 pub around-p-requires : goal.around-p-requires
-around-p-requires c = let k = k c in
-    near-back (place k) (is-back (s k).fits.north) (is-back (s k).fits.east) (near-is (f k) (c k) (n k) (e k) (none c))
-
-module _ (p : tie.After-position-refusal) where
-  abbrev a : tie.After-around
-  a = p.before.before.before
-
-  abbrev j : tie.After-locate
-  j = k a.before
-
-  abbrev x : Prepared
-  x = a.around.result
-
-  low-is : p.position-refusal.result ≡ low (m j) (f j) (c j) (n j) (e j)
-  low-is =
-      let g = p.before.struct-told3.given in
-      let south = held x.south g.0.1 in
-      let west = held x.west g.1.1.0.1 in
-      let said : p.position-refusal.result ≡ refusal_at (back (f j).number) (c j) (back x.south) (back x.west) = p.position-refusal.ensures in
-      said
-      ∙ (λ i. refusal_at (number a.before i) (c j) (south i) (west i))
-      ∙ ap (λ (y : Prepared). refusal_at (f j).number (c j) y.south y.west) (around-is a)
+around-p-requires c = let f : Settings = c c.args.kept.settings in
+    let c : ℕ = c.args.component in
+    let n : ℤ = c c.args.north in
+    let e : ℤ = c c.args.east in
+    let place : c c.locate-q.result ≡ held_place f c c n e = c c.locate-q.ensures ∙ (λ i. held_place f c c (is-back c c.ranges.north i) (is-back c c.ranges.east i)) in
+    let refusal : c c.locate-q.result.refusal ≡ (held_place f c c n e).refusal = ap (λ (p : Located). p.refusal) place in
+    let none : (held_place f c n e).refusal ≡ 0 = sym refusal ∙ c.if-q-ne0.left in
+    let k = k c in
+    near-back (place k) (is-back (s k).fits.north) (is-back (s k).fits.east) (near-is (f k) (c k) (n k) (e k) none)
 
 pub returns-then-position_refusal-ne0 : goal.returns-then-position_refusal-ne0
-returns-then-position_refusal-ne0 c = let j = j c in
-    c.no_edges-then-position_refusal-ne0.ensures ∙ low-out (m j) (f j) (c j) (n j) (e j) (none (a c).before) (λ z. c.if-position_refusal-ne0.true (low-is c ∙ z))
-
-module _ (r : tie.After-position-refusal2) where
-  abbrev l : tie.After-position-refusal
-  l = r.before.before.before.before
-
-  low-none : low (m (j l)) (f (j l)) (c (j l)) (n (j l)) (e (j l)) ≡ 0
-  low-none = sym (low-is l) ∙ r.before.before.before.if2.left
-
-  high_is : r.position-refusal2.result ≡ high (m (j l)) (f (j l)) (c (j l)) (n (j l)) (e (j l))
-  high_is =
-      let g = l.before.struct-told3.given in
-      let north = held (x l).north g.1.0.1 in
-      let east = held (x l).east g.1.1.1.0.1 in
-      let said : r.position-refusal2.result ≡ refusal_at (back (f (j l)).number) (c (j l)) (back (x l).north) (back (x l).east) = r.position-refusal2.ensures in
-      said
-      ∙ (λ i. refusal_at (number (a l).before i) (c (j l)) (north i) (east i))
-      ∙ ap (λ (y : Prepared). refusal_at (f (j l)).number (c (j l)) y.north y.east) (around-is (a l))
+returns-then-position_refusal-ne0 c = let m : List ℕ = c c.args.message.now in
+    let f : Settings = c c.args.kept.settings in
+    let c : ℕ = c.args.component in
+    let n : ℤ = c c.args.north in
+    let e : ℤ = c c.args.east in
+    let place : c c.locate-q.result ≡ held_place f c c n e = c c.locate-q.ensures ∙ (λ i. held_place f c c (is-back c c.ranges.north i) (is-back c c.ranges.east i)) in
+    let refusal : c c.locate-q.result.refusal ≡ (held_place f c c n e).refusal = ap (λ (p : Located). p.refusal) place in
+    let none : (held_place f c n e).refusal ≡ 0 = sym refusal ∙ c.if-q-ne0.left in
+    let mean : Num = mul (lit 100 tt)
+    (result c.value_in.result 16384 (c.value_in.ensures ∙ ap value_in c.mean_at-mean.ensures) (mean-most m c) tt) tt in
+    let number : back f.number ≡ f.number = held f.number c.struct_told-1.given.0.1 in
+    let factor : c.factor_of-factor.result ≡ node_factor f.number c = c.factor_of-factor.ensures ∙ ap (λ (z : ℤ). node_factor z c) number in
+    let around-is : let k = k c in c.around-p.result ≡ edges (m k) (f k) (c k) (n k) (e k) = let k = k c in
+    c.around-p.ensures ∙ (λ i. around_of (place k i) (is-back (s k).fits.north i) (is-back (s k).fits.east i) (mean.held i) (factor i)) in
+    let j : tie.After-locate = k c in
+    let low-is : c.position_refusal.result ≡ low (m j) (f j) (c j) (n j) (e j) = let g = c.type_inv.p in
+    let south = held x c.south g.0.1 in
+    let west = held x c.west g.1.1.0.1 in
+    let said : c.position_refusal.result ≡ refusal_at (back (f j).number) (c j) (back x c.south) (back x c.west) = c.position_refusal.ensures in
+    said
+    ∙ (λ i. refusal_at (number i) (c j) (south i) (west i))
+    ∙ ap (λ (y : Prepared). refusal_at (f j).number (c j) y.south y.west) around-is in
+    let j = j in
+    c.no_edges-then-position_refusal-ne0.ensures ∙ low-out (m j) (f j) (c j) (n j) (e j) none (λ z. c.if-position_refusal-ne0.true (low-is ∙ z))
 
 pub returns-then-position_refusal-ne0-2 : goal.returns-then-position_refusal-ne0-2
-returns-then-position_refusal-ne0-2 c = let j = j (l c) in
-    c.no_edges-then-position_refusal-ne0-2.ensures ∙ high-out (m j) (f j) (c j) (n j) (e j) (none (a (l c)).before) (low-none c) (λ z. c.if-position_refusal-ne0-2.true (high_is c ∙ z))
+returns-then-position_refusal-ne0-2 c = let m : List ℕ = c c.args.message.now in
+    let f : Settings = c c.args.kept.settings in
+    let c : ℕ = c.args.component in
+    let mean : Num = mul (lit 100 tt)
+    (result c.value_in.result 16384 (c.value_in.ensures ∙ ap value_in c.mean_at-mean.ensures) (mean-most m c) tt) tt in
+    let number : back f.number ≡ f.number = held f.number c.struct_told-1.given.0.1 in
+    let factor : c.factor_of-factor.result ≡ node_factor f.number c = c.factor_of-factor.ensures ∙ ap (λ (z : ℤ). node_factor z c) number in
+    let around-is : let k = k c in c.around-p.result ≡ edges (m k) (f k) (c k) (n k) (e k) = let k = k c in
+    c.around-p.ensures ∙ (λ i. around_of (place k i) (is-back (s k).fits.north i) (is-back (s k).fits.east i) (mean.held i) (factor i)) in
+    let j : tie.After-locate = k c in
+    let x : Prepared = c.around-p.result in
+    let low-is : c.position_refusal.result ≡ low (m j) (f j) (c j) (n j) (e j) = let g = c.type_inv.p in
+    let south = held x c.south g.0.1 in
+    let west = held x c.west g.1.1.0.1 in
+    let said : c.position_refusal.result ≡ refusal_at (back (f j).number) (c j) (back x c.south) (back x c.west) = c.position_refusal.ensures in
+    said
+    ∙ (λ i. refusal_at (number i) (c j) (south i) (west i))
+    ∙ ap (λ (y : Prepared). refusal_at (f j).number (c j) y.south y.west) around-is in
+    let low-none : low (m j) (f j) (c j) (n j) (e j) ≡ 0 = sym low-is ∙ c.if-position_refusal-ne0.left in
+    let high_is : c.position_refusal-2.result ≡ high (m j) (f j) (c j) (n j) (e j) = let g = c.type_inv.p in
+    let north = held x.north g.1.0.1 in
+    let east = held x.east g.1.1.1.0.1 in
+    let said : c.position_refusal-2.result ≡ refusal_at (back (f j).number) (c j) (back x.north) (back x.east) = c.position_refusal-2.ensures in
+    said
+    ∙ (λ i. refusal_at (number i) (c j) (north i) (east i))
+    ∙ ap (λ (y : Prepared). refusal_at (f j).number (c j) y.north y.east) around-is in
+    let j = j in
+    c.no_edges-then-position_refusal-ne0-2.ensures ∙ high-out (m j) (f j) (c j) (n j) (e j) (none (a c).before) low-none (λ z. c.if-position_refusal-ne0-2.true (high_is ∙ z))
 
 pub returns : goal.returns
-returns c = let j = j (l c) in
-    around-is (a (l c)) ∙ both-in (m j) (f j) (c j) (n j) (e j) (none (a (l c)).before) (low-none c) (sym (high_is c) ∙ c.if-position_refusal-ne0-2.false)
+returns c = let m : List ℕ = c c.args.message.now in
+    let f : Settings = c c.args.kept.settings in
+    let c : ℕ = c.args.component in
+    let mean : Num = mul (lit 100 tt)
+    (result c.value_in.result 16384 (c.value_in.ensures ∙ ap value_in c.mean_at-mean.ensures) (mean-most m c) tt) tt in
+    let number : back f.number ≡ f.number = held f.number c.struct_told-1.given.0.1 in
+    let factor : c.factor_of-factor.result ≡ node_factor f.number c = c.factor_of-factor.ensures ∙ ap (λ (z : ℤ). node_factor z c) number in
+    let around-is : let k = k c in c.around-p.result ≡ edges (m k) (f k) (c k) (n k) (e k) = let k = k c in
+    c.around-p.ensures ∙ (λ i. around_of (place k i) (is-back (s k).fits.north i) (is-back (s k).fits.east i) (mean.held i) (factor i)) in
+    let j : tie.After-locate = k c in
+    let x : Prepared = c.around-p.result in
+    let low-is : c.position_refusal.result ≡ low (m j) (f j) (c j) (n j) (e j) = let g = c.type_inv.p in
+    let south = held x c.south g.0.1 in
+    let west = held x c.west g.1.1.0.1 in
+    let said : c.position_refusal.result ≡ refusal_at (back (f j).number) (c j) (back x c.south) (back x c.west) = c.position_refusal.ensures in
+    said
+    ∙ (λ i. refusal_at (number i) (c j) (south i) (west i))
+    ∙ ap (λ (y : Prepared). refusal_at (f j).number (c j) y.south y.west) around-is in
+    let low-none : low (m j) (f j) (c j) (n j) (e j) ≡ 0 = sym low-is ∙ c.if-position_refusal-ne0.left in
+    let high_is : c.position_refusal-2.result ≡ high (m j) (f j) (c j) (n j) (e j) = let g = c.type_inv.p in
+    let north = held x.north g.1.0.1 in
+    let east = held x.east g.1.1.1.0.1 in
+    let said : c.position_refusal-2.result ≡ refusal_at (back (f j).number) (c j) (back x.north) (back x.east) = c.position_refusal-2.ensures in
+    said
+    ∙ (λ i. refusal_at (number i) (c j) (north i) (east i))
+    ∙ ap (λ (y : Prepared). refusal_at (f j).number (c j) y.north y.east) around-is in
+    let j = j in
+    around-is (a c) ∙ both-in (m j) (f j) (c j) (n j) (e j) (none (a c).before) low-none (sym high_is ∙ c.if-position_refusal-ne0-2.false)
 
 pub overflow_mul-value_in : goal.overflow_mul-value_in
-overflow_mul-value_in c = fits (mean c)
+overflow_mul-value_in c =
+    let m : List ℕ = c c.args.message.now in
+    let c : ℕ = c.args.component in
+    let mean : Num = mul (lit 100 tt)
+    (result c.value_in.result 16384 (c.value_in.ensures ∙ ap value_in c.mean_at-mean.ensures) (mean-most m c) tt) tt in
+    fits mean

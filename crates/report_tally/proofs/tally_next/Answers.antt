@@ -21,64 +21,34 @@ pub returns-then-component-gt2 : goal.returns-then-component-gt2
 unfolding next_of next_refusal
 returns-then-component-gt2 c = simp (lt-ltb _ _ c.if-component-gt2.true)
 
--- the points of the tally
-module _ (k : tie.After-points-in) where
-  abbrev s : tie.Start
-  s = k.before.before.before.before
-
-  abbrev t : Tally
-  t = s.args.t
-
-  known : s.args.component ≤ 2
-  known = k.before.before.if1.left
-
 pub returns-then-n-ge10000 : goal.returns-then-n-ge10000
 unfolding next_of next_refusal
-returns-then-n-ge10000 c = simp (le-ltb 2 _ (known c), le-leb 10000 (points_in (t c)) (uncapped-over (points_in (t c)) c.points_in-n.result c.points_in-n.ensures c.if-n-ge10000.true))
-
--- fewer than 10,000, and the sum
-module _ (q : tie.After-magnitude) where
-  abbrev k : tie.After-points-in
-  k = q.before.before.before
-
-  same : k.points-in.result ≡ points_in (t k)
-  same = uncapped (points_in (t k)) k.points-in.result k.points-in.ensures q.before.before.if2.left
-
-  few : points_in (t k) < 10000
-  few = subst (λ (n : ℕ). n < 10000) same q.before.before.if2.left
-
-  sum : q.magnitude.result ≡ nat_abs (t k).sum
-  sum = q.magnitude.ensures ∙ ap nat_abs (held (t k).sum q.before.struct_told.given.1.1.1.1.1.1.0.1)
+returns-then-n-ge10000 c = let t : Tally = c.args.t in
+    let known : c.args.component ≤ 2 = c.if-component-gt2.left in
+    simp (le-ltb 2 _ known, le-leb 10000 (points_in t) (uncapped-over (points_in t) c.points_in-n.result c.points_in-n.ensures c.if-n-ge10000.true))
 
 pub returns-then-magnitude-gt100000000000 : goal.returns-then-magnitude-gt100000000000
 unfolding next_of next_refusal
-returns-then-magnitude-gt100000000000 c = let k = k c in
+returns-then-magnitude-gt100000000000 c = let t : Tally = c.args.t in
+    let same : c.points_in-n.result ≡ points_in t = uncapped (points_in t) c.points_in-n.result c.points_in-n.ensures c.if-n-ge10000.left in
+    let few : points_in t < 10000 = subst (λ (n : ℕ). n < 10000) same c.if-n-ge10000.left in
+    let sum : c.magnitude.result ≡ nat_abs t.sum = c.magnitude.ensures ∙ ap nat_abs (held t.sum c.type_inv.t.1.1.1.1.1.1.0.1) in
+    let k = k c in
     simp (
       le-ltb 2 _ (known k),
-      lt-leb 10000 (points_in (t k)) (few c),
-      lt-ltb 100000000000 (nat_abs (t k).sum) (subst (λ (n : ℕ). 100000000000 < n) (sum c) c.if-magnitude-gt100000000000.true),
+      lt-leb 10000 (points_in (t k)) few,
+      lt-ltb 100000000000 (nat_abs (t k).sum) (subst (λ (n : ℕ). 100000000000 < n) sum c.if-magnitude-gt100000000000.true),
     )
-
--- what is answered at the point
-module _ (c : tie.After-struct-told2) where
-  abbrev q : tie.After-magnitude
-  q = c.before.before.before
-
-  abbrev z : tie.Start
-  z = s (k q)
-
-  abbrev o : Counted
-  o = outcome_at z.args.message.now z.args.component z.args.north z.args.east
-
-  answer : c.before.part_at.result ≡ o
-  answer = c.before.part_at.ensures ∙ (λ i. outcome_at z.args.message.now z.args.component (is-back z.fits.north i) (is-back z.fits.east i))
-
-  near : nat_abs (t (k q)).sum ≤ 100000000000
-  near = subst (λ (n : ℕ). n ≤ 100000000000) (sum q) c.before.before.if3.false
 
 pub returns : goal.returns
 unfolding next_of next_refusal
-returns c = let q = q c in
+returns c = let t : Tally = c.args.t in
+    let sum : c.magnitude.result ≡ nat_abs t.sum = c.magnitude.ensures ∙ ap nat_abs (held t.sum c.type_inv.t.1.1.1.1.1.1.0.1) in
+    let z : tie.Start = s c in
+    let o : Counted = outcome_at z c.args.message.now z c.args.component z c.args.north z c.args.east in
+    let answer : c.part_at-o.result ≡ o = c.part_at-o.ensures ∙ (λ i. outcome_at z c.args.message.now z c.args.component (is-back z c.fits.north i) (is-back z c.fits.east i)) in
+    let near : nat_abs t.sum ≤ 100000000000 = subst (λ (n : ℕ). n ≤ 100000000000) sum c.if-magnitude-gt100000000000.false in
+    let q = q c in
     let k = k q in
     let a = c.part_at-o.result in
     (λ i. record {
@@ -86,7 +56,7 @@ returns c = let q = q c in
       tally =
           (c.with_outcome.ensures
           ∙ (λ j. grown_by (t k) a.refusal (held a.count c.type_inv.o.1.0.1 j) (same q j))
-          ∙ (λ j. grown_by (t k) (answer c j).refusal (answer c j).count (points_in (t k)))
-          ∙ takes_one (t k) (o c) (outcome-sound (z c).args.message.now (z c).args.component (z c).args.north (z c).args.east) (few q) (near c)) i;
+          ∙ (λ j. grown_by (t k) (answer j).refusal (answer j).count (points_in (t k)))
+          ∙ takes_one (t k) o (outcome-sound z.args.message.now z.args.component z.args.north z.args.east) (few q) near) i;
     })
-    ∙ simp (le-ltb 2 _ (known k), lt-leb 10000 (points_in (t k)) (few q), le-ltb 100000000000 (nat_abs (t k).sum) (near c))
+    ∙ simp (le-ltb 2 _ (known k), lt-leb 10000 (points_in (t k)) (few q), le-ltb 100000000000 (nat_abs (t k).sum) near)

@@ -17,23 +17,15 @@ loop-i-init c = (c.point_count-n.ensures, (omega arith, refl))
 pub right_point-requires : goal.right_point-requires
 right_point-requires c = c.requires
 
-module _ (c : tie.After-right-point invariant-loop decreases-loop) where
-  abbrev s : tie.Start invariant-loop decreases-loop
-  s = c.before.before.before.before.before.before.before
-
-  abbrev l : tie.At-loop invariant-loop decreases-loop
-  l = c.before.before.before
-
-  tested : c.right-point.result ≡ right s.args.message.now (point_at s.args.file.now l.loop.i)
-  tested = c.right-point.ensures ∙ ap (right s.args.message.now) c.before.point_at.ensures
-
 pub returns-then-not-right_point : goal.returns-then-not-right_point
-returns-then-not-right_point c = round-bad (s c).args.message.now (s c).args.file.now (l c).loop.i (omega (arith, c.loop-i-test.true, (l c).loop.invariant.0))
-    (sym (tested c) ∙ c.if-not-right_point.true) (l c).loop.invariant.1.1
+returns-then-not-right_point c = let tested : c.right_point.result ≡ right c.args.message.now (point_at c.args.file.now c.loop-i.i) = c.right_point.ensures ∙ ap (right c.args.message.now) c.point_at.ensures in
+    round-bad c.args.message.now c.args.file.now c.loop-i.i (omega (arith, c.loop-i-test.true, c.loop-i.invariant.0))
+    (sym tested ∙ c.if-not-right_point.true) c.loop-i.invariant.1.1
 
 pub loop-i-preserved : goal.loop-i-preserved
-loop-i-preserved c = let v = (l c).loop.invariant in
-    (v.0, (omega arith, v.1.1 ∙ round-right (s c).args.message.now (s c).args.file.now (l c).loop.i (omega (arith, c.loop-i-test.true, v.0)) (sym (tested c) ∙ c.if-not-right_point.false)))
+loop-i-preserved c = let tested : c.right_point.result ≡ right c.args.message.now (point_at c.args.file.now c.loop-i.i) = c.right_point.ensures ∙ ap (right c.args.message.now) c.point_at.ensures in
+    let v = c.loop-i.invariant in
+    (v.0, (omega arith, v.1.1 ∙ round-right c.args.message.now c.args.file.now c.loop-i.i (omega (arith, c.loop-i-test.true, v.0)) (sym tested ∙ c.if-not-right_point.false)))
 
 pub returns : goal.returns
 returns c = let v = c.loop-i.invariant in

@@ -15,24 +15,21 @@ use Rattle.sample_checks.specs.Check.{right}
 use Rattle.sample_checks.proofs.Checks.{same_test}
 use Rattle.sample_checks.proofs.right_point.Goals as goal
 
-module _ (c : tie.After-count-at) where
-  abbrev s : tie.Start
-  s = c.before.before.before.before
-
-  answer : c.count_at.result ≡ counted (message_shift s.args.message.now s.args.p.component s.args.p.north s.args.p.east)
-  answer =
-      let t = c.before.before.struct_told.given in
-      c.count_at.ensures
-      ∙ (λ i. counted_by s.args.message.now (s.pre i) s.args.p.component (held s.args.p.north t.1.0.1 i) (held s.args.p.east t.1.1.0.1 i))
-      ∙ counted_is s.args.message.now s.args.p.component s.args.p.north s.args.p.east
-
-  tested : (eqb c.count_at.result.refusal 0 && same_z c.count_at.result.count s.args.p.claim) ≡ right s.args.message.now s.args.p
-  unfolding right
-  tested i = eqb (answer i).refusal 0 && same_z (answer i).count s.args.p.claim
-
 pub returns-then-answer-ne0 : goal.returns-then-answer-ne0
-returns-then-answer-ne0 c = rw (ne_eqb _ _ c.if-answer-ne0.true) at (tested c)
+unfolding right
+returns-then-answer-ne0 c = let answer : c.count_at-answer.result ≡ counted (message_shift c.args.message.now c.args.p.component c.args.p.north c.args.p.east) = let t = c.type_inv.p in
+    c.count_at-answer.ensures
+    ∙ (λ i. counted_by c.args.message.now (c.requires i) c.args.p.component (held c.args.p.north t.1.0.1 i) (held c.args.p.east t.1.1.0.1 i))
+    ∙ counted_is c.args.message.now c.args.p.component c.args.p.north c.args.p.east in
+    let tested : (eqb c.count_at-answer.result.refusal 0 && same_z c.count_at-answer.result.count c.args.p.claim) ≡ right c.args.message.now c.args.p = λ i. eqb (answer i).refusal 0 && same_z (answer i).count c.args.p.claim in
+    rw (ne_eqb _ _ c.if-answer-ne0.true) at tested
 
 pub returns : goal.returns
-returns c = same_test c.count_at-answer.result.count (s c).args.p.claim c.type_inv.answer.1.0.1 c.struct_told-4-1.given.1.1.1.0.1
-    ∙ rw (eq-eqb _ _ c.if-answer-ne0.false) at (tested c)
+unfolding right
+returns c = let answer : c.count_at-answer.result ≡ counted (message_shift c.args.message.now c.args.p.component c.args.p.north c.args.p.east) = let t = c.type_inv.p in
+    c.count_at-answer.ensures
+    ∙ (λ i. counted_by c.args.message.now (c.requires i) c.args.p.component (held c.args.p.north t.1.0.1 i) (held c.args.p.east t.1.1.0.1 i))
+    ∙ counted_is c.args.message.now c.args.p.component c.args.p.north c.args.p.east in
+    let tested : (eqb c.count_at-answer.result.refusal 0 && same_z c.count_at-answer.result.count c.args.p.claim) ≡ right c.args.message.now c.args.p = λ i. eqb (answer i).refusal 0 && same_z (answer i).count c.args.p.claim in
+    same_test c.count_at-answer.result.count c.args.p.claim c.type_inv.answer.1.0.1 c.struct_told-4-1.given.1.1.1.0.1
+    ∙ rw (eq-eqb _ _ c.if-answer-ne0.false) at tested

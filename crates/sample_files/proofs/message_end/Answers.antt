@@ -13,13 +13,11 @@ use Rattle.sample_files.proofs.message_end.Goals as goal
 pub returns-then-length-lt3 : goal.returns-then-length-lt3
 returns-then-length-lt3 c = sym (end-cut c.args.file.now (omega arith))
 
-module _ (c : tie.After-number-at) where
-  size : c.number-at.result ≡ number 2 (drop 1 c.before.before.before.args.file.now)
-  size = c.number-at.ensures ∙ number-within c.before.before.before.args.file.now 1 2 (omega arith) (omega (arith, c.before.if1.false))
-
 pub returns-then-length-n : goal.returns-then-length-n
-returns-then-length-n c = sym (end-cut c.args.file.now (omega (arith, size c, c.if-length-n.true)))
+returns-then-length-n c = let size : c.number_at-n.result ≡ number 2 (drop 1 c.args.file.now) = c.number_at-n.ensures ∙ number-within c.args.file.now 1 2 (omega arith) (omega (arith, c.if-length-lt3.false)) in
+    sym (end-cut c.args.file.now (omega (arith, size, c.if-length-n.true)))
 
 pub returns : goal.returns
-returns c = ap (λ (n : ℕ). 3 + n) (size c)
-    ∙ sym (end_whole c.args.file.now (omega (arith, size c, c.if-length-n.false, c.if-length-lt3.false)))
+returns c = let size : c.number_at-n.result ≡ number 2 (drop 1 c.args.file.now) = c.number_at-n.ensures ∙ number-within c.args.file.now 1 2 (omega arith) (omega (arith, c.if-length-lt3.false)) in
+    ap (λ (n : ℕ). 3 + n) size
+    ∙ sym (end_whole c.args.file.now (omega (arith, size, c.if-length-n.false, c.if-length-lt3.false)))

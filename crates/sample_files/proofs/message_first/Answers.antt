@@ -19,16 +19,14 @@ pub returns-then-file-ne1 : goal.returns-then-file-ne1
 unfolding message_first
 returns-then-file-ne1 c = rw (le-leb _ _ c.if-file-lt3.false, ne_eqb _ _ c.if-file-ne1.true)
 
-module _ (c : tie.After-number-at) where
-  size : c.number-at.result ≡ number 2 (drop 1 c.before.before.before.before.before.args.file.now)
-  size = c.number-at.ensures ∙ number-within c.before.before.before.before.before.args.file.now 1 2 (omega arith) (omega (arith, c.before.before.before.if1.false))
-
 pub returns-then-file-n : goal.returns-then-file-n
 unfolding message_first
-returns-then-file-n c = let f = c.args.file.now in
-    rw (le-leb _ _ c.if-file-lt3.false, eq-eqb _ _ c.if-file-ne1.false, lt-leb (3 + number 2 (drop 1 f)) (length f) (omega (arith, size c, c.if-file-n.true)))
+returns-then-file-n c = let size : c.number_at-n.result ≡ number 2 (drop 1 c.args.file.now) = c.number_at-n.ensures ∙ number-within c.args.file.now 1 2 (omega arith) (omega (arith, c.if-file-lt3.false)) in
+    let f = c.args.file.now in
+    rw (le-leb _ _ c.if-file-lt3.false, eq-eqb _ _ c.if-file-ne1.false, lt-leb (3 + number 2 (drop 1 f)) (length f) (omega (arith, size, c.if-file-n.true)))
 
 pub returns : goal.returns
 unfolding message_first
-returns c = let f = c.args.file.now in
-    rw (le-leb _ _ c.if-file-lt3.false, eq-eqb _ _ c.if-file-ne1.false, le-leb (3 + number 2 (drop 1 f)) (length f) (omega (arith, size c, c.if-file-n.false, c.if-file-lt3.false)))
+returns c = let size : c.number_at-n.result ≡ number 2 (drop 1 c.args.file.now) = c.number_at-n.ensures ∙ number-within c.args.file.now 1 2 (omega arith) (omega (arith, c.if-file-lt3.false)) in
+    let f = c.args.file.now in
+    rw (le-leb _ _ c.if-file-lt3.false, eq-eqb _ _ c.if-file-ne1.false, le-leb (3 + number 2 (drop 1 f)) (length f) (omega (arith, size, c.if-file-n.false, c.if-file-lt3.false)))

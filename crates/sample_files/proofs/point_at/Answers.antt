@@ -14,25 +14,24 @@ pub returns-then-point_count-i : goal.returns-then-point_count-i
 returns-then-point_count-i c = let a = c.args in
     point-none a.file.now a.i (omega (arith, c.point_count.ensures, c.if-point_count-i.true))
 
-module _ (c : tie.After-message-end) where
-  abbrev f : List ℕ
-  f = c.before.before.before.before.args.file.now
-
-  stands : c.message-end.result + point_size * c.before.before.before.before.args.i + point_size ≤ length f
-  stands =
-      omega (arith, c.message-end.ensures, end-within f, count-is f, c.before.before.point-count.ensures, c.before.if1.false)
-
 pub overflow_mul-a : goal.overflow_mul-a
-overflow_mul-a c = let h = stands c in search rules
+overflow_mul-a c = let f : List ℕ = c.args.file.now in
+    let stands : c.message_end.result + point_size * c.args.i + point_size ≤ length f = omega (arith, c.message_end.ensures, end-within f, count-is f, c.point_count.ensures, c.if-point_count-i.false) in
+    let h = stands in search rules
 
 pub overflow_add-a : goal.overflow_add-a
-overflow_add-a c = let h = stands c in search rules
+overflow_add-a c = let f : List ℕ = c.args.file.now in
+    let stands : c.message_end.result + point_size * c.args.i + point_size ≤ length f = omega (arith, c.message_end.ensures, end-within f, count-is f, c.point_count.ensures, c.if-point_count-i.false) in
+    let h = stands in search rules
 
 pub point_in-requires : goal.point_in-requires
-point_in-requires c = stands c
+point_in-requires c = let f : List ℕ = c.args.file.now in
+    let stands : c.message_end.result + point_size * c.args.i + point_size ≤ length f = omega (arith, c.message_end.ensures, end-within f, count-is f, c.point_count.ensures, c.if-point_count-i.false) in
+    stands
 
 pub returns : goal.returns
-returns c = let a = c.args in
+returns c = let f : List ℕ = c.args.file.now in
+    let a = c.args in
     c.point_in.ensures
-    ∙ ap (λ (n : ℕ). point_of (drop (n + point_size * a.i) (f c))) c.message_end.ensures
-    ∙ point-is (f c) a.i (omega (arith, c.point_count.ensures, c.if-point_count-i.false))
+    ∙ ap (λ (n : ℕ). point_of (drop (n + point_size * a.i) f)) c.message_end.ensures
+    ∙ point-is f a.i (omega (arith, c.point_count.ensures, c.if-point_count-i.false))

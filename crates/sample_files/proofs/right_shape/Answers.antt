@@ -18,25 +18,21 @@ unfolding tested
 returns-then-not-message_first c = rw (sym c.message_first.ensures ∙ c.if-not-message_first.true) at
     (shape_is c.args.file.now (λ i. (c.type_inv.file i).fits))
 
-module _ (c : tie.After-message-end) where
-  abbrev f : List ℕ
-  f = c.before.before.before.before.args.file.now
-
-  inside : c.message-end.result ≤ length f
-  inside = omega (arith, c.message-end.ensures, end-within f)
-
-  part : take (length f - c.message-end.result) (drop c.message-end.result f) ≡ rest_of f
-  part = tail f c.message-end.result ∙ ap (λ (k : ℕ). drop k f) c.message-end.ensures ∙ rest-is f
-
 pub slice_bounds-only_points-count : goal.slice_bounds-only_points-count
-slice_bounds-only_points-count c = inside c
+slice_bounds-only_points-count c = let f : List ℕ = c.args.file.now in
+    let inside : c.message_end-e.result ≤ length f = omega (arith, c.message_end-e.ensures, end-within f) in
+    inside
 
 pub slice_bounds-only_points-start : goal.slice_bounds-only_points-start
-slice_bounds-only_points-start c = let h = inside c in search rules
+slice_bounds-only_points-start c = let f : List ℕ = c.args.file.now in
+    let inside : c.message_end-e.result ≤ length f = omega (arith, c.message_end-e.ensures, end-within f) in
+    let h = inside in search rules
 
 pub returns : goal.returns
 unfolding tested
-returns c = c.only_points.ensures
-    ∙ ap only_points (part c)
+returns c = let f : List ℕ = c.args.file.now in
+    let part : take (length f - c.message_end-e.result) (drop c.message_end-e.result f) ≡ rest_of f = tail f c.message_end-e.result ∙ ap (λ (k : ℕ). drop k f) c.message_end-e.ensures ∙ rest-is f in
+    c.only_points.ensures
+    ∙ ap only_points part
     ∙ rw (sym c.message_first.ensures ∙ c.if-not-message_first.false) at
-    (shape_is (f c) (λ i. (c.type_inv.file i).fits))
+    (shape_is f (λ i. (c.type_inv.file i).fits))

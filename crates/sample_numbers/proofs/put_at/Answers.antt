@@ -10,19 +10,18 @@ use Rattle.sample_numbers.proofs.Number.{length-bytes_of}
 use Rattle.sample_numbers.proofs.Word.{put-number}
 use Rattle.sample_numbers.proofs.put_at.Goals as goal
 
-module _ (c : tie.Then1) where
-  stands : c.before.before.before.args.a + c.before.before.before.args.k ≤ length c.before.before.before.args.out.now
-  stands = leb-true _ _ (sym c.before.within.ensures ∙ c.if1.true)
-
 pub overflow_add-e : goal.overflow_add-e
-overflow_add-e c = let h = stands c in search rules
+overflow_add-e c = let stands : c.args.a + c.args.k ≤ length c.args.out.now = leb-true _ _ (sym c.within.ensures ∙ c.if-within.true) in
+    let h = stands in search rules
 
 pub slice_bounds-put_number-end : goal.slice_bounds-put_number-end
-slice_bounds-put_number-end c = let h = stands c in search rules
+slice_bounds-put_number-end c = let stands : c.args.a + c.args.k ≤ length c.args.out.now = leb-true _ _ (sym c.within.ensures ∙ c.if-within.true) in
+    let h = stands in search rules
 
 pub returns-then-within : goal.returns-then-within
-returns-then-within c = let a = c.args in
-    put-number a.out.now _ a.a a.k a.v (stands c) c.put_number.ensures
+returns-then-within c = let stands : c.args.a + c.args.k ≤ length c.args.out.now = leb-true _ _ (sym c.within.ensures ∙ c.if-within.true) in
+    let a = c.args in
+    put-number a.out.now _ a.a a.k a.v stands c.put_number.ensures
 
 pub returns-else-within : goal.returns-else-within
 unfolding put_bytes

@@ -18,27 +18,21 @@ overflow_mul-r c = let l = c.loop-i in
     let h = fits_word (l.r * 256 + 0) (l.i + 1) (omega arith) (round_room l.r 0 l.i l.invariant.1.0 (omega arith)) in
     record { fits = omega arith }
 
-module _ (c : tie.After-shared-slice-known invariant-loop decreases-loop) where
-  abbrev i : ℕ
-  i = c.before.before.loop.i
-
-  abbrev r : ℕ
-  r = c.before.before.loop.r
-
-  abbrev at : ℕ
-  at = c.before.before.before.args.a + i
-
-  abbrev s : List ℕ
-  s = c.before.before.before.args.s.now
-
-  next : r * 256 + get_or s at 0 < 2 ^ (8 * (i + 1))
-  next = round_room r (get_or s at 0) i c.before.before.loop.invariant.1.0 (c.shared-slice-known.given at).fits
-
 pub overflow_add-r-in-loop-i : goal.overflow_add-r-in-loop-i
-overflow_add-r-in-loop-i c = record { fits = fits_word _ (i c + 1) (omega arith) (next c) }
+overflow_add-r-in-loop-i c = let i : ℕ = c.loop-i.i in
+    let r : ℕ = c.loop-i.r in
+    let at : ℕ = c.args.a + i in
+    let s : List ℕ = c.args.s.now in
+    let next : r * 256 + get_or s at 0 < 2 ^ (8 * (i + 1)) = round_room r (get_or s at 0) i c.loop-i.invariant.1.0 (c.type_inv.s at).fits in
+    record { fits = fits_word _ (i + 1) (omega arith) next }
 
 pub loop-i-preserved : goal.loop-i-preserved
-loop-i-preserved c = (omega arith, (next c, round_number (s c) c.args.a (r c) (i c) c.loop-i.invariant.1.1))
+loop-i-preserved c = let i : ℕ = c.loop-i.i in
+    let r : ℕ = c.loop-i.r in
+    let at : ℕ = c.args.a + i in
+    let s : List ℕ = c.args.s.now in
+    let next : r * 256 + get_or s at 0 < 2 ^ (8 * (i + 1)) = round_room r (get_or s at 0) i c.loop-i.invariant.1.0 (c.type_inv.s at).fits in
+    (omega arith, (next, round_number s c.args.a r i c.loop-i.invariant.1.1))
 
 pub returns : goal.returns
 returns c = let a = c.args in

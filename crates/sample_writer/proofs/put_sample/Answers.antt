@@ -13,23 +13,16 @@ use Rattle.sample_writer.specs.Refusals.{answer_at}
 use borrow.Author.Rules.{rules}
 use Rattle.sample_writer.proofs.put_sample.Goals as goal
 
-module _ (c : tie.After-count-at) where
-  abbrev s : tie.Start
-  s = c.before.before.before
-
-  answer : c.count_at.result ≡ counted (message_shift s.args.message.now s.args.component s.args.north s.args.east)
-  answer =
-      c.count_at.ensures
-      ∙ (λ j. counted_by s.args.message.now (s.pre.0 j) s.args.component (held s.args.north s.fits.north.sfits j) (held s.args.east s.fits.east.sfits j))
-      ∙ counted_is s.args.message.now s.args.component s.args.north s.args.east
-
 pub returns : goal.returns
 unfolding sample answer_at
-returns c = c.put_point.ensures
+returns c = let answer : c.count_at-answer.result ≡ counted (message_shift c.args.message.now c.args.component c.args.north c.args.east) = c.count_at-answer.ensures
+    ∙ (λ j. counted_by c.args.message.now (c.requires.0 j) c.args.component (held c.args.north c.ranges.north.sfits j) (held c.args.east c.ranges.east.sfits j))
+    ∙ counted_is c.args.message.now c.args.component c.args.north c.args.east in
+    c.put_point.ensures
     ∙ λ i. point_field
     (record {
-      component = (s c).args.component;
-      north = held (s c).args.north (s c).ranges.north.sfits i;
-      east = held (s c).args.east (s c).ranges.east.sfits i;
-      claim = (held c.count_at-answer.result.count c.type_inv.answer.1.0.1 ∙ ap (λ (r : Counted). r.count) (answer c)) i;
+      component = c.args.component;
+      north = held c.args.north c.ranges.north.sfits i;
+      east = held c.args.east c.ranges.east.sfits i;
+      claim = (held c.count_at-answer.result.count c.type_inv.answer.1.0.1 ∙ ap (λ (r : Counted). r.count) answer) i;
     })

@@ -18,44 +18,34 @@ use Rattle.sample_writer.proofs.put_samples.Goals as goal
 pub loop-i-init : goal.loop-i-init
 loop-i-init c = (omega arith, (omega arith, (omega arith, (omega arith, (omega arith, refl)))))
 
-module _ (c : tie.After-put-sample invariant-loop decreases-loop) where
-  abbrev l : tie.At-loop invariant-loop decreases-loop
-  l = c.before.before.before.before.before.before
-
-  abbrev s : tie.Start invariant-loop decreases-loop
-  s = l.before.before.before.before
-
-  put : c.put-sample.new.0 ≡ point_field (sample s.args.message.now (point s.args.components.now s.args.north.now s.args.east.now l.loop.i))
-  put =
-      c.put-sample.ensures
-      ∙ λ j. point_field
-      (sample s.args.message.now
-      (record {
-        component = get_or s.args.components.now l.loop.i 0;
-        north = held (get_or s.args.north.now l.loop.i (pos 0)) c.before.before.put-sample-arg2.given j;
-        east = held (get_or s.args.east.now l.loop.i (pos 0)) c.before.put-sample-arg3.given j;
-      }))
-
 pub put_sample-requires : goal.put_sample-requires
 put_sample-requires c = (c.requires.0, search rules)
 
 pub loop-i-preserved : goal.loop-i-preserved
-loop-i-preserved c = let v = (l c).loop.invariant.1 in (
-  omega arith,
-  (
-    v.0,
-    (
-      v.1.0,
+loop-i-preserved c = let put : c.put_sample.new.0 ≡ point_field (sample c.args.message.now (point c.args.components.now c.args.north.now c.args.east.now c.loop-i.i)) = c.put_sample.ensures
+    ∙ λ j. point_field
+    (sample c.args.message.now
+    (record {
+      component = get_or c.args.components.now c.loop-i.i 0;
+      north = held (get_or c.args.north.now c.loop-i.i (pos 0)) c.put_sample-arg-in-loop-i-1.given j;
+      east = held (get_or c.args.east.now c.loop-i.i (pos 0)) c.put_sample-arg-in-loop-i-2-1.given j;
+    })) in
+    let v = c.loop-i.invariant.1 in (
+      omega arith,
       (
-        size-put (l c).loop.out c.put_sample.new.0 (l c).loop.i c.put_sample.auto.0 ∙ v.1.1.0,
+        v.0,
         (
-          v.1.1.1.0,
-          round-fields _ _ _ _ c.loop-i-test.true v.0 v.1.0 _ (l c).loop.out c.put_sample.new.0 (put c) (omega arith) ∙ v.1.1.1.1,
+          v.1.0,
+          (
+            size-put c.loop-i.out c.put_sample.new.0 c.loop-i.i c.put_sample.auto.0 ∙ v.1.1.0,
+            (
+              v.1.1.1.0,
+              round-fields _ _ _ _ c.loop-i-test.true v.0 v.1.0 _ c.loop-i.out c.put_sample.new.0 put (omega arith) ∙ v.1.1.1.1,
+            ),
+          ),
         ),
       ),
-    ),
-  ),
-)
+    )
 
 pub shape_of-out : goal.shape_of-out
 shape_of-out c = let v = c.loop-i.invariant.1.1.1 in v.0 ∙ sym v.1.0

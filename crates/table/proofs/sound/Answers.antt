@@ -16,7 +16,7 @@ returns-then-not-sound_marks c = rw (row-slots c.args.table.now _ c.requires c.s
 
 pub held_by-requires : goal.held_by-requires
 held_by-requires c = let well : well_slots c.args.table.now ≡ true = row-slots _ _ c.requires c.sound_marks.ensures ∙ c.if-not-sound_marks.false in
-    slots-size _ (well)
+    slots-size _ well
 
 pub returns-then-held_by-gt-MOST : goal.returns-then-held_by-gt-MOST
 unfolding well_formed
@@ -25,7 +25,7 @@ returns-then-held_by-gt-MOST c = let well : well_slots c.args.table.now ≡ true
 
 pub held_by-requires-2 : goal.held_by-requires-2
 held_by-requires-2 c = let well : well_slots c.args.table.now ≡ true = row-slots _ _ c.requires c.sound_marks.ensures ∙ c.if-not-sound_marks.false in
-    slots-size _ (well)
+    slots-size _ well
 
 pub returns : goal.returns
 unfolding well_formed

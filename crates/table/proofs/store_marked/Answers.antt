@@ -59,7 +59,7 @@ returns-then-i-ge-SLOTS c = let accepted : refusal c.args.message.now ≡ 0 = sy
 
 pub replace-requires : goal.replace-requires
 replace-requires c = let accepted : refusal c.args.message.now ≡ 0 = sym (header-refusal c.args.message.now _ c.read_header-h.ensures) ∙ c.if-refusal-ne0.false in
-    (c.if-table-ne-TABLE_SIZE.false, (c.if-i-ge-SLOTS.false, (accepted-size _ (accepted)).1))
+    (c.if-table-ne-TABLE_SIZE.false, (c.if-i-ge-SLOTS.false, (accepted-size _ accepted).1))
 
 pub returns : goal.returns
 returns c = let accepted : refusal c.args.message.now ≡ 0 = sym (header-refusal c.args.message.now _ c.read_header-h.ensures) ∙ c.if-refusal-ne0.false in

@@ -16,7 +16,7 @@ use Rattle.grid_rows.proofs.Run.{On, sum, starts, goes_on, whole-most, ends}
 use Rattle.grid_rows.proofs.increments.fill.Given as goal
 
 abbrev pub invariant-loop-i : goal.invariant-loop-i
-invariant-loop-i l = On (to_z w64 l.mean) l.area l.initial.p l.by l.initial.row l.row l.p l.i
+invariant-loop-i l = On l.mean l.area l.initial.p l.by l.initial.row l.row l.p l.i
 
 abbrev pub decreases-loop-i : goal.decreases-loop-i
 decreases-loop-i l = length l.initial.row - l.i

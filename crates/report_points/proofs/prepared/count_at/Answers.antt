@@ -36,63 +36,81 @@ from_zero a b h =
     subst (λ (z : ℤ). lt_z z (pos 0) ≡ false) (sym (abs-above (order (nat 0) (at b ⊟ at a) (omega (arith, known (at a) (at b) h)))))
     (le-ltb (nat_abs (b -ℤ a)) 0 (omega arith))
 
-module _ (t : tie.Else4) where
-  abbrev b : tie.Else2
-  b = t.before.before.before.before.before.before
-
-  abbrev s : tie.Start
-  s = b.before.before.before.before.before.before.before
-
-  abbrev p : Prepared
-  p = s.args.p
-
-  abbrev north : Num
-  north = any s.args.north s.fits.north
-
-  abbrev east : Num
-  east = any s.args.east s.fits.east
-
-  abbrev south : Num
-  south = any p.south (record { sfits = t.before.struct-told4.given.0.1 })
-
-  abbrev west : Num
-  west = any p.west (record { sfits = t.before.struct-told4.given.1.1.0.1 })
-
-  between : Between p s.args.north s.args.east
-  between =
-      record {
-        south = not-less north south b.before.before.before.if1.left;
-        north = not-less (any p.north (record { sfits = t.before.struct-told4.given.1.0.1 })) north b.if2.left;
-        west = not-less east west t.before.before.before.if3.left;
-        east = not-less (any p.east (record { sfits = t.before.struct-told4.given.1.1.1.0.1 })) east t.if4.left;
-      }
-
-  between_is : CountBetween s.args.message.now s.args.kept s.args.component p s.args.nodes.now s.args.north s.args.east
-  between_is = s.pre s.args.north s.args.east between
-
-  abbrev y : Num
-  y = sub_within north south 122850000 (omega (arith, between_is.rows, between_is.high.1)) tt
-
-  abbrev x : Num
-  x = sub_within east west 122850000 (omega (arith, between_is.columns, between_is.wide.1)) tt
-
 pub overflow_cast-y : goal.overflow_cast-y
-overflow_cast-y c = let e = cast-natural (y c).z (y c).fit.sfits (from_zero (p c).south (s c).args.north (between c).south) in
-    rw (y c).held (e.0, record { fits = e.1 })
+overflow_cast-y c = let p : Prepared = c.args.p in
+    let north : Num = any c.args.north c.ranges.north in
+    let east : Num = any c.args.east c.ranges.east in
+    let south : Num = any p c.south (record { sfits = c.type_inv.p.0.1 }) in
+    let west : Num = any p c.west (record { sfits = c.type_inv.p.1.1.0.1 }) in
+    let between : Between p c.args.north c.args.east = record {
+      south = not-less north south c.if-north-p.left;
+      north = not-less (any p c.north (record { sfits = c.type_inv.p.1.0.1 })) north c.if-p-north.left;
+      west = not-less east west c.if-east-p.left;
+      east = not-less (any p c.east (record { sfits = c.type_inv.p.1.1.1.0.1 })) east c.if-p-east.left;
+    } in
+    let y : Num = sub_within north south 122850000 (omega (arith, between_is c.rows, between_is c.high.1)) tt in
+    let e = cast-natural y.z y.fit.sfits (from_zero p.south c.args.north between.south) in
+    rw y.held (e.0, record { fits = e.1 })
 
 pub overflow_cast-x : goal.overflow_cast-x
-overflow_cast-x c = let e = cast-natural (x c).z (x c).fit.sfits (from_zero (p c).west (s c).args.east (between c).west) in
-    rw (x c).held (e.0, record { fits = e.1 })
+overflow_cast-x c = let p : Prepared = c.args.p in
+    let north : Num = any c.args.north c.ranges.north in
+    let east : Num = any c.args.east c.ranges.east in
+    let south : Num = any p c.south (record { sfits = c.type_inv.p.0.1 }) in
+    let west : Num = any p c.west (record { sfits = c.type_inv.p.1.1.0.1 }) in
+    let between : Between p c.args.north c.args.east = record {
+      south = not-less north south c.if-north-p.left;
+      north = not-less (any p c.north (record { sfits = c.type_inv.p.1.0.1 })) north c.if-p-north.left;
+      west = not-less east west c.if-east-p.left;
+      east = not-less (any p c.east (record { sfits = c.type_inv.p.1.1.1.0.1 })) east c.if-p-east.left;
+    } in
+    let x : Num = sub_within east west 122850000 (omega (arith, between_is c.columns, between_is c.wide.1)) tt in
+    let e = cast-natural x.z x.fit.sfits (from_zero p.west c.args.east between.west) in
+    rw x.held (e.0, record { fits = e.1 })
 
 pub count_in-requires : goal.count_in-requires
-count_in-requires c = let d = between_is c in (d.high.0, d.high.1, d.wide.0, d.wide.1)
+count_in-requires c = let p : Prepared = c.args.p in
+    let north : Num = any c.args.north c.ranges.north in
+    let east : Num = any c.args.east c.ranges.east in
+    let south : Num = any p c.south (record { sfits = c.type_inv.p.0.1 }) in
+    let west : Num = any p c.west (record { sfits = c.type_inv.p.1.1.0.1 }) in
+    let between : Between p c.args.north c.args.east = record {
+      south = not-less north south c.if-north-p.left;
+      north = not-less (any p c.north (record { sfits = c.type_inv.p.1.0.1 })) north c.if-p-north.left;
+      west = not-less east west c.if-east-p.left;
+      east = not-less (any p c.east (record { sfits = c.type_inv.p.1.1.1.0.1 })) east c.if-p-east.left;
+    } in
+    let between_is : CountBetween c.args.message.now c.args.kept c.args.component p c.args.nodes.now c.args.north c.args.east = c.requires c.args.north c.args.east between in
+    let d = between_is in (d.high.0, d.high.1, d.wide.0, d.wide.1)
 
 pub returns : goal.returns
-returns c = (λ i. record { refusal = 0; count = (held c.count_in.result c.count_in.type_inv ∙ c.count_in.ensures ∙ (λ j. count_in (p c) (s c).args.nodes.now (nat_abs ((y c).held j)) (nat_abs ((x c).held j)))) i })
-    ∙ sym (between_is c).count
+returns c = let p : Prepared = c.args.p in
+    let north : Num = any c.args.north c.ranges.north in
+    let east : Num = any c.args.east c.ranges.east in
+    let south : Num = any p c.south (record { sfits = c.type_inv.p.0.1 }) in
+    let west : Num = any p c.west (record { sfits = c.type_inv.p.1.1.0.1 }) in
+    let between : Between p c.args.north c.args.east = record {
+      south = not-less north south c.if-north-p.left;
+      north = not-less (any p c.north (record { sfits = c.type_inv.p.1.0.1 })) north c.if-p-north.left;
+      west = not-less east west c.if-east-p.left;
+      east = not-less (any p c.east (record { sfits = c.type_inv.p.1.1.1.0.1 })) east c.if-p-east.left;
+    } in
+    let between_is : CountBetween c.args.message.now c.args.kept c.args.component p c.args.nodes.now c.args.north c.args.east = c.requires c.args.north c.args.east between in
+    let y : Num = sub_within north south 122850000 (omega (arith, between_is c.rows, between_is c.high.1)) tt in
+    let x : Num = sub_within east west 122850000 (omega (arith, between_is c.columns, between_is c.wide.1)) tt in
+    (λ i. record { refusal = 0; count = (held c.count_in.result c.count_in.type_inv ∙ c.count_in.ensures ∙ (λ j. count_in p c.args.nodes.now (nat_abs (y.held j)) (nat_abs (x.held j)))) i })
+    ∙ sym between_is.count
 
 pub overflow_sub-y : goal.overflow_sub-y
-overflow_sub-y c = fits (y c)
+overflow_sub-y c =
+    let north : Num = any c.args.north c.ranges.north in
+    let south : Num = any p c.south (record { sfits = c.type_inv.p.0.1 }) in
+    let y : Num = sub_within north south 122850000 (omega (arith, between_is c.rows, between_is c.high.1)) tt in
+    fits y
 
 pub overflow_sub-x : goal.overflow_sub-x
-overflow_sub-x c = fits (x c)
+overflow_sub-x c =
+    let east : Num = any c.args.east c.ranges.east in
+    let west : Num = any p c.west (record { sfits = c.type_inv.p.1.1.0.1 }) in
+    let x : Num = sub_within east west 122850000 (omega (arith, between_is c.columns, between_is c.wide.1)) tt in
+    fits x

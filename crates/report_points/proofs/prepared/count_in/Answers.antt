@@ -16,35 +16,13 @@ use Rattle.report_prepared.specs.declared.Prepared.{Prepared}
 use Rattle.report_prepared.specs.Private.{corners_of, count_in}
 use Rattle.report_points.proofs.prepared.count_in.Goals as goal
 
-module _ (c : tie.After-cell-of2) where
-  abbrev s : tie.Start
-  s = c.before.before
-
-  abbrev p : Prepared
-  p = s.args.p
-
-  row : c.before.cell-of.result ≡ cell p.height s.args.y
-  row = c.before.cell-of.ensures
-
-  column : c.cell-of2.result ≡ cell p.width s.args.x
-  column = c.cell-of2.ensures
-
-  rows : c.before.cell-of.result ≤ 2
-  rows = subst (λ (k : ℕ). k ≤ 2) (sym row) (cell-le p.height s.args.y)
-
-  columns : c.cell-of2.result ≤ 2
-  columns = subst (λ (k : ℕ). k ≤ 2) (sym column) (cell-le p.width s.args.x)
-
-  below : c.before.cell-of.result * p.height ≤ s.args.y
-  below = subst (λ (k : ℕ). k * p.height ≤ s.args.y) (sym row) (cell-from p.height s.args.y)
-
-  before-it : c.cell-of2.result * p.width ≤ s.args.x
-  before-it = subst (λ (k : ℕ). k * p.width ≤ s.args.x) (sym column) (cell-from p.width s.args.x)
-
 pub returns : goal.returns
 unfolding count_in
-returns c = let a = (s c).args in
-    let g = p c in
+returns c = let p : Prepared = c.args.p in
+    let row : c.cell_of-row.result ≡ cell p c.height c.args.y = c.cell_of-row.ensures in
+    let column : c.cell_of-column.result ≡ cell p c.width c.args.x = c.cell_of-column.ensures in
+    let a = c.args in
+    let g = p in
     let v : List ℤ = a.nodes.now in
     let i₀ = c.cell_of-row.result in
     let j₀ = c.cell_of-column.result in
@@ -58,65 +36,149 @@ returns c = let a = (s c).args in
       ne = held (get_or v (4 * (2 - i₀) + (j₀ + 1)) (pos 0)) c.n-4-1.given i;
     })
     (c.weights_in-k.ensures i))
-    ∙ (λ i. count_by g.mean g.factor (corners_of v (row c i) (column c i))
-    (weights_in g.height g.width (a.y - row c i * g.height) (a.x - column c i * g.width)))
+    ∙ (λ i. count_by g.mean g.factor (corners_of v (row i) (column i))
+    (weights_in g.height g.width (a.y - row i * g.height) (a.x - column i * g.width)))
 
 pub overflow_sub-south : goal.overflow_sub-south
-overflow_sub-south c = omega (arith, rows c)
+overflow_sub-south c =
+    let row : c.cell_of-row.result ≡ cell p c.height c.args.y = c.cell_of-row.ensures in
+    let rows : c.cell_of-row.result ≤ 2 = subst (λ (k : ℕ). k ≤ 2) (sym row) (cell-le p c.height c.args.y) in
+    omega (arith, rows)
 
 pub overflow_sub-north : goal.overflow_sub-north
-overflow_sub-north c = rows c
+overflow_sub-north c =
+    let row : c.cell_of-row.result ≡ cell p c.height c.args.y = c.cell_of-row.ensures in
+    let rows : c.cell_of-row.result ≤ 2 = subst (λ (k : ℕ). k ≤ 2) (sym row) (cell-le p c.height c.args.y) in
+    rows
 
 pub overflow_add-n : goal.overflow_add-n
-overflow_add-n c = record { fits = omega (arith, rows c, columns c) }
+overflow_add-n c =
+    let row : c.cell_of-row.result ≡ cell p c.height c.args.y = c.cell_of-row.ensures in
+    let column : c.cell_of-column.result ≡ cell p c.width c.args.x = c.cell_of-column.ensures in
+    let rows : c.cell_of-row.result ≤ 2 = subst (λ (k : ℕ). k ≤ 2) (sym row) (cell-le p c.height c.args.y) in
+    let columns : c.cell_of-column.result ≤ 2 = subst (λ (k : ℕ). k ≤ 2) (sym column) (cell-le p c.width c.args.x) in
+    record { fits = omega (arith, rows, columns) }
 
 pub offset_bounds-nodes-south : goal.offset_bounds-nodes-south
-offset_bounds-nodes-south c = record { fits = omega (arith, rows c, columns c) }
+offset_bounds-nodes-south c =
+    let row : c.cell_of-row.result ≡ cell p c.height c.args.y = c.cell_of-row.ensures in
+    let column : c.cell_of-column.result ≡ cell p c.width c.args.x = c.cell_of-column.ensures in
+    let rows : c.cell_of-row.result ≤ 2 = subst (λ (k : ℕ). k ≤ 2) (sym row) (cell-le p c.height c.args.y) in
+    let columns : c.cell_of-column.result ≤ 2 = subst (λ (k : ℕ). k ≤ 2) (sym column) (cell-le p c.width c.args.x) in
+    record { fits = omega (arith, rows, columns) }
 
 pub bounds-nodes-south : goal.bounds-nodes-south
-bounds-nodes-south c = omega (arith, rows c, columns c)
+bounds-nodes-south c =
+    let row : c.cell_of-row.result ≡ cell p c.height c.args.y = c.cell_of-row.ensures in
+    let column : c.cell_of-column.result ≡ cell p c.width c.args.x = c.cell_of-column.ensures in
+    let rows : c.cell_of-row.result ≤ 2 = subst (λ (k : ℕ). k ≤ 2) (sym row) (cell-le p c.height c.args.y) in
+    let columns : c.cell_of-column.result ≤ 2 = subst (λ (k : ℕ). k ≤ 2) (sym column) (cell-le p c.width c.args.x) in
+    omega (arith, rows, columns)
 
 pub overflow_add-n-2 : goal.overflow_add-n-2
-overflow_add-n-2 c = record { fits = omega (arith, columns c) }
+overflow_add-n-2 c =
+    let column : c.cell_of-column.result ≡ cell p c.width c.args.x = c.cell_of-column.ensures in
+    let columns : c.cell_of-column.result ≤ 2 = subst (λ (k : ℕ). k ≤ 2) (sym column) (cell-le p c.width c.args.x) in
+    record { fits = omega (arith, columns) }
 
 pub overflow_add-n-3 : goal.overflow_add-n-3
-overflow_add-n-3 c = record { fits = omega (arith, rows c, columns c) }
+overflow_add-n-3 c =
+    let row : c.cell_of-row.result ≡ cell p c.height c.args.y = c.cell_of-row.ensures in
+    let column : c.cell_of-column.result ≡ cell p c.width c.args.x = c.cell_of-column.ensures in
+    let rows : c.cell_of-row.result ≤ 2 = subst (λ (k : ℕ). k ≤ 2) (sym row) (cell-le p c.height c.args.y) in
+    let columns : c.cell_of-column.result ≤ 2 = subst (λ (k : ℕ). k ≤ 2) (sym column) (cell-le p c.width c.args.x) in
+    record { fits = omega (arith, rows, columns) }
 
 pub offset_bounds-nodes-south-2 : goal.offset_bounds-nodes-south-2
-offset_bounds-nodes-south-2 c = record { fits = omega (arith, rows c, columns c) }
+offset_bounds-nodes-south-2 c =
+    let row : c.cell_of-row.result ≡ cell p c.height c.args.y = c.cell_of-row.ensures in
+    let column : c.cell_of-column.result ≡ cell p c.width c.args.x = c.cell_of-column.ensures in
+    let rows : c.cell_of-row.result ≤ 2 = subst (λ (k : ℕ). k ≤ 2) (sym row) (cell-le p c.height c.args.y) in
+    let columns : c.cell_of-column.result ≤ 2 = subst (λ (k : ℕ). k ≤ 2) (sym column) (cell-le p c.width c.args.x) in
+    record { fits = omega (arith, rows, columns) }
 
 pub bounds-nodes-south-2 : goal.bounds-nodes-south-2
-bounds-nodes-south-2 c = omega (arith, rows c, columns c)
+bounds-nodes-south-2 c =
+    let row : c.cell_of-row.result ≡ cell p c.height c.args.y = c.cell_of-row.ensures in
+    let column : c.cell_of-column.result ≡ cell p c.width c.args.x = c.cell_of-column.ensures in
+    let rows : c.cell_of-row.result ≤ 2 = subst (λ (k : ℕ). k ≤ 2) (sym row) (cell-le p c.height c.args.y) in
+    let columns : c.cell_of-column.result ≤ 2 = subst (λ (k : ℕ). k ≤ 2) (sym column) (cell-le p c.width c.args.x) in
+    omega (arith, rows, columns)
 
 pub overflow_add-n-4 : goal.overflow_add-n-4
-overflow_add-n-4 c = record { fits = omega (arith, rows c, columns c) }
+overflow_add-n-4 c =
+    let row : c.cell_of-row.result ≡ cell p c.height c.args.y = c.cell_of-row.ensures in
+    let column : c.cell_of-column.result ≡ cell p c.width c.args.x = c.cell_of-column.ensures in
+    let rows : c.cell_of-row.result ≤ 2 = subst (λ (k : ℕ). k ≤ 2) (sym row) (cell-le p c.height c.args.y) in
+    let columns : c.cell_of-column.result ≤ 2 = subst (λ (k : ℕ). k ≤ 2) (sym column) (cell-le p c.width c.args.x) in
+    record { fits = omega (arith, rows, columns) }
 
 pub offset_bounds-nodes-north : goal.offset_bounds-nodes-north
-offset_bounds-nodes-north c = record { fits = omega (arith, rows c, columns c) }
+offset_bounds-nodes-north c =
+    let row : c.cell_of-row.result ≡ cell p c.height c.args.y = c.cell_of-row.ensures in
+    let column : c.cell_of-column.result ≡ cell p c.width c.args.x = c.cell_of-column.ensures in
+    let rows : c.cell_of-row.result ≤ 2 = subst (λ (k : ℕ). k ≤ 2) (sym row) (cell-le p c.height c.args.y) in
+    let columns : c.cell_of-column.result ≤ 2 = subst (λ (k : ℕ). k ≤ 2) (sym column) (cell-le p c.width c.args.x) in
+    record { fits = omega (arith, rows, columns) }
 
 pub bounds-nodes-north : goal.bounds-nodes-north
-bounds-nodes-north c = omega (arith, rows c, columns c)
+bounds-nodes-north c =
+    let row : c.cell_of-row.result ≡ cell p c.height c.args.y = c.cell_of-row.ensures in
+    let column : c.cell_of-column.result ≡ cell p c.width c.args.x = c.cell_of-column.ensures in
+    let rows : c.cell_of-row.result ≤ 2 = subst (λ (k : ℕ). k ≤ 2) (sym row) (cell-le p c.height c.args.y) in
+    let columns : c.cell_of-column.result ≤ 2 = subst (λ (k : ℕ). k ≤ 2) (sym column) (cell-le p c.width c.args.x) in
+    omega (arith, rows, columns)
 
 pub overflow_add-n-5 : goal.overflow_add-n-5
-overflow_add-n-5 c = record { fits = omega (arith, columns c) }
+overflow_add-n-5 c =
+    let column : c.cell_of-column.result ≡ cell p c.width c.args.x = c.cell_of-column.ensures in
+    let columns : c.cell_of-column.result ≤ 2 = subst (λ (k : ℕ). k ≤ 2) (sym column) (cell-le p c.width c.args.x) in
+    record { fits = omega (arith, columns) }
 
 pub overflow_add-n-6 : goal.overflow_add-n-6
-overflow_add-n-6 c = record { fits = omega (arith, rows c, columns c) }
+overflow_add-n-6 c =
+    let row : c.cell_of-row.result ≡ cell p c.height c.args.y = c.cell_of-row.ensures in
+    let column : c.cell_of-column.result ≡ cell p c.width c.args.x = c.cell_of-column.ensures in
+    let rows : c.cell_of-row.result ≤ 2 = subst (λ (k : ℕ). k ≤ 2) (sym row) (cell-le p c.height c.args.y) in
+    let columns : c.cell_of-column.result ≤ 2 = subst (λ (k : ℕ). k ≤ 2) (sym column) (cell-le p c.width c.args.x) in
+    record { fits = omega (arith, rows, columns) }
 
 pub offset_bounds-nodes-north-2 : goal.offset_bounds-nodes-north-2
-offset_bounds-nodes-north-2 c = record { fits = omega (arith, rows c, columns c) }
+offset_bounds-nodes-north-2 c =
+    let row : c.cell_of-row.result ≡ cell p c.height c.args.y = c.cell_of-row.ensures in
+    let column : c.cell_of-column.result ≡ cell p c.width c.args.x = c.cell_of-column.ensures in
+    let rows : c.cell_of-row.result ≤ 2 = subst (λ (k : ℕ). k ≤ 2) (sym row) (cell-le p c.height c.args.y) in
+    let columns : c.cell_of-column.result ≤ 2 = subst (λ (k : ℕ). k ≤ 2) (sym column) (cell-le p c.width c.args.x) in
+    record { fits = omega (arith, rows, columns) }
 
 pub bounds-nodes-north-2 : goal.bounds-nodes-north-2
-bounds-nodes-north-2 c = omega (arith, rows c, columns c)
+bounds-nodes-north-2 c =
+    let row : c.cell_of-row.result ≡ cell p c.height c.args.y = c.cell_of-row.ensures in
+    let column : c.cell_of-column.result ≡ cell p c.width c.args.x = c.cell_of-column.ensures in
+    let rows : c.cell_of-row.result ≤ 2 = subst (λ (k : ℕ). k ≤ 2) (sym row) (cell-le p c.height c.args.y) in
+    let columns : c.cell_of-column.result ≤ 2 = subst (λ (k : ℕ). k ≤ 2) (sym column) (cell-le p c.width c.args.x) in
+    omega (arith, rows, columns)
 
 pub overflow_mul-row : goal.overflow_mul-row
-overflow_mul-row c = record { fits = omega (arith, mul-le-mul (rows c) (s c).requires.1) }
+overflow_mul-row c =
+    let row : c.cell_of-row.result ≡ cell p c.height c.args.y = c.cell_of-row.ensures in
+    let rows : c.cell_of-row.result ≤ 2 = subst (λ (k : ℕ). k ≤ 2) (sym row) (cell-le p c.height c.args.y) in
+    record { fits = omega (arith, mul-le-mul rows c.requires.1) }
 
 pub overflow_sub-y : goal.overflow_sub-y
-overflow_sub-y c = below c
+overflow_sub-y c =
+    let row : c.cell_of-row.result ≡ cell p c.height c.args.y = c.cell_of-row.ensures in
+    let below : c.cell_of-row.result * p c.height ≤ c.args.y = subst (λ (k : ℕ). k * p c.height ≤ c.args.y) (sym row) (cell-from p c.height c.args.y) in
+    below
 
 pub overflow_mul-column : goal.overflow_mul-column
-overflow_mul-column c = record { fits = omega (arith, mul-le-mul (columns c) (s c).requires.3) }
+overflow_mul-column c =
+    let column : c.cell_of-column.result ≡ cell p c.width c.args.x = c.cell_of-column.ensures in
+    let columns : c.cell_of-column.result ≤ 2 = subst (λ (k : ℕ). k ≤ 2) (sym column) (cell-le p c.width c.args.x) in
+    record { fits = omega (arith, mul-le-mul columns c.requires.3) }
 
 pub overflow_sub-x : goal.overflow_sub-x
-overflow_sub-x c = before-it c
+overflow_sub-x c =
+    let column : c.cell_of-column.result ≡ cell p c.width c.args.x = c.cell_of-column.ensures in
+    let before-it : c.cell_of-column.result * p c.width ≤ c.args.x = subst (λ (k : ℕ). k * p c.width ≤ c.args.x) (sym column) (cell-from p c.width c.args.x) in
+    before-it
