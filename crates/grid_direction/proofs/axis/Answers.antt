@@ -27,7 +27,7 @@ returns-then-d-t c = let u : ℤ = c.args.u in
     let d : ℕ = c.args.d in
     let t : Num = add (arg u 10000000000000 c.requires.0 tt) (cast (3 * (d / 2)) 61425000 (omega (arith, c.requires.2)) tt) tt in
     let far : Num = cast (3 * d) 122850000 (omega (arith, c.requires.2)) tt in
-    let outside-is : {b : Bool} → lt_z t.z (pos 0) ≡ false → lt_z far.z t.z ≡ b → outside d u ≡ b = λ e f. rw (e, f) in
+    let outside-is : lt_z t.z (pos 0) ≡ false → lt_z far.z t.z ≡ true → outside d u ≡ true = λ e f. rw (e, f) in
     along-out d u c.outer-then-d-t.ensures
     (unplaced-is d u c.requires.1 c.requires.2 (outside-is (test t (lit 0 tt) c.if-t-lt0.false) (test far t c.if-d-t.true)))
 
@@ -44,7 +44,7 @@ returns c = let u : ℤ = c.args.u in
     let d : ℕ = c.args.d in
     let t : Num = add (arg u 10000000000000 c.requires.0 tt) (cast (3 * (d / 2)) 61425000 (omega (arith, c.requires.2)) tt) tt in
     let far : Num = cast (3 * d) 122850000 (omega (arith, c.requires.2)) tt in
-    let outside-is : {b : Bool} → lt_z t.z (pos 0) ≡ false → lt_z far.z t.z ≡ b → outside d u ≡ b = λ e f. rw (e, f) in
+    let outside-is : lt_z t.z (pos 0) ≡ false → lt_z far.z t.z ≡ false → outside d u ≡ false = λ e f. rw (e, f) in
     along-in d u c.requires.1 c.requires.2 refl (ap nat_abs t.held) (c.cell_of.ensures ∙ ap (λ z. cell d (nat_abs z)) t.held)
     (outside-is (test t (lit 0 tt) c.if-t-lt0.false) (test far t c.if-d-t.false))
 
