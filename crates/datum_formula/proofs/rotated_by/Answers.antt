@@ -18,7 +18,7 @@ radians-a-requires c = passed (arg c.args.r (2 ^ 31) c.requires.0 tt) (λ z. nat
 
 pub returns : goal.returns
 returns c = let v : Num = arg c.args.v (10 ^ 11) c.requires.1 tt in
-    let about : About (10 ^ 11) c.radians-a.result (rotation c.args.r) (10 ^ 11 + 10 ^ 6) = subst (λ (z : ℤ). About (10 ^ 11) c.radians-a.result (rotation z) (10 ^ 11 + 10 ^ 6)) r c.held c.radians-a.ensures.0 in
+    let about : About (10 ^ 11) c.radians-a.result (rotation c.args.r) (10 ^ 11 + 10 ^ 6) = subst (λ (z : ℤ). About (10 ^ 11) c.radians-a.result (rotation z) (10 ^ 11 + 10 ^ 6)) (arg c.args.r (2 ^ 31) c.requires.0 tt).held c.radians-a.ensures.0 in
     let angle : Num = arg c.radians-a.result (21 * 10 ^ 11) c.radians-a.ensures.1 tt in
     let high : Num = quot v 1000000 100000 tt tt tt in
     let below : Num = mul high (lit 1000000 tt) tt in
