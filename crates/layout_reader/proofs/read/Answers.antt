@@ -26,15 +26,15 @@ fits-requires c = let es = c.args.layout.now in
 
 pub returns-then-not-fits : goal.returns-then-not-fits
 returns-then-not-fits c = let a = c.args in
-    let n = c.bits_of.ensures ∙ bits a.layout.now (omega arith) in let p = left a.layout.now a.p a.s.now a.values.now a.present.now (rw n at (sym c.fits2.ensures ∙ c.if-not-fits.true)) in record { values = p.0; present = p.1 }
+    let n = c.bits_of.ensures ∙ bits a.layout.now (omega arith) in let p = left a.layout.now a.p a.s.now a.values.now a.present.now (rw n at (sym c.fits.ensures ∙ c.if-not-fits.true)) in record { values = p.0; present = p.1 }
 
 pub read_all-requires : goal.read_all-requires
 read_all-requires c = let a = c.args in
     let n = c.bits_of.ensures ∙ bits a.layout.now (omega arith) in
-    let k = stands (length a.layout.now) a.p c.bits_of.result (8 * length a.s.now) (length a.values.now) (length a.present.now) (sym c.fits2.ensures ∙ c.if-not-fits.false) in
+    let k = stands (length a.layout.now) a.p c.bits_of.result (8 * length a.s.now) (length a.values.now) (length a.present.now) (sym c.fits.ensures ∙ c.if-not-fits.false) in
     (omega (arith, k.within, n), (omega (arith, k.near), (omega arith, (k.values, k.present))))
 
 pub returns : goal.returns
 returns c = let a = c.args in
     let n = c.bits_of.ensures ∙ bits a.layout.now (omega arith) in
-    let t = loaded a.layout.now a.p a.s.now a.values.now a.present.now (rw n at (sym c.fits2.ensures ∙ c.if-not-fits.false)) in record { values = c.read_all.ensures.values ∙ t.0; present = c.read_all.ensures.present ∙ t.1 }
+    let t = loaded a.layout.now a.p a.s.now a.values.now a.present.now (rw n at (sym c.fits.ensures ∙ c.if-not-fits.false)) in record { values = c.read_all.ensures.values ∙ t.0; present = c.read_all.ensures.present ∙ t.1 }

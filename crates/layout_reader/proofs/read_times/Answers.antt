@@ -36,15 +36,15 @@ fits-requires c = let a = c.args in (omega arith, few_bits (length a.values.now)
 
 pub returns-then-not-fits : goal.returns-then-not-fits
 returns-then-not-fits c = let a = c.args in let p = left (replicate (length a.values.now) a.e) a.p a.s.now a.values.now a.present.now
-    (same-readable (length a.values.now) a.e a.p a.s.now (length a.values.now) (length a.present.now) ∙ sym c.fits2.ensures ∙ c.if-not-fits.true) in record { values = p.0; present = p.1 }
+    (same-readable (length a.values.now) a.e a.p a.s.now (length a.values.now) (length a.present.now) ∙ sym c.fits.ensures ∙ c.if-not-fits.true) in record { values = p.0; present = p.1 }
 
 pub read_each-requires : goal.read_each-requires
 read_each-requires c = let a = c.args in
-    let k = stands (length a.values.now) a.p (length a.values.now * width a.e) (8 * length a.s.now) (length a.values.now) (length a.present.now) (sym c.fits2.ensures ∙ c.if-not-fits.false) in
+    let k = stands (length a.values.now) a.p (length a.values.now * width a.e) (8 * length a.s.now) (length a.values.now) (length a.present.now) (sym c.fits.ensures ∙ c.if-not-fits.false) in
     (k.within, (k.near, (omega arith, k.present)))
 
 pub returns : goal.returns
 returns c = let a = c.args in
     let k = length-replicate (length a.values.now) a.e in
     let t = loaded (replicate (length a.values.now) a.e) a.p a.s.now a.values.now a.present.now
-    (same-readable (length a.values.now) a.e a.p a.s.now (length a.values.now) (length a.present.now) ∙ sym c.fits2.ensures ∙ c.if-not-fits.false) in record { values = c.read_each.ensures.values ∙ (rw k at t).0; present = c.read_each.ensures.present ∙ (rw k at t).1 }
+    (same-readable (length a.values.now) a.e a.p a.s.now (length a.values.now) (length a.present.now) ∙ sym c.fits.ensures ∙ c.if-not-fits.false) in record { values = c.read_each.ensures.values ∙ (rw k at t).0; present = c.read_each.ensures.present ∙ (rw k at t).1 }
