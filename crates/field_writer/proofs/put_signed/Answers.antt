@@ -2,6 +2,8 @@
 -- Assumes nothing.
 use mathlib.Core.Path.{sym, ap, ◌∙◌}
 use borrow.Author.Rules.{rules}
+use mir.Syntax.{w64}
+use Rattle.std.proofs.Common.{FitsSigned}
 use lib.IntN.{nat_abs}
 use Rattle.field.specs.Inner.{put_signed}
 use Rattle.field_writer.proofs.Place.{put-wide, put-value, put-nothing}
@@ -13,7 +15,8 @@ returns-then-w-gt63 c = let a = c.args in sym (put-wide a.s.now a.p a.w a.r c.if
 
 pub returns-then-magnitude-h : goal.returns-then-magnitude-h
 returns-then-magnitude-h c = let z = c.in-Value.z in
-    let back = bits-z z (record { sfits = c.known_told-1.given.0.1 }) in
+    let f : FitsSigned w64 z = search rules in
+    let back = bits-z z f in
     let m = c.magnitude.ensures ∙ ap nat_abs back in
     let h = c.pow2-h.ensures in
     rw (c.in-Value.is, put-value c.args.s.now c.args.p c.args.w z (rw (m, h) at c.if-magnitude-h.true))
@@ -21,7 +24,7 @@ returns-then-magnitude-h c = let z = c.in-Value.z in
 
 pub returns-else-magnitude-h : goal.returns-else-magnitude-h
 returns-else-magnitude-h c = let z = c.in-Value.z in
-    let m = c.magnitude.ensures ∙ ap nat_abs (bits-z z (record { sfits = c.known_told-1.given.0.1 })) in
+    let m = c.magnitude.ensures ∙ ap nat_abs (bits-z z (let f : FitsSigned w64 z = search rules in f)) in
     let h = c.pow2-h.ensures in
     rw c.in-Value.is (sym (put-nothing c.args.s.now c.args.p c.args.w z (rw (m, h) at c.if-magnitude-h.false)))
 

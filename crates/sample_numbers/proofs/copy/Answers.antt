@@ -7,10 +7,8 @@ use native.Mathlib.Omega.{arith}
 use lib.ListN.{length, get_or, drop, length-set}
 use Rattle.arith.specs.Lists.{up_to}
 use Rattle.arith.proofs.Lists.{fill-turn, fill_done, is-up_to}
+use Rattle.sample_numbers.proofs.copy.Invariants.{byte}
 use Rattle.sample_numbers.proofs.copy.Goals as goal
-
-abbrev byte : List ℕ → ℕ → ℕ
-byte s j = get_or s j 0
 
 pub loop-k-init : goal.loop-k-init
 loop-k-init c = (omega arith, (refl, refl))

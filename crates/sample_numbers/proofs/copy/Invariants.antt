@@ -9,6 +9,9 @@ use Rattle.arith.specs.Lists.{up_to}
 use Rattle.arith.proofs.Lists.{fill-turn, fill_done, is-up_to}
 use Rattle.sample_numbers.proofs.copy.Given as goal
 
+abbrev pub byte : List ℕ → ℕ → ℕ
+byte s j = get_or s j 0
+
 abbrev pub invariant-loop-k : goal.invariant-loop-k
 invariant-loop-k l = (l.k ≤ length l.s) × ((length l.out ≡ length l.initial.out) × (l.out ≡ up_to (byte l.s) l.k ++ drop l.k l.initial.out))
 

@@ -18,7 +18,7 @@ slice_bounds-put-end c = simp length-set (omega arith)
 
 pub returns : goal.returns
 returns c = let a = c.args in
-    let t = c.digits-k.new.1.0 in
+    let t = c.digits-k.new.text in
     let k = c.digits-k.result in
     let s = set t k 45 in
     let e : take (21 - k) (drop k s) ≡ 45 ∷ decimal a.n =
