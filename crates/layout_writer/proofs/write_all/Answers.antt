@@ -36,7 +36,7 @@ pub loop-i-preserved : goal.loop-i-preserved
 loop-i-preserved c = let a = c.args in
     let l = c.loop-i in
     let z = bits-z (get_or a.values.now l.i (pos 0)) (record { sfits = c.write_entry-arg-in-loop-i-1.given }) in
-    (writing-goes-on a.s.now a.layout.now a.values.now a.present.now l.s l.at l.i l.invariant.0 c.write_entry.new.0 (omega arith) (omega arith) (omega arith) (c.write_entry.ensures ∙ rw z), l.invariant.1)
+    (writing-goes-on a.s.now a.layout.now a.values.now a.present.now l.s l.at l.i l.invariant.0 c.write_entry.new.s (omega arith) (omega arith) (omega arith) (c.write_entry.ensures ∙ rw z), l.invariant.1)
 
 pub returns : goal.returns
 returns c = let a = c.args in
