@@ -13,11 +13,10 @@ use Rattle.grid_cell.proofs.count_of.Goals as goal
 
 pub nearest_to-requires : goal.nearest_to-requires
 nearest_to-requires c = let sum : Num = result c.sum_by-sum.result (2560 * 1676902500000000) c.sum_by-sum.ensures
-    (le_trans (sum-by-most c.args.k c.args.factor c.args.n c.requires.3 c.requires.1) (mul-le-mul_left 2560 c.requires.0.most)) tt in
-    let s = s c in (
+    (le_trans (sum-by-most c.args.k c.args.factor c.args.n c.requires.3 c.requires.1) (mul-le-mul_left 2560 c.requires.0.most)) tt in (
       passed sum (λ z. nat_abs z ≤ 2560 * 1676902500000000) sum.le,
-      subst (λ (a : ℕ). 0 < a) (sym c.area_of.ensures) s.pre.0.some,
-      subst (λ (a : ℕ). a ≤ 1676902500000000) (sym c.area_of.ensures) s.pre.0.most,
+      subst (λ (a : ℕ). 0 < a) (sym c.area_of.ensures) c.requires.0.some,
+      subst (λ (a : ℕ). a ≤ 1676902500000000) (sym c.area_of.ensures) c.requires.0.most,
     )
 
 pub sum_by-sum-requires : goal.sum_by-sum-requires

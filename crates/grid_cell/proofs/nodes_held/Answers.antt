@@ -3,7 +3,7 @@
 use mathlib.Core.Path.{◌≡◌, refl, sym, ap, ◌∙◌}
 use mathlib.Core.Bool.{Bool}
 use Prim.Native.Nat.{◌<◌, ◌^◌}
-use borrow.Author.Rules.{rules}
+use native.Mathlib.Omega.{arith}
 use borrow.Author.Tests.{not-true, not-false}
 use lib.Dec.{leb}
 use lib.IntN.{ℤ, nat_abs}
@@ -19,26 +19,26 @@ known z h e f = sym (ap (λ (y : ℤ). leb (nat_abs y) 256) (held z h)) ∙ sym 
 
 pub returns-then-not-no_larger : goal.returns-then-not-no_larger
 unfolding nodes_held
-returns-then-not-no_larger c = let first : {t : Bool} → c.no_larger.result ≡ t → leb (nat_abs c.args.n.sw) 256 ≡ t = λ e. known c.args.n.sw c.type_inv.n.0.1 c.no_larger.ensures e in
-    rw (first (c.if-not-no_larger.true))
+returns-then-not-no_larger c = let first : (t : Bool) → c.no_larger.result ≡ t → leb (nat_abs c.args.n.sw) 256 ≡ t = λ _ e. known c.args.n.sw (omega arith) c.no_larger.ensures e in
+    rw (first _ (c.if-not-no_larger.true))
 
 pub returns-then-not-no_larger-2 : goal.returns-then-not-no_larger-2
 unfolding nodes_held
-returns-then-not-no_larger-2 c = let first : {t : Bool} → c.no_larger.result ≡ t → leb (nat_abs c.args.n.sw) 256 ≡ t = λ e. known c.args.n.sw c.type_inv.n.0.1 c.no_larger.ensures e in
-    let second : {t : Bool} → c.no_larger-2.result ≡ t → leb (nat_abs c.args.n.se) 256 ≡ t = λ e. known c.args.n.se c.type_inv.n.1.0.1 c.no_larger-2.ensures e in
-    rw (first (c.if-not-no_larger.false), second (c.if-not-no_larger-2.true))
+returns-then-not-no_larger-2 c = let first : (t : Bool) → c.no_larger.result ≡ t → leb (nat_abs c.args.n.sw) 256 ≡ t = λ _ e. known c.args.n.sw (omega arith) c.no_larger.ensures e in
+    let second : (t : Bool) → c.no_larger-2.result ≡ t → leb (nat_abs c.args.n.se) 256 ≡ t = λ _ e. known c.args.n.se (omega arith) c.no_larger-2.ensures e in
+    rw (first _ (c.if-not-no_larger.false), second _ (c.if-not-no_larger-2.true))
 
 pub returns-then-not-no_larger-3 : goal.returns-then-not-no_larger-3
 unfolding nodes_held
-returns-then-not-no_larger-3 c = let first : {t : Bool} → c.no_larger.result ≡ t → leb (nat_abs c.args.n.sw) 256 ≡ t = λ e. known c.args.n.sw c.type_inv.n.0.1 c.no_larger.ensures e in
-    let second : {t : Bool} → c.no_larger-2.result ≡ t → leb (nat_abs c.args.n.se) 256 ≡ t = λ e. known c.args.n.se c.type_inv.n.1.0.1 c.no_larger-2.ensures e in
-    let third : {t : Bool} → c.no_larger-3.result ≡ t → leb (nat_abs c.args.n.nw) 256 ≡ t = λ e. known c.args.n.nw c.type_inv.n.1.1.0.1 c.no_larger-3.ensures e in
-    rw (first (c.if-not-no_larger.false), second (c.if-not-no_larger-2.false), third (c.if-not-no_larger-3.true))
+returns-then-not-no_larger-3 c = let first : (t : Bool) → c.no_larger.result ≡ t → leb (nat_abs c.args.n.sw) 256 ≡ t = λ _ e. known c.args.n.sw (omega arith) c.no_larger.ensures e in
+    let second : (t : Bool) → c.no_larger-2.result ≡ t → leb (nat_abs c.args.n.se) 256 ≡ t = λ _ e. known c.args.n.se (omega arith) c.no_larger-2.ensures e in
+    let third : (t : Bool) → c.no_larger-3.result ≡ t → leb (nat_abs c.args.n.nw) 256 ≡ t = λ _ e. known c.args.n.nw (omega arith) c.no_larger-3.ensures e in
+    rw (first _ (c.if-not-no_larger.false), second _ (c.if-not-no_larger-2.false), third _ (c.if-not-no_larger-3.true))
 
 pub returns : goal.returns
 unfolding nodes_held
-returns c = let first : {t : Bool} → c.no_larger.result ≡ t → leb (nat_abs c.args.n.sw) 256 ≡ t = λ e. known c.args.n.sw c.type_inv.n.0.1 c.no_larger.ensures e in
-    let second : {t : Bool} → c.no_larger-2.result ≡ t → leb (nat_abs c.args.n.se) 256 ≡ t = λ e. known c.args.n.se c.type_inv.n.1.0.1 c.no_larger-2.ensures e in
-    let third : {t : Bool} → c.no_larger-3.result ≡ t → leb (nat_abs c.args.n.nw) 256 ≡ t = λ e. known c.args.n.nw c.type_inv.n.1.1.0.1 c.no_larger-3.ensures e in
-    let fourth : leb (nat_abs c.args.n.ne) 256 ≡ c.no_larger-4.result = known c.args.n.ne c.type_inv.n.1.1.1.0.1 c.no_larger-4.ensures refl in
-    rw (first (c.if-not-no_larger.false), second (c.if-not-no_larger-2.false), third (c.if-not-no_larger-3.false), fourth)
+returns c = let first : (t : Bool) → c.no_larger.result ≡ t → leb (nat_abs c.args.n.sw) 256 ≡ t = λ _ e. known c.args.n.sw (omega arith) c.no_larger.ensures e in
+    let second : (t : Bool) → c.no_larger-2.result ≡ t → leb (nat_abs c.args.n.se) 256 ≡ t = λ _ e. known c.args.n.se (omega arith) c.no_larger-2.ensures e in
+    let third : (t : Bool) → c.no_larger-3.result ≡ t → leb (nat_abs c.args.n.nw) 256 ≡ t = λ _ e. known c.args.n.nw (omega arith) c.no_larger-3.ensures e in
+    let fourth : leb (nat_abs c.args.n.ne) 256 ≡ c.no_larger-4.result = known c.args.n.ne (omega arith) c.no_larger-4.ensures refl in
+    rw (first _ (c.if-not-no_larger.false), second _ (c.if-not-no_larger-2.false), third _ (c.if-not-no_larger-3.false), fourth)
