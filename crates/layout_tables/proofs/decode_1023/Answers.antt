@@ -13,4 +13,4 @@ decode_grid-requires c = (c.check_1023.ensures, (refl, (refl, omega arith)))
 
 pub returns : goal.returns
 unfolding layout1023
-returns c = let p = c.decode_grid.ensures in record { answer = p.0; values = p.1.0; present = p.1.1 }
+returns c = let p = c.decode_grid.ensures in record { answer = p.answer; values = p.values; present = p.present }
