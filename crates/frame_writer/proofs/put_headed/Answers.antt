@@ -6,4 +6,4 @@ use Rattle.frame_writer.proofs.put_headed.Goals as goal
 
 pub returns : goal.returns
 returns c = let a = c.args in
-    headed-put a.m.now a.out.now c.put_head.new.0 c.copy.new.0 c.put_head.ensures c.copy.ensures
+    headed-put a.m.now a.out.now c.put_head.new.out c.copy.new.out c.put_head.ensures c.copy.ensures
