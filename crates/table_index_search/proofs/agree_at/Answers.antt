@@ -1,8 +1,6 @@
 -- `table_index_search::agree_at` meets its contract: three tests, each asked where those before it hold.
 -- Assumes nothing.
 use mathlib.Core.Path.{sym, ◌∙◌}
-use borrow.Author.Tests.{not-true, not-false}
-use borrow.Author.Rules.{rules}
 use Rattle.table_index_search.proofs.Tests.{agree-order, agree-true, agree-rest}
 use Rattle.table_index_search.proofs.agree_at.Goals as goal
 

@@ -1,7 +1,6 @@
 -- `table_index_search::agrees` meets its contract: both sizes, then every place.
 -- Assumes nothing.
 use mathlib.Core.Path.{sym, ◌∙◌}
-use borrow.Author.Rules.{rules}
 use Rattle.table_index_search.proofs.Tests.{agree-marks, agree-size, agree-all}
 use Rattle.table_index_search.proofs.agrees.Goals as goal
 

@@ -1,10 +1,7 @@
 -- `table_index_search::all_agree` meets its contract: the places passed agree.
 -- Assumes nothing.
-use Prim.Native.Nat.{◌-◌, ◌≤◌}
 use native.Mathlib.Omega.{arith}
 use mathlib.Core.Path.{◌≡◌, refl, sym, ap, ◌∙◌}
-use mathlib.Core.Bool.{true}
-use borrow.Author.Tests.{not-true, not-false}
 use Rattle.arith.specs.Lists.{all_below}
 use Rattle.arith.proofs.Tests.{all_more, all-stops}
 use Rattle.table_index_search.specs.Index.{entries}

@@ -1,13 +1,9 @@
 -- `table_index_search::binary_search` meets its contract: what the rule gives among the entries left is what it gives among all, and each round leaves fewer.
 -- Assumes nothing.
 use Prim.Native.Nat.{◌+◌, ◌-◌, ◌≤◌}
-use native.Mathlib.Omega.{arith}
-use mathlib.Core.Path.{◌≡◌, refl, sym, ap, ◌∙◌}
-use borrow.Author.Rules.{rules}
+use mathlib.Core.Path.{◌≡◌}
 use Rattle.table_index_search.specs.Index.{entries}
-use Rattle.table_index_search.specs.Search.{met_after}
 use Rattle.table_index_search.specs.Private.{binary_search}
-use Rattle.table_index_search.proofs.Rounds.{probe-none, round-met, round-behind, round-before}
 use Rattle.table_index_search.proofs.binary_search.Given as goal
 
 abbrev pub invariant-loop-lo : goal.invariant-loop-lo

@@ -1,12 +1,10 @@
 -- `table_index_search::entry_place` meets its contract: none of the entries passed has key and slot.
 -- Assumes nothing.
 use Prim.Native.Nat.{◌-◌, ◌≤◌}
-use native.Mathlib.Omega.{arith}
-use mathlib.Core.Path.{◌≡◌, refl, sym, ◌∙◌}
+use mathlib.Core.Path.{◌≡◌}
 use Rattle.table_index_search.specs.Index.{entries}
 use Rattle.arith.specs.Places.{first_of}
 use Rattle.table_index_search.specs.Agree.{is_entry, entry_place}
-use Rattle.arith.proofs.Places.{round-hit, round-on, round-end}
 use Rattle.table_index_search.proofs.entry_place.Given as goal
 
 abbrev pub invariant-loop-j : goal.invariant-loop-j

@@ -3,7 +3,6 @@
 use native.Mathlib.Omega.{arith}
 use mathlib.Core.Path.{sym, ap, ◌∙◌}
 use lib.Dec.{eqb}
-use borrow.Author.Rules.{rules}
 use Rattle.table_index_search.specs.Index.{key_at}
 use Rattle.table_index_search.proofs.Standing.{has-none, has-is}
 use Rattle.table_index_search.proofs.has_key.Goals as goal

@@ -1,7 +1,6 @@
 -- `table_index_search::in_order` meets its contract: each return is a case of the order.
 -- Assumes nothing.
 use mathlib.Core.Path.{sym, ◌∙◌}
-use borrow.Author.Rules.{rules}
 use Rattle.table_index_search.proofs.Tests.{order-unused, order-first, order-rest}
 use Rattle.table_index_search.proofs.in_order.Goals as goal
 

@@ -3,7 +3,6 @@
 use native.Mathlib.Omega.{arith}
 use mathlib.Core.Path.{sym, ap, ◌∙◌}
 use lib.Dec.{ltb}
-use borrow.Author.Rules.{rules}
 use Rattle.table_index_search.proofs.Entry.{key-used, unused-above}
 use Rattle.table_index_search.proofs.is_below.Goals as goal
 

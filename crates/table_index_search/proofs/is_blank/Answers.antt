@@ -1,9 +1,7 @@
 -- `table_index_search::is_blank` meets its contract: the bytes passed are zero.
 -- Assumes nothing.
-use Prim.Native.Nat.{◌-◌, ◌≤◌}
 use native.Mathlib.Omega.{arith}
 use mathlib.Core.Path.{◌≡◌, refl, sym, ap, ◌∙◌}
-use mathlib.Core.Bool.{true}
 use borrow.Author.Tests.{eq-eqb, ne_eqb}
 use Rattle.arith.specs.Lists.{all_below}
 use Rattle.arith.proofs.Tests.{all_more, all-stops}

@@ -1,14 +1,11 @@
 -- `table_index_search::is_blank` meets its contract: the bytes passed are zero.
 -- Assumes nothing.
 use Prim.Native.Nat.{◌-◌, ◌≤◌}
-use native.Mathlib.Omega.{arith}
-use mathlib.Core.Path.{◌≡◌, refl, sym, ap, ◌∙◌}
+use mathlib.Core.Path.{◌≡◌}
 use mathlib.Core.Bool.{true}
-use borrow.Author.Tests.{eq-eqb, ne_eqb}
 use Rattle.arith.specs.Lists.{all_below}
-use Rattle.arith.proofs.Tests.{all_more, all-stops}
 use Rattle.table_index_search.specs.Index.{entry_size}
-use Rattle.table_index_search.specs.Agree.{zero_at, blank_at}
+use Rattle.table_index_search.specs.Agree.{zero_at}
 use Rattle.table_index_search.proofs.is_blank.Given as goal
 
 abbrev pub invariant-loop-b : goal.invariant-loop-b

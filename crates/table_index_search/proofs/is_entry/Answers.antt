@@ -2,8 +2,6 @@
 -- Assumes nothing.
 use mathlib.Core.Path.{sym, ap, ◌∙◌}
 use lib.Dec.{eqb}
-use borrow.Author.Tests.{not-true, not-false}
-use borrow.Author.Rules.{rules}
 use Rattle.table_index_search.proofs.Tests.{entry_other, entry-slot}
 use Rattle.table_index_search.proofs.is_entry.Goals as goal
 

@@ -2,7 +2,6 @@
 -- Assumes nothing.
 use mathlib.Core.Path.{sym, ap, ◌∙◌}
 use lib.Dec.{ltb}
-use borrow.Author.Rules.{rules}
 use Rattle.table_index_search.specs.Index.{entries}
 use Rattle.table_index_search.proofs.Tests.{listed_free, listed-used}
 use Rattle.table_index_search.proofs.is_listed.Goals as goal

@@ -4,7 +4,6 @@ use native.Mathlib.Omega.{arith}
 use mathlib.Core.Path.{sym, ap, ◌∙◌}
 use lib.Dec.{eqb}
 use lib.ListN.{get_or}
-use borrow.Author.Rules.{rules}
 use Rattle.table_index_search.specs.Index.{key_at}
 use Rattle.table_index_search.proofs.Tests.{true-unused, true-used, true-out}
 use Rattle.table_index_search.proofs.is_true.Goals as goal

@@ -1,13 +1,10 @@
 -- `table_index_search::key_place` meets its contract: the entries passed are below the key.
 -- Assumes nothing.
 use Prim.Native.Nat.{◌-◌, ◌≤◌}
-use native.Mathlib.Omega.{arith}
-use mathlib.Core.Path.{◌≡◌, refl, sym, ap, ◌∙◌}
-use mathlib.Core.Bool.{not}
+use mathlib.Core.Path.{◌≡◌}
 use Rattle.table_index_search.specs.Index.{entries}
 use Rattle.arith.specs.Places.{first_of}
 use Rattle.table_index_search.specs.Place.{not_below, key_place}
-use Rattle.arith.proofs.Places.{round-hit, round-on, round-end}
 use Rattle.table_index_search.proofs.key_place.Given as goal
 
 abbrev pub invariant-loop-place : goal.invariant-loop-place

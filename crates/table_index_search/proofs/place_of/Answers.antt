@@ -1,8 +1,6 @@
 -- `table_index_search::place_of` meets its contract: the place and the test in an index of the right size, no place in another.
 -- Assumes nothing.
 use mathlib.Core.Path.{sym, ◌∙◌}
-use borrow.Author.Rules.{rules}
-use Rattle.table_index_search.specs.declared.KeyPlace.{KeyPlace}
 use Rattle.table_index_search.proofs.Standing.{placed-sized, placed-other}
 use Rattle.table_index_search.proofs.place_of.Goals as goal
 

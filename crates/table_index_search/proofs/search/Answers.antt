@@ -1,7 +1,6 @@
 -- `table_index_search::search` meets its contract: the rule in an index of the right size, nothing in another.
 -- Assumes nothing.
 use mathlib.Core.Path.{sym, ◌∙◌}
-use borrow.Author.Rules.{rules}
 use Rattle.table_index_search.proofs.Rounds.{searched-sized, searched-other}
 use Rattle.table_index_search.proofs.search.Goals as goal
 
