@@ -21,13 +21,13 @@ loop-i-init c = let a = c.args in
 pub append_shifts-place-requires : goal.append_shifts-place-requires
 append_shifts-place-requires c = let l = c.loop-i in
     let p = l.invariant.1.1.1.0.place in
-    let n = length-nodes value_in l.i c.args.t4 in
+    let n = length-nodes value_in l.i c.args.nodes in
     (omega (arith, p, n), omega (arith, p, n))
 
 pub loop-i-preserved : goal.loop-i-preserved
 loop-i-preserved c = let l = c.loop-i in
-    let n : length c.args.t4 ≡ 16 = c.well_formed.1.1.1.0.1.0.1 in
-    let m : l.i < length c.args.t4 = omega arith in
+    let n : length c.args.nodes ≡ 16 = c.well_formed.1.1.1.0.1.0.1 in
+    let m : l.i < length c.args.nodes = omega arith in
     let x = l.invariant.1.1.1 in (
       omega arith,
       (
@@ -35,8 +35,8 @@ loop-i-preserved c = let l = c.loop-i in
         (
           omega arith,
           (
-            same_row (node-more value_in c.args.t4 l.i m) (behind _ _ x.0 c.append_shifts-place.ensures.values),
-            same_row (node-more present_in c.args.t4 l.i m) (behind _ _ x.1 c.append_shifts-place.ensures.present),
+            same_row (node-more value_in c.args.nodes l.i m) (behind _ _ x.0 c.append_shifts-place.ensures.values),
+            same_row (node-more present_in c.args.nodes l.i m) (behind _ _ x.1 c.append_shifts-place.ensures.present),
           ),
         ),
       ),
@@ -51,5 +51,5 @@ shape_of-present c = c.loop-i.invariant.1.1.0
 pub returns : goal.returns
 returns c = let l = c.loop-i in
     let x = l.invariant.1.1.1 in
-    let n : length c.args.t4 ≡ 16 = c.well_formed.1.1.1.0.1.0.1 in
-    let e = take_all l.i c.args.t4 (omega arith) in record { values = same_row (ap (λ ns. values_of (nodes_row ns)) e) x.0; present = same_row (ap (λ ns. present_of (nodes_row ns)) e) x.1; place = omega (arith, x.0.place, length-nodes value_in l.i c.args.t4) }
+    let n : length c.args.nodes ≡ 16 = c.well_formed.1.1.1.0.1.0.1 in
+    let e = take_all l.i c.args.nodes (omega arith) in record { values = same_row (ap (λ ns. values_of (nodes_row ns)) e) x.0; present = same_row (ap (λ ns. present_of (nodes_row ns)) e) x.1; place = omega (arith, x.0.place, length-nodes value_in l.i c.args.nodes) }

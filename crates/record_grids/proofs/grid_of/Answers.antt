@@ -9,14 +9,14 @@ use Rattle.record_grids.proofs.grid_of.Goals as goal
 pub returns : goal.returns
 unfolding grid_of
 returns c = λ i. record {
-  c = (held _ c.number_at.type_inv ∙ c.number_at.ensures) i;
-  c = (held _ c.number_at-2.type_inv ∙ c.number_at-2.ensures) i;
-  c = c.pair_at.ensures i;
-  c = c.origin_at.ensures i;
-  c = c.spacing_at.ensures i;
-  c = c.shifts_at.ensures i;
-  c = c.nodes_at.ensures i;
-  c = c.pair_at-2.ensures i;
-  c = c.pair_at-3.ensures i;
+  number = (held _ c.number_at.type_inv ∙ c.number_at.ensures) i;
+  sin = (held _ c.number_at-2.type_inv ∙ c.number_at-2.ensures) i;
+  indicators = c.pair_at.ensures i;
+  origin = c.origin_at.ensures i;
+  spacing = c.spacing_at.ensures i;
+  mean = c.shifts_at.ensures i;
+  nodes = c.nodes_at.ensures i;
+  methods = c.pair_at-2.ensures i;
+  quality = c.pair_at-3.ensures i;
   day = (held _ c.number_at-3.type_inv ∙ c.number_at-3.ensures) i;
 }

@@ -17,10 +17,10 @@ pub returns : goal.returns
 returns c = let r = c.args.r in
     let start =
     c.start_row-start.ensures
-    ∙ (λ i. values_of (start_row (held r.number c.type_inv.r.0.1 i) (held r.sin c.type_inv.r.1.0.1 i) r.indicators r.origin r.spacing r.mean)) in
+    ∙ (λ i. values_of (start_row (held r.number (search rules) i) (held r.sin (search rules) i) r.indicators r.origin r.spacing r.mean)) in
     let end =
     c.end_row-end.ensures
-    ∙ (λ i. values_of (end_row r.methods r.quality (held r.day c.type_inv.r.1.1.1.1.1.1.1.1.1.0.1 i))) in
+    ∙ (λ i. values_of (end_row r.methods r.quality (held r.day (search rules) i))) in
     c.numbers_around.ensures
     ∙ (λ i. buffers true (start i ++ values_of (nodes_row r.nodes) ++ end i) (c.start_present-presence.ensures i ++ present_of (nodes_row r.nodes) ++ replicate (length (end i)) 1))
     ∙ grid-parts r

@@ -13,11 +13,8 @@ use Rattle.record_rows.specs.Numbers.{says}
 use Rattle.record_grids.specs.declared.Shifts.{Shifts}
 use Rattle.record_grids.specs.Grids.{shifts_at, nodes_at}
 use Rattle.record_grids.proofs.Appends.{zero_shifts}
+use Rattle.record_grids.proofs.nodes_at.Invariants.{node}
 use Rattle.record_grids.proofs.nodes_at.Goals as goal
-
--- node j of the nodes from place k on
-abbrev node : List ℤ → List ℕ → ℕ → ℕ → Shifts
-node values present k j = shifts_at (says (row_of values present)) (k + 3 * j)
 
 pub loop-i-init : goal.loop-i-init
 loop-i-init c = (omega arith, refl)

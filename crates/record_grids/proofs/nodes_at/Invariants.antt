@@ -15,6 +15,10 @@ use Rattle.record_grids.specs.Grids.{shifts_at, nodes_at}
 use Rattle.record_grids.proofs.Appends.{zero_shifts}
 use Rattle.record_grids.proofs.nodes_at.Given as goal
 
+-- node j of the nodes from place k on
+abbrev pub node : List ℤ → List ℕ → ℕ → ℕ → Shifts
+node values present k j = shifts_at (says (row_of values present)) (k + 3 * j)
+
 abbrev pub invariant-loop-i : goal.invariant-loop-i
 invariant-loop-i l = (l.i ≤ 16) × (l.nodes ≡ up_to (node l.values l.present l.k) l.i ++ drop l.i l.initial.nodes)
 

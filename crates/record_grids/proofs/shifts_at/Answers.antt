@@ -6,4 +6,4 @@ use Rattle.record_grids.proofs.shifts_at.Goals as goal
 
 pub returns : goal.returns
 unfolding shifts_at
-returns c = λ i. record { c = c.says_at.ensures i; c = c.says_at-2.ensures i; height = c.says_at-3.ensures i }
+returns c = λ i. record { north = c.says_at.ensures i; east = c.says_at-2.ensures i; height = c.says_at-3.ensures i }

@@ -9,6 +9,6 @@ use Rattle.record_grids.proofs.spacing_at.Goals as goal
 pub returns : goal.returns
 unfolding spacing_at
 returns c = λ i. record {
-  c = (held _ c.number_at.type_inv ∙ c.number_at.ensures) i;
+  north = (held _ c.number_at.type_inv ∙ c.number_at.ensures) i;
   east = (held _ c.number_at-2.type_inv ∙ c.number_at-2.ensures) i;
 }

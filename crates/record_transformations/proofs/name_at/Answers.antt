@@ -13,11 +13,8 @@ use Rattle.arith.proofs.Lists.{fill-turn, drop-replicate}
 use Rattle.record_transformations.specs.Transformations.{name_at}
 use Rattle.record_rows.specs.Numbers.{says, number_at, counter_at}
 use Rattle.record_rows.proofs.Rows.{counter-most}
+use Rattle.record_transformations.proofs.name_at.Invariants.{char_from}
 use Rattle.record_transformations.proofs.name_at.Goals as goal
-
--- character i of the name whose counter stands at place k
-abbrev char_from : (ℕ → Reading) → ℕ → ℕ → ℕ
-char_from v k i = natural (number_at v (k + 1 + i)) % 256
 
 pub loop-j-init : goal.loop-j-init
 loop-j-init c = (omega arith, refl)

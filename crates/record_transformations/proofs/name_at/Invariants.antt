@@ -15,6 +15,10 @@ use Rattle.record_rows.specs.Numbers.{says, number_at, counter_at}
 use Rattle.record_rows.proofs.Rows.{counter-most}
 use Rattle.record_transformations.proofs.name_at.Given as goal
 
+-- character i of the name whose counter stands at place k
+abbrev pub char_from : (ℕ → Reading) → ℕ → ℕ → ℕ
+char_from v k i = natural (number_at v (k + 1 + i)) % 256
+
 abbrev pub invariant-loop-j : goal.invariant-loop-j
 invariant-loop-j l = (l.j ≤ l.length) × (l.chars ≡ up_to (char_from (says (row_of l.values l.present)) l.k) l.j ++ drop l.j l.initial.chars)
 
