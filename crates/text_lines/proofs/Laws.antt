@@ -7,7 +7,6 @@ use mathlib.Core.List.{List}
 use lib.ListN.{length}
 use borrow.Author.Tests.{lt-ltb, le-ltb}
 use Rattle.text_lines.specs.Inner.{line_of}
-use Rattle.text_lines.specs.declared.Line.{Line}
 
 module _ (s : List ℕ) (from n : ℕ) where
   pub line-ended : from + n < length s → line_of s from n ≡ record { whole = true; from = from; length = n; next = from + n + 1 }

@@ -8,7 +8,6 @@ use lib.Dec.{leb}
 use lib.ListN.{length}
 use borrow.Author.Tests.{le-leb, lt-leb}
 use Rattle.field.proofs.Place.{wide}
-use borrow.Author.Rules.{rules}
 use Rattle.field.proofs.contains_field.Goals as goal
 
 -- the bytes that hold the bits are in s where the bits are

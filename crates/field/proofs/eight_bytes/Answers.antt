@@ -1,7 +1,6 @@
 -- `field::eight_bytes` meets its contract.
 -- Assumes nothing.
 use native.Mathlib.Omega.{arith}
-use borrow.Author.Rules.{rules}
 use Prim.Native.Nat.{◌+◌, ◌*◌}
 use Rattle.field.proofs.Bit.{field_lt, bytes-join}
 use Rattle.field.proofs.eight_bytes.Goals as goal

@@ -1,13 +1,9 @@
 -- `field::few_bytes` meets its contract.
 -- Assumes nothing.
-use Prim.Native.Nat.{ℕ, ◌+◌, ◌-◌, ◌*◌, ◌^◌, ◌≤◌, ◌<◌}
-use mathlib.Core.Path.{◌≡◌, refl, ap, ◌∙◌}
-use native.Mathlib.Nat.{zero-add}
-use native.Mathlib.Omega.{arith}
+use Prim.Native.Nat.{◌-◌, ◌*◌, ◌≤◌}
+use mathlib.Core.Path.{◌≡◌}
 use lib.ListN.{length}
-use lib.Pow.{pow_mono}
 use Rattle.field.specs.Field.{field}
-use Rattle.field.proofs.Bit.{field_lt, bytes-join}
 use Rattle.field.proofs.few_bytes.Given as goal
 
 abbrev pub invariant-loop-k : goal.invariant-loop-k

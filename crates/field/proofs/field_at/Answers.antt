@@ -3,7 +3,6 @@
 use mathlib.Core.Path.{sym, ◌∙◌}
 use Rattle.field.specs.Inner.{field_at}
 use Rattle.field.proofs.Place.{contained}
-use borrow.Author.Rules.{rules}
 use Rattle.field.proofs.field_at.Goals as goal
 
 pub number_in-requires : goal.number_in-requires

@@ -4,7 +4,6 @@ use native.Mathlib.Omega.{arith}
 use lib.Pow.{pow_pos}
 use Prim.Native.Nat.{ℕ, ◌+◌, ◌-◌, ◌*◌, ◌/◌}
 use Rattle.field.proofs.Bit.{field_cut}
-use borrow.Author.Rules.{rules}
 use Rattle.field.proofs.load_field.Goals as goal
 
 pub nonzero_div-result : goal.nonzero_div-result

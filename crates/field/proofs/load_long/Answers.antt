@@ -6,7 +6,6 @@ use lib.Pow.{pow_mono}
 use Prim.Native.Nat.{ℕ, ◌+◌, ◌-◌, ◌^◌, ◌≤◌, ◌<◌}
 use Rattle.field.specs.Field.{field}
 use Rattle.field.proofs.Bit.{field_lt, field-add}
-use borrow.Author.Rules.{rules}
 use Rattle.field.proofs.load_long.Goals as goal
 
 -- the first part has at most 31 bits

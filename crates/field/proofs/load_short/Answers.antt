@@ -5,7 +5,6 @@ use Prim.Native.Nat.{◌+◌, ◌-◌, ◌*◌}
 use lib.ListN.{length}
 use lib.Pow.{pow_pos}
 use Rattle.field.proofs.Bit.{field_cut}
-use borrow.Author.Rules.{rules}
 use Rattle.field.proofs.load_short.Goals as goal
 
 pub nonzero_div-result : goal.nonzero_div-result

@@ -3,7 +3,6 @@
 use mathlib.Core.Path.{◌≡◌}
 use native.Mathlib.Omega.{arith}
 use Rattle.field.specs.Field.{field}
-use borrow.Author.Rules.{rules}
 use Rattle.field.proofs.number_in.Goals as goal
 
 pub returns : goal.returns

@@ -2,7 +2,6 @@
 -- Assumes nothing.
 use native.Mathlib.Omega.{arith}
 use mathlib.Core.Path.{sym}
-use borrow.Author.Rules.{rules}
 use Rattle.field.proofs.Bit.{byte-field}
 use Rattle.field.proofs.one_byte.Goals as goal
 

@@ -2,7 +2,6 @@
 -- Assumes nothing.
 use native.Mathlib.Nat.{one-mul, mod-eq_of_lt}
 use lib.Pow.{pow-lt}
-use borrow.Author.Rules.{rules}
 use Rattle.field.proofs.pow2.Goals as goal
 
 pub returns : goal.returns

@@ -6,7 +6,6 @@ use mir.Syntax.{w64}
 use mir.ValLaws.{to_z-of_z}
 use Rattle.field.specs.Field.{signed_of, none_of}
 use Rattle.field.specs.declared.Reading.TheVariants.{Value}
-use borrow.Author.Rules.{rules}
 use Rattle.field.proofs.reading_of.Goals as goal
 
 pub returns-then-u-pow2 : goal.returns-then-u-pow2

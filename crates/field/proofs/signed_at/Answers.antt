@@ -1,10 +1,9 @@
 -- `field::signed_at` meets its contract.
 -- Assumes nothing.
 use mathlib.Core.Path.{ap, ◌∙◌}
-use Rattle.field.specs.Inner.{low_bits, signed_at}
+use Rattle.field.specs.Inner.{signed_at}
 use Rattle.field.specs.Field.{signed_of}
 use Rattle.field.proofs.Place.{low-field_at}
-use borrow.Author.Rules.{rules}
 use Rattle.field.proofs.signed_at.Goals as goal
 
 pub returns : goal.returns

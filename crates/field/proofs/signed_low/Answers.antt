@@ -1,13 +1,11 @@
 -- `field::signed_low` meets its contract.
 -- Assumes nothing.
-use mathlib.Core.Path.{sym, ◌∙◌}
-use Prim.Native.Nat.{◌^◌}
+use mathlib.Core.Path.{sym}
 use native.Mathlib.Nat.{mod-lt}
 use native.Mathlib.Omega.{arith}
 use lib.Pow.{pow_pos}
 use borrow.Author.Tests.{le-leb}
 use Rattle.field.proofs.Place.{wide-says}
-use borrow.Author.Rules.{rules}
 use Rattle.field.proofs.signed_low.Goals as goal
 
 pub returns-then-w-gt63 : goal.returns-then-w-gt63

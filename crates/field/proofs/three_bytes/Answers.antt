@@ -1,7 +1,6 @@
 -- `field::three_bytes` meets its contract.
 -- Assumes nothing.
 use native.Mathlib.Omega.{arith}
-use borrow.Author.Rules.{rules}
 use Prim.Native.Nat.{◌+◌, ◌*◌}
 use Rattle.field.proofs.Bit.{field_lt, bytes-join}
 use Rattle.field.proofs.three_bytes.Goals as goal

@@ -1,12 +1,9 @@
 -- `frame::find_frame` meets its contract: the answer from a place passed is the answer from the next.
 -- Assumes nothing.
 use Prim.Native.Nat.{◌-◌}
-use mathlib.Core.Path.{◌≡◌, refl, sym, ap, ◌∙◌}
-use native.Mathlib.Omega.{arith}
+use mathlib.Core.Path.{◌≡◌}
 use lib.ListN.{length}
 use Rattle.frame.specs.Frames.{find_frame}
-use Rattle.frame.specs.Private.{frame_at}
-use Rattle.frame.proofs.At.{rest, over, stops, goes_on}
 use Rattle.frame.proofs.find_frame.Given as goal
 
 abbrev pub invariant-loop-i : goal.invariant-loop-i

@@ -1,6 +1,5 @@
 -- `frame::is_candidate` meets its contract.
 -- Assumes nothing.
-use borrow.Author.Rules.{rules}
 use borrow.Author.Tests.{eq-eqb, ne_eqb}
 use Rattle.frame.specs.Frames.{candidate}
 use Rattle.frame.proofs.is_candidate.Goals as goal

@@ -1,7 +1,6 @@
 -- `frame::length_of` meets its contract.
 -- Assumes nothing.
 use native.Mathlib.Omega.{arith}
-use borrow.Author.Rules.{rules}
 use Rattle.frame.specs.Frames.{length_of}
 use Rattle.frame.proofs.length_of.Goals as goal
 

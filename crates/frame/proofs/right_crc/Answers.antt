@@ -3,7 +3,6 @@
 use mathlib.Core.Path.{sym}
 use native.Mathlib.Omega.{arith}
 use lib.Seq.{length-take-le}
-use borrow.Author.Rules.{rules}
 use Rattle.frame.specs.Frames.{right_crc}
 use Rattle.frame.proofs.right_crc.Goals as goal
 

@@ -1,6 +1,5 @@
 -- `frame::three_at` meets its contract.
 -- Assumes nothing.
-use borrow.Author.Rules.{rules}
 use Rattle.frame.specs.Frames.{three_at}
 use Rattle.frame.proofs.three_at.Goals as goal
 

@@ -1,10 +1,8 @@
 -- `frame_crc::crc_by` meets its contract: what is left of the bytes takes the remainder so far to the CRC.
 -- Assumes nothing.
-use Prim.Native.Nat.{◌-◌, ◌≤◌, ◌<◌, ◌^◌}
-use mathlib.Core.Path.{◌≡◌, refl, ◌∙◌}
+use mathlib.Core.Path.{refl, ◌∙◌}
 use native.Mathlib.Omega.{arith}
-use lib.ListN.{length, drop}
-use Rattle.frame_crc.specs.Crc.{crc_from, crc}
+use Rattle.frame_crc.specs.Crc.{crc}
 use Rattle.frame_crc.proofs.Linear.{four-lt, round-four}
 use Rattle.frame_crc.proofs.crc_by.Goals as goal
 

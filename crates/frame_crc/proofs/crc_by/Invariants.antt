@@ -1,11 +1,9 @@
 -- `frame_crc::crc_by` meets its contract: what is left of the bytes takes the remainder so far to the CRC.
 -- Assumes nothing.
 use Prim.Native.Nat.{◌-◌, ◌≤◌, ◌<◌, ◌^◌}
-use mathlib.Core.Path.{◌≡◌, refl, ◌∙◌}
-use native.Mathlib.Omega.{arith}
+use mathlib.Core.Path.{◌≡◌}
 use lib.ListN.{length, drop}
 use Rattle.frame_crc.specs.Crc.{crc_from, crc}
-use Rattle.frame_crc.proofs.Linear.{four-lt, round-four}
 use Rattle.frame_crc.proofs.crc_by.Given as goal
 
 abbrev pub invariant-loop-i : goal.invariant-loop-i

@@ -5,7 +5,6 @@ use Prim.Native.Nat.{◌*◌, ◌/◌, ◌%◌, ◌+◌}
 use native.Mathlib.Omega.{arith}
 use lib.Bits.{bit_xor}
 use lib.ListN.{get_or}
-use borrow.Author.Rules.{rules}
 use Rattle.frame_crc.proofs.Parts.{byte, byte_small}
 use Rattle.frame_crc.proofs.crc_byte.Goals as goal
 

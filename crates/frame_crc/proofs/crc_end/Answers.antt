@@ -1,10 +1,8 @@
 -- `frame_crc::crc_end` meets its contract: what is left of the bytes takes the remainder so far to the last.
 -- Assumes nothing.
-use Prim.Native.Nat.{◌-◌, ◌<◌, ◌^◌}
-use mathlib.Core.Path.{◌≡◌, refl, sym, ◌∙◌}
+use mathlib.Core.Path.{refl, sym, ◌∙◌}
 use native.Mathlib.Omega.{arith}
-use lib.ListN.{length, drop, get_or}
-use Rattle.frame_crc.specs.Crc.{crc_from}
+use lib.ListN.{get_or}
 use Rattle.frame_crc.proofs.Linear.{byte-lt, round, done}
 use Rattle.frame_crc.proofs.crc_end.Goals as goal
 

@@ -2,7 +2,6 @@
 -- Assumes nothing.
 use native.Mathlib.Omega.{arith}
 use mathlib.Core.Path.{sym, ◌∙◌}
-use borrow.Author.Rules.{rules}
 use Rattle.frame_crc.proofs.Parts.{word-input, four}
 use Rattle.frame_crc.proofs.crc_four.Goals as goal
 

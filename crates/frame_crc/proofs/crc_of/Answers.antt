@@ -1,7 +1,6 @@
 -- `frame_crc::crc_of` meets its contract: antt computes all 128 numbers of the table.
 -- Assumes nothing.
 use mathlib.Core.Path.{refl}
-use borrow.Author.Rules.{rules}
 use Rattle.frame_crc.specs.Crc.{reduced, crc_bit, crc_bits}
 use Rattle.frame_crc.specs.Private.{part, parts}
 use Rattle.frame_crc.proofs.crc_of.Goals as goal

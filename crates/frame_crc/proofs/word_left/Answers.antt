@@ -2,7 +2,6 @@
 -- Assumes nothing.
 use native.Mathlib.Omega.{arith}
 use mathlib.Core.Path.{ap, ◌∙◌}
-use borrow.Author.Rules.{rules}
 use Rattle.frame_crc.proofs.Parts.{summed, word}
 use Rattle.frame_crc.proofs.word_left.Goals as goal
 

@@ -4,7 +4,6 @@ use Prim.Native.Nat.{◌+◌, ◌≤◌, ◌<◌}
 use mathlib.Core.Path.{ap, ◌∙◌}
 use native.Mathlib.Omega.{arith}
 use lib.ListN.{length}
-use borrow.Author.Rules.{rules}
 use Rattle.frame_search.specs.Steps.{found-step, end_step, pass_step, wait-step, step_by, step_of}
 use Rattle.frame_search.proofs.Inside.{found_inside, place_inside, when-found, when-none, when-ended, when-waiting}
 use Rattle.frame_search.proofs.next_step.Goals as goal

@@ -1,6 +1,5 @@
 -- `text_lines::line_at` meets its contract: by whether a newline stands behind the line.
 -- Assumes nothing.
-use borrow.Author.Rules.{rules}
 use native.Mathlib.Omega.{arith}
 use mathlib.Core.Path.{sym, ap, ◌∙◌}
 use Rattle.text_words.specs.Inner.{find}

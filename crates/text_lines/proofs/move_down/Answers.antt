@@ -1,10 +1,9 @@
 -- `text_lines::move_down` meets its contract: a byte not yet moved stands as at the start.
 -- Assumes nothing.
-use Prim.Native.Nat.{◌-◌, ◌≤◌}
 use native.Mathlib.Omega.{arith}
 use mathlib.Core.Path.{◌≡◌, refl, ap, ◌∙◌}
 use mathlib.Core.List.{◌++◌}
-use lib.ListN.{length, drop, length-set}
+use lib.ListN.{drop, length-set}
 use Rattle.arith.specs.Lists.{up_to}
 use Rattle.arith.proofs.Lists.{fill-turn}
 use Rattle.text_lines.proofs.Moved.{source, still, all_moved}

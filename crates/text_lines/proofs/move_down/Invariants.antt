@@ -1,13 +1,11 @@
 -- `text_lines::move_down` meets its contract: a byte not yet moved stands as at the start.
 -- Assumes nothing.
 use Prim.Native.Nat.{◌-◌, ◌≤◌}
-use native.Mathlib.Omega.{arith}
-use mathlib.Core.Path.{◌≡◌, refl, ap, ◌∙◌}
+use mathlib.Core.Path.{◌≡◌}
 use mathlib.Core.List.{◌++◌}
-use lib.ListN.{length, drop, length-set}
+use lib.ListN.{length, drop}
 use Rattle.arith.specs.Lists.{up_to}
-use Rattle.arith.proofs.Lists.{fill-turn}
-use Rattle.text_lines.proofs.Moved.{source, still, all_moved}
+use Rattle.text_lines.proofs.Moved.{source}
 use Rattle.text_lines.proofs.move_down.Given as goal
 
 abbrev pub invariant-loop-i : goal.invariant-loop-i

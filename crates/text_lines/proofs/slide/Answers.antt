@@ -3,7 +3,6 @@
 use Prim.Native.Nat.{◌-◌}
 use mathlib.Core.Path.{◌≡◌, sym, ◌∙◌}
 use native.Mathlib.Omega.{arith}
-use borrow.Author.Rules.{rules}
 use Rattle.text_lines.specs.Inner.{slid}
 use Rattle.text_lines.proofs.Moved.{keeps, keeps-none, past-window}
 use Rattle.text_lines.proofs.slide.Goals as goal

@@ -1,6 +1,5 @@
 -- `text_words::before` meets its contract: a part from the start is what `take` leaves, and so is the whole where it is no longer.
 -- Assumes nothing.
-use borrow.Author.Rules.{rules}
 use native.Mathlib.Numerals.{unary_clauses}
 use native.Mathlib.Omega.{arith}
 use mathlib.Core.Path.{sym}

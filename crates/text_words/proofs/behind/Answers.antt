@@ -1,6 +1,5 @@
 -- `text_words::behind` meets its contract: a part up to the end is what `drop` leaves, and none is left behind the end.
 -- Assumes nothing.
-use borrow.Author.Rules.{rules}
 use Prim.Native.Nat.{◌-◌}
 use native.Mathlib.Omega.{arith}
 use lib.ListN.{length, drop, length-drop, drop_of_length-le}

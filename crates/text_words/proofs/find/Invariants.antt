@@ -1,9 +1,6 @@
 -- `text_words::find` meets its contract. The invariant: the place of the first such byte is that many bytes on; the measure is the number of bytes that are left.
 -- Assumes nothing.
-use borrow.Author.Rules.{rules}
 use Prim.Native.Nat.{◌+◌, ◌-◌}
-use native.Mathlib.Omega.{arith}
-use Rattle.text_words.proofs.Laws.{find-here, find-on, find-end}
 use mathlib.Core.Path.{◌≡◌}
 use lib.ListN.{length, drop}
 use Rattle.text_words.specs.Inner.{find}

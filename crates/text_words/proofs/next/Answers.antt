@@ -1,12 +1,10 @@
 -- `text_words::next` meets its contract: by whether the word ends before the string does.
 -- Assumes nothing.
-use Prim.Native.Nat.{◌+◌}
 use native.Mathlib.Omega.{arith}
 use mathlib.Core.Path.{◌≡◌, ap, ◌∙◌}
 use lib.ListN.{drop}
 use Rattle.text_words.specs.Inner.{find}
 use Rattle.text_words.proofs.Laws.{next-end, next-on}
-use borrow.Author.Rules.{rules}
 use Rattle.text_words.proofs.next.Goals as goal
 
 pub returns-then-length-from : goal.returns-then-length-from

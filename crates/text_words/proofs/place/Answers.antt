@@ -1,11 +1,7 @@
 -- `text_words::place` meets its contract. The invariant: the place is that many words on; the measure is the number of bytes that are left.
 -- Assumes nothing.
-use borrow.Author.Rules.{rules}
-use Prim.Native.Nat.{◌+◌, ◌-◌, ◌≤◌}
-use native.Mathlib.Numerals.{add-one}
 use native.Mathlib.Omega.{arith}
-use mathlib.Core.Path.{◌≡◌, refl, sym, ap, ◌∙◌}
-use lib.ListN.{length, drop}
+use mathlib.Core.Path.{sym, ap, ◌∙◌}
 use Rattle.text_words.specs.Inner.{word, words, place_in}
 use Rattle.text_words.specs.Words.{same}
 use Rattle.text_words.proofs.Laws.{place_end, place_here, place-on, next_past}

@@ -1,10 +1,7 @@
 -- `text_words::same` meets its contract. The invariant: the whole strings are equal if what is left of them is; the measure is the number of bytes that are left.
 -- Assumes nothing.
-use borrow.Author.Rules.{rules}
-use Prim.Native.Nat.{◌+◌, ◌-◌}
-use native.Mathlib.Omega.{arith}
-use Rattle.text_words.proofs.Laws.{same_length, same-no, same-on, same_end}
-use mathlib.Core.Path.{◌≡◌, sym, ◌∙◌}
+use Prim.Native.Nat.{◌-◌}
+use mathlib.Core.Path.{◌≡◌}
 use lib.ListN.{length, drop}
 use Rattle.text_words.specs.Words.{same}
 use Rattle.text_words.proofs.same.Given as goal

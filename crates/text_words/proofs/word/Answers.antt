@@ -3,7 +3,6 @@
 use mathlib.Core.Path.{ap, ◌∙◌}
 use lib.ListN.{take}
 use Rattle.text_words.specs.Inner.{word}
-use borrow.Author.Rules.{rules}
 use Rattle.text_words.proofs.word.Goals as goal
 
 pub returns : goal.returns
