@@ -1,5 +1,6 @@
 -- `grid_component::count_at` meets its contract.
 -- Assumes nothing.
+use native.Mathlib.Omega.{arith}
 use mathlib.Core.Path.{◌≡◌, sym, ap, ◌∙◌}
 use Prim.Native.Nat.{ℕ}
 use mathlib.Core.List.{List}
@@ -35,4 +36,4 @@ returns c = let m : List ℕ = c.args.message.now in
     let none : (p k).refusal ≡ 0 = sym (ap (λ (q : Located). q.refusal) (place k)) ∙ c.if-p-ne0.false in
     c.cell_count.ensures
     ∙ rw (eq-eqb _ 0 (kept k), eq-eqb (p k).refusal 0 none, ← place k)
-    (λ i. cell_count (held a.kept.settings.number c.type_inv.f.0.1 i) a.component (mean i) (c.nodes_of-n.ensures i) (c.weights_in-k.ensures i))
+    (λ i. cell_count (held a.kept.settings.number (omega arith) i) a.component (mean i) (c.nodes_of-n.ensures i) (c.weights_in-k.ensures i))

@@ -12,21 +12,21 @@ returns-in_default c = rw (ap available c.in_default.is)
 
 pub returns-then-node_lacks : goal.returns-then-node_lacks
 returns-then-node_lacks c = let mean : available c.args.mean ≡ true = ap available c.in-Value.is in
-    let sw : {b : Bool} → c.node_lacks.result ≡ b → lacks c.args.k.sw (available c.args.n.sw) ≡ b = λ e. sym c.node_lacks.ensures ∙ e in
-    rw (mean, sw c.if-node_lacks.true)
+    let sw : (b : Bool) → c.node_lacks.result ≡ b → lacks c.args.k.sw (available c.args.n.sw) ≡ b = λ _ e. sym c.node_lacks.ensures ∙ e in
+    rw (mean, sw _ c.if-node_lacks.true)
 
 pub returns-then-node_lacks-2 : goal.returns-then-node_lacks-2
 returns-then-node_lacks-2 c = let mean : available c.args.mean ≡ true = ap available c.in-Value.is in
-    let sw : {b : Bool} → c.node_lacks.result ≡ b → lacks c.args.k.sw (available c.args.n.sw) ≡ b = λ e. sym c.node_lacks.ensures ∙ e in
-    let se : {b : Bool} → c.node_lacks-2.result ≡ b → lacks c.args.k.se (available c.args.n.se) ≡ b = λ e. sym c.node_lacks-2.ensures ∙ e in
-    rw (mean, sw c.if-node_lacks.false, se c.if-node_lacks-2.true)
+    let sw : (b : Bool) → c.node_lacks.result ≡ b → lacks c.args.k.sw (available c.args.n.sw) ≡ b = λ _ e. sym c.node_lacks.ensures ∙ e in
+    let se : (b : Bool) → c.node_lacks-2.result ≡ b → lacks c.args.k.se (available c.args.n.se) ≡ b = λ _ e. sym c.node_lacks-2.ensures ∙ e in
+    rw (mean, sw _ c.if-node_lacks.false, se _ c.if-node_lacks-2.true)
 
 pub returns-then-node_lacks-3 : goal.returns-then-node_lacks-3
-returns-then-node_lacks-3 c = let se : {b : Bool} → c.node_lacks-2.result ≡ b → lacks c.args.k.se (available c.args.n.se) ≡ b = λ e. sym c.node_lacks-2.ensures ∙ e in
-    let nw : {t : Bool} → c.node_lacks-3.result ≡ t → lacks (s c).args.k.nw (available (s c).args.n.nw) ≡ t = λ e. sym c.node_lacks-3.ensures ∙ e in
-    rw (mean (a c), sw (a c) c.if-node_lacks.false, se c.if-node_lacks-2.false, nw c.if-node_lacks-3.true)
+returns-then-node_lacks-3 c = let se : (b : Bool) → c.node_lacks-2.result ≡ b → lacks c.args.k.se (available c.args.n.se) ≡ b = λ _ e. sym c.node_lacks-2.ensures ∙ e in
+    let nw : (t : Bool) → c.node_lacks-3.result ≡ t → lacks (s c).args.k.nw (available (s c).args.n.nw) ≡ t = λ _ e. sym c.node_lacks-3.ensures ∙ e in
+    rw (mean (a c), sw (a c) c.if-node_lacks.false, se _ c.if-node_lacks-2.false, nw _ c.if-node_lacks-3.true)
 
 pub returns : goal.returns
-returns c = let se : {b : Bool} → c.node_lacks-2.result ≡ b → lacks c.args.k.se (available c.args.n.se) ≡ b = λ e. sym c.node_lacks-2.ensures ∙ e in
-    let nw : {t : Bool} → c.node_lacks-3.result ≡ t → lacks (s c).args.k.nw (available (s c).args.n.nw) ≡ t = λ e. sym c.node_lacks-3.ensures ∙ e in
-    rw (mean (a c), sw (a c) c.if-node_lacks.false, se c.if-node_lacks-2.false, nw c.if-node_lacks-3.false) c.node_lacks-4.ensures
+returns c = let se : (b : Bool) → c.node_lacks-2.result ≡ b → lacks c.args.k.se (available c.args.n.se) ≡ b = λ _ e. sym c.node_lacks-2.ensures ∙ e in
+    let nw : (t : Bool) → c.node_lacks-3.result ≡ t → lacks (s c).args.k.nw (available (s c).args.n.nw) ≡ t = λ _ e. sym c.node_lacks-3.ensures ∙ e in
+    rw (mean (a c), sw (a c) c.if-node_lacks.false, se _ c.if-node_lacks-2.false, nw _ c.if-node_lacks-3.false) c.node_lacks-4.ensures

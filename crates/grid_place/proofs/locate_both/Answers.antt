@@ -31,7 +31,7 @@ vertical_of-v-requires c = let framed : settings_held c.args.f ≡ true = sym c.
 pub returns : goal.returns
 unfolding held_two_places
 returns c = let framed : settings_held c.args.f ≡ true = sym c.settings_held.ensures ∙ c.if-not-settings_held.false in
-    let placed : (k : ℕ) {r : Located} → r ≡ located c.args.f k (to_z w64 (of_z w64 c.args.north)) (to_z w64 (of_z w64 c.args.east)) → r ≡ held_place c.args.f k c.args.north c.args.east = λ k h. h
+    let placed : (k : ℕ) (r : Located) → r ≡ located c.args.f k (to_z w64 (of_z w64 c.args.north)) (to_z w64 (of_z w64 c.args.east)) → r ≡ held_place c.args.f k c.args.north c.args.east = λ k r h. h
     ∙ (λ i. located c.args.f k (is-back c.ranges.north i) (is-back c.ranges.east i))
     ∙ place-held c.args.f framed k c.args.north c.args.east in
-    c.two_places_of-2.ensures ∙ (λ i. two_places_of (placed 0 c.place_of-h.ensures i) (placed 2 c.vertical_of-v.ensures i))
+    c.two_places_of-2.ensures ∙ (λ i. two_places_of (placed 0 _ c.place_of-h.ensures i) (placed 2 _ c.vertical_of-v.ensures i))

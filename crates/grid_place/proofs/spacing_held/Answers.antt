@@ -5,15 +5,12 @@ use lib.IntN.{nat_abs}
 use Rattle.arith.proofs.Machine.{Num, any, lit, test, is-back}
 use Rattle.grid_place.proofs.spacing_held.Goals as goal
 
-abbrev given : tie.Start → Num
-given s = any s.args.d s.ranges.d
-
 pub returns-then-d-lt0 : goal.returns-then-d-lt0
-returns-then-d-lt0 c = rw (test (given c) (lit 0 tt) c.if-d-lt0.true)
+returns-then-d-lt0 c = rw (test (any c.args.d c.ranges.d) (lit 0 tt) c.if-d-lt0.true)
 
 pub returns : goal.returns
 returns c = let size : c.magnitude.result ≡ nat_abs c.args.d = c.magnitude.ensures ∙ ap nat_abs (is-back c.ranges.d) in
-    rw (test (given c) (lit 0 tt) c.if-d-lt0.false, size)
+    rw (test (any c.args.d c.ranges.d) (lit 0 tt) c.if-d-lt0.false, size)
 
 pub magnitude-requires : goal.magnitude-requires
 magnitude-requires c = tt

@@ -1,5 +1,6 @@
 -- `grid_refusals::early_refusal` meets its contract.
 -- Assumes nothing.
+use native.Mathlib.Omega.{arith}
 use mathlib.Core.Path.{◌≡◌, sym, ◌∙◌}
 use mathlib.Core.Bool.{not, ◌||◌}
 use mathlib.Core.List.{List, [], ◌∷◌}
@@ -16,7 +17,7 @@ use Rattle.arith.proofs.Machine.{is-back}
 use Rattle.grid_refusals.proofs.early_refusal.Goals as goal
 
 pub returns-then-p-ne0 : goal.returns-then-p-ne0
-returns-then-p-ne0 c = let number : to_z w64 (of_z w64 c.args.f.number) ≡ c.args.f.number = held c.args.f.number c.type_inv.f.0.1 in
+returns-then-p-ne0 c = let number : to_z w64 (of_z w64 c.args.f.number) ≡ c.args.f.number = held c.args.f.number (omega arith) in
     let before : List Test = (8, ltb 2 c.args.component) ∷ (9, beyond c.args.f.number c.args.north c.args.east) ∷ [] in
     let behind : List Test = (10, same_z (side c.args.component c.args.f.indicators) (pos 0))
     ∷ (11, not (same_z (side c.args.component c.args.f.methods) (pos 0)))
@@ -28,7 +29,7 @@ returns-then-p-ne0 c = let number : to_z w64 (of_z w64 c.args.f.number) ≡ c.ar
     stops before behind tt known c.if-p-ne0.true
 
 pub returns : goal.returns
-returns c = let number : to_z w64 (of_z w64 c.args.f.number) ≡ c.args.f.number = held c.args.f.number c.type_inv.f.0.1 in
+returns c = let number : to_z w64 (of_z w64 c.args.f.number) ≡ c.args.f.number = held c.args.f.number (omega arith) in
     let before : List Test = (8, ltb 2 c.args.component) ∷ (9, beyond c.args.f.number c.args.north c.args.east) ∷ [] in
     let behind : List Test = (10, same_z (side c.args.component c.args.f.indicators) (pos 0))
     ∷ (11, not (same_z (side c.args.component c.args.f.methods) (pos 0)))
@@ -43,7 +44,7 @@ returns c = let number : to_z w64 (of_z w64 c.args.f.number) ≡ c.args.f.number
     ∙ (λ i. first ((10, same_z (shown i) (pos 0))
     ∷ (11, not (same_z (method i) (pos 0)))
     ∷ (12, not (origin_available c.args.f.origin))
-    ∷ (13, same_z (held c.args.f.spacing.north c.type_inv.spacing.0.1 i) (pos 0) || same_z (held c.args.f.spacing.east c.type_inv.spacing.1.0.1 i) (pos 0))
+    ∷ (13, same_z (held c.args.f.spacing.north (omega arith) i) (pos 0) || same_z (held c.args.f.spacing.east (omega arith) i) (pos 0))
     ∷ [])) in
     fields ∙ goes_on before behind tt (sym known ∙ c.if-p-ne0.false)
 

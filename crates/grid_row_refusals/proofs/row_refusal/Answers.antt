@@ -1,5 +1,6 @@
 -- `grid_row_refusals::row_refusal` meets its contract.
 -- Assumes nothing.
+use native.Mathlib.Omega.{arith}
 use mathlib.Core.Path.{◌≡◌, sym, ap, ◌∙◌}
 use mathlib.Core.List.{List, [], ◌∷◌}
 use Prim.Native.Nat.{ℕ}
@@ -31,7 +32,7 @@ returns-then-limits-ne0 c = let m : List ℕ = c.args.message.now in
     let number : settings c.number ≡ (grid_of (says (row m))).number = number-said m none c.settings_at-f.ensures in
     let known : c.limits_refusal-limits.result ≡ first ((8, ltb 2 c.args.component) ∷ (9, misplaced (grid_of (says (row m))).number c.args.north c.args.east c.args.step c.args.count) ∷ []) = c.limits_refusal-limits.ensures
     ∙ (λ i. first ((8, ltb 2 c.args.component)
-    ∷ (9, misplaced ((held settings c.number c.type_inv.f.0.1 ∙ number) i) (is-back c.ranges.north i) (is-back c.ranges.east i) (is-back c.ranges.step i) c.args.count)
+    ∷ (9, misplaced ((held c.args.f.number (omega arith) ∙ number) i) (is-back c.ranges.north i) (is-back c.ranges.east i) (is-back c.ranges.step i) c.args.count)
     ∷ [])) in
     let a = c.args in
     limits-refuse m a.component a.north a.east a.step a.count a.room none known c.if-limits-ne0.true
@@ -42,7 +43,7 @@ overflow_cast-step c = let m : List ℕ = c.args.message.now in
     let number : settings c.number ≡ (grid_of (says (row m))).number = number-said m none c.settings_at-f.ensures in
     let known : c.limits_refusal-limits.result ≡ first ((8, ltb 2 c.args.component) ∷ (9, misplaced (grid_of (says (row m))).number c.args.north c.args.east c.args.step c.args.count) ∷ []) = c.limits_refusal-limits.ensures
     ∙ (λ i. first ((8, ltb 2 c.args.component)
-    ∷ (9, misplaced ((held settings c.number c.type_inv.f.0.1 ∙ number) i) (is-back c.ranges.north i) (is-back c.ranges.east i) (is-back c.ranges.step i) c.args.count)
+    ∷ (9, misplaced ((held c.args.f.number (omega arith) ∙ number) i) (is-back c.ranges.north i) (is-back c.ranges.east i) (is-back c.ranges.step i) c.args.count)
     ∷ [])) in
     let within : first ((8, ltb 2 c.args.component) ∷ (9, misplaced (grid_of (says (row m))).number c.args.north c.args.east c.args.step c.args.count) ∷ []) ≡ 0 = sym known ∙ c.if-limits-ne0.false in
     let fits : Fit (grid_of (says (row m))).number c.args.north c.args.east c.args.step c.args.count = row-fit m c.args.component c.args.north c.args.east c.args.step c.args.count c.args.room none within in
@@ -57,7 +58,7 @@ places_refusal-places-requires c = let m : List ℕ = c.args.message.now in
     let number : settings c.number ≡ (grid_of (says (row m))).number = number-said m none c.settings_at-f.ensures in
     let known : c.limits_refusal-limits.result ≡ first ((8, ltb 2 c.args.component) ∷ (9, misplaced (grid_of (says (row m))).number c.args.north c.args.east c.args.step c.args.count) ∷ []) = c.limits_refusal-limits.ensures
     ∙ (λ i. first ((8, ltb 2 c.args.component)
-    ∷ (9, misplaced ((held settings c.number c.type_inv.f.0.1 ∙ number) i) (is-back c.ranges.north i) (is-back c.ranges.east i) (is-back c.ranges.step i) c.args.count)
+    ∷ (9, misplaced ((held c.args.f.number (omega arith) ∙ number) i) (is-back c.ranges.north i) (is-back c.ranges.east i) (is-back c.ranges.step i) c.args.count)
     ∷ [])) in
     let within : first ((8, ltb 2 c.args.component) ∷ (9, misplaced (grid_of (says (row m))).number c.args.north c.args.east c.args.step c.args.count) ∷ []) ≡ 0 = sym known ∙ c.if-limits-ne0.false in
     let fits : Fit (grid_of (says (row m))).number c.args.north c.args.east c.args.step c.args.count = row-fit m c.args.component c.args.north c.args.east c.args.step c.args.count c.args.room none within in
@@ -71,7 +72,7 @@ returns-then-places-ne0 c = let m : List ℕ = c.args.message.now in
     let number : settings c.number ≡ (grid_of (says (row m))).number = number-said m none c.settings_at-f.ensures in
     let known : c.limits_refusal-limits.result ≡ first ((8, ltb 2 c.args.component) ∷ (9, misplaced (grid_of (says (row m))).number c.args.north c.args.east c.args.step c.args.count) ∷ []) = c.limits_refusal-limits.ensures
     ∙ (λ i. first ((8, ltb 2 c.args.component)
-    ∷ (9, misplaced ((held settings c.number c.type_inv.f.0.1 ∙ number) i) (is-back c.ranges.north i) (is-back c.ranges.east i) (is-back c.ranges.step i) c.args.count)
+    ∷ (9, misplaced ((held c.args.f.number (omega arith) ∙ number) i) (is-back c.ranges.north i) (is-back c.ranges.east i) (is-back c.ranges.step i) c.args.count)
     ∷ [])) in
     let within : first ((8, ltb 2 c.args.component) ∷ (9, misplaced (grid_of (says (row m))).number c.args.north c.args.east c.args.step c.args.count) ∷ []) ≡ 0 = sym known ∙ c.if-limits-ne0.false in
     let fits : Fit (grid_of (says (row m))).number c.args.north c.args.east c.args.step c.args.count = row-fit m c.args.component c.args.north c.args.east c.args.step c.args.count c.args.room none within in
@@ -89,7 +90,7 @@ returns-then-room-count c = let m : List ℕ = c.args.message.now in
     let number : settings c.number ≡ (grid_of (says (row m))).number = number-said m none c.settings_at-f.ensures in
     let known : c.limits_refusal-limits.result ≡ first ((8, ltb 2 c.args.component) ∷ (9, misplaced (grid_of (says (row m))).number c.args.north c.args.east c.args.step c.args.count) ∷ []) = c.limits_refusal-limits.ensures
     ∙ (λ i. first ((8, ltb 2 c.args.component)
-    ∷ (9, misplaced ((held settings c.number c.type_inv.f.0.1 ∙ number) i) (is-back c.ranges.north i) (is-back c.ranges.east i) (is-back c.ranges.step i) c.args.count)
+    ∷ (9, misplaced ((held c.args.f.number (omega arith) ∙ number) i) (is-back c.ranges.north i) (is-back c.ranges.east i) (is-back c.ranges.step i) c.args.count)
     ∷ [])) in
     let within : first ((8, ltb 2 c.args.component) ∷ (9, misplaced (grid_of (says (row m))).number c.args.north c.args.east c.args.step c.args.count) ∷ []) ≡ 0 = sym known ∙ c.if-limits-ne0.false in
     let fits : Fit (grid_of (says (row m))).number c.args.north c.args.east c.args.step c.args.count = row-fit m c.args.component c.args.north c.args.east c.args.step c.args.count c.args.room none within in
@@ -107,7 +108,7 @@ returns c = let m : List ℕ = c.args.message.now in
     let number : settings c.number ≡ (grid_of (says (row m))).number = number-said m none c.settings_at-f.ensures in
     let known : c.limits_refusal-limits.result ≡ first ((8, ltb 2 c.args.component) ∷ (9, misplaced (grid_of (says (row m))).number c.args.north c.args.east c.args.step c.args.count) ∷ []) = c.limits_refusal-limits.ensures
     ∙ (λ i. first ((8, ltb 2 c.args.component)
-    ∷ (9, misplaced ((held settings c.number c.type_inv.f.0.1 ∙ number) i) (is-back c.ranges.north i) (is-back c.ranges.east i) (is-back c.ranges.step i) c.args.count)
+    ∷ (9, misplaced ((held c.args.f.number (omega arith) ∙ number) i) (is-back c.ranges.north i) (is-back c.ranges.east i) (is-back c.ranges.step i) c.args.count)
     ∷ [])) in
     let within : first ((8, ltb 2 c.args.component) ∷ (9, misplaced (grid_of (says (row m))).number c.args.north c.args.east c.args.step c.args.count) ∷ []) ≡ 0 = sym known ∙ c.if-limits-ne0.false in
     let fits : Fit (grid_of (says (row m))).number c.args.north c.args.east c.args.step c.args.count = row-fit m c.args.component c.args.north c.args.east c.args.step c.args.count c.args.room none within in

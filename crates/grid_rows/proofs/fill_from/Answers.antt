@@ -64,7 +64,7 @@ returns c = let t : Num = stands c.requires.0.ready c.args.i c.requires.1 in
     let counts : ℤ → ℕ → List ℤ = λ m l. up_to (cell_counts (pos mean_factor *ℤ value_in (mean_says a.message.now a.component)) (node_factor m a.component) w.height w.width w.north w.east a.step
     (values_in (cell_says a.message.now a.component w.row w.column))) l in
     let filled =
-    c.fill_run.ensures ∙ (λ i. counts (held a.f.number c.type_inv.f.0.1 i) (long i))
+    c.fill_run.ensures ∙ (λ i. counts (held a.f.number (omega arith) i) (long i))
     ∙ counts-are z.pre.0 a.i z.pre.1 is n r.most r.last in record {
       filled = record {
         some = omega (arith, r.some);

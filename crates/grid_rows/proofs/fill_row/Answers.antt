@@ -18,11 +18,11 @@ pub loop-i-init : goal.loop-i-init
 loop-i-init c = (omega arith, refl, refl)
 
 pub fill_from-i-requires : goal.fill_from-i-requires
-fill_from-i-requires c = let answered : {room : ℕ} → room ≡ length c.args.row.now → Answered c.args.message.now c.args.f c.args.component (to_z w64 (of_z w64 c.args.north)) (to_z w64 (of_z w64 c.args.east)) c.args.step c.args.count room = λ {room} q. let a =
+fill_from-i-requires c = let answered : (room : ℕ) → room ≡ length c.args.row.now → Answered c.args.message.now c.args.f c.args.component (to_z w64 (of_z w64 c.args.north)) (to_z w64 (of_z w64 c.args.east)) c.args.step c.args.count room = λ room q. let a =
     subst₂ (λ (x y : ℤ). Answered c.args.message.now c.args.f c.args.component x y c.args.step c.args.count (length c.args.row.now))
     (sym (is-back c.ranges.north)) (sym (is-back c.ranges.east)) c.requires in
     record { ready = a.ready; none = a.none; enough = rw q a.enough } in
-    (answered c.loop-i.invariant.1, c.loop-i-test.true)
+    (answered _ c.loop-i.invariant.1, c.loop-i-test.true)
 
 pub loop-i-preserved : goal.loop-i-preserved
 loop-i-preserved c = let counts : ℕ → ℤ = count_at c.args.message.now c.args.component (to_z w64 (of_z w64 c.args.north)) (to_z w64 (of_z w64 c.args.east)) (pos c.args.step) in

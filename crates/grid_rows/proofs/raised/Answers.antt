@@ -15,14 +15,14 @@ use Rattle.grid_rows.proofs.raised.Goals as goal
 pub overflow_cast-result-2 : goal.overflow_cast-result-2
 overflow_cast-result-2 c = let t : Num = add (arg c.args.sum (2560 * 1676902500000000) (omega (arith, c.requires.0, c.requires.1)) tt)
     (cast (2560 * c.args.area) (2560 * 1676902500000000) (omega (arith, c.requires.1)) tt) tt in
-    let above : pos 0 ≤ℤ t c.z = raised-above c.args.sum (2560 * c.args.area) c.requires.0 in
+    let above : pos 0 ≤ℤ t.z = raised-above c.args.sum (2560 * c.args.area) c.requires.0 in
     let e = cast-natural t.z t.fit.sfits (not-below above) in
     rw t.held (e.0, record { fits = e.1 })
 
 pub returns : goal.returns
 returns c = let t : Num = add (arg c.args.sum (2560 * 1676902500000000) (omega (arith, c.requires.0, c.requires.1)) tt)
     (cast (2560 * c.args.area) (2560 * 1676902500000000) (omega (arith, c.requires.1)) tt) tt in
-    let above : pos 0 ≤ℤ t c.z = raised-above c.args.sum (2560 * c.args.area) c.requires.0 in
+    let above : pos 0 ≤ℤ t.z = raised-above c.args.sum (2560 * c.args.area) c.requires.0 in
     ap (λ (z : ℤ). pos (nat_abs z)) t.held ∙ sym (abs-above above)
 
 pub overflow_add-result : goal.overflow_add-result
