@@ -14,5 +14,5 @@ use Rattle.record_transformation_rows.proofs.helmert_row.Goals as goal
 pub returns : goal.returns
 returns c = let r = c.args.r in
     three-parts (good_name r.source && good_name r.target) _ r.number r.source r.target (shared r.system r.area r.parameters) (last r.ellipsoids r.quality)
-    (held r.number c.type_inv.r.0.1) c.shared_values-shared.ensures c.last_values-tail.ensures c.shared_present-presence.ensures (ones-last r.ellipsoids r.quality) c.named_row.ensures
+    (held r.number (search rules)) c.shared_values-shared.ensures c.last_values-tail.ensures c.shared_present-presence.ensures (ones-last r.ellipsoids r.quality) c.named_row.ensures
     ∙ ap (numbers (good_name r.source && good_name r.target)) (helmert-joined r)

@@ -9,4 +9,4 @@ use Rattle.record_transformation_rows.proofs.last_values.Goals as goal
 pub returns : goal.returns
 unfolding ellipsoids_row pair_row
 returns c = let a = c.args in
-    λ i. backs (values_of (ellipsoids_row a.e)) _ c.type_inv.e i ++ backs (values_of (pair_row a.q)) _ c.struct_told-2-1.given i
+    λ i. backs (values_of (ellipsoids_row a.e)) _ c.struct_told-1.given i ++ backs (values_of (pair_row a.q)) _ c.struct_told-2-1.given i

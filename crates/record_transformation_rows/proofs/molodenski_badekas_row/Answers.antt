@@ -18,7 +18,7 @@ use Rattle.record_transformation_rows.proofs.molodenski_badekas_row.Goals as goa
 pub returns : goal.returns
 returns c = let r = c.args.r in
     three-parts (good_name r.source && good_name r.target) _ r.number r.source r.target (shared r.system r.area r.parameters) (point_row r.point ++ last r.ellipsoids r.quality)
-    (held r.number c.type_inv.r.0.1) c.shared_values-shared.ensures c.point_values-tail.ensures c.shared_present-presence.ensures c.point_present-tailpresence.ensures c.named_row.ensures
+    (held r.number (search rules)) c.shared_values-shared.ensures c.point_values-tail.ensures c.shared_present-presence.ensures c.point_present-tailpresence.ensures c.named_row.ensures
     ∙ ap (numbers (good_name r.source && good_name r.target)) (molodenski-badekas-joined r)
 
 pub named_row-requires : goal.named_row-requires

@@ -14,4 +14,4 @@ returns c = let a = c.args in
     λ i. (held _ c.value_in.type_inv ∙ c.value_in.ensures) i
     ∷ (held _ c.value_in-2.type_inv ∙ c.value_in-2.ensures) i
     ∷ (held _ c.value_in-3.type_inv ∙ c.value_in-3.ensures) i
-    ∷ backs (values_of (ellipsoids_row a.e)) _ c.type_inv.e i ++ backs (values_of (pair_row a.q)) _ c.struct_told-2-1.given i
+    ∷ backs (values_of (ellipsoids_row a.e)) _ c.struct_told-1.given i ++ backs (values_of (pair_row a.q)) _ c.struct_told-2-1.given i

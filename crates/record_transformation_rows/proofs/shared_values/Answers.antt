@@ -10,7 +10,7 @@ use Rattle.record_transformation_rows.proofs.shared_values.Goals as goal
 pub returns : goal.returns
 unfolding system_row area_row parameters_row
 returns c = let x = c.args in
-    let s = c.type_inv.s in
+    let s = c.struct_told-1.given in
     let a = c.struct_told-2-1.given in
     λ i. held x.s.sin s.0.1 i ∷ held x.s.messages s.1.0.1 i ∷ held x.s.plate s.1.1.0.1 i ∷ held x.s.computation s.1.1.1.0.1 i ∷ held x.s.height s.1.1.1.1.0.1 i
     ∷ (held _ c.value_in.type_inv ∙ c.value_in.ensures) i
