@@ -7,4 +7,4 @@ use Rattle.layout_by_number.proofs.decode_1025.Goals as goal
 
 pub returns : goal.returns
 unfolding layout1025
-returns c = let a = c.args in let p = read_by _ layout1025 a.s.now a.values.now a.present.now c.check_1025.ensures c.decode_checked.ensures in record { answer = p.0; values = p.1.0; present = p.1.1 }
+returns c = let a = c.args in let d = c.decode_checked.ensures in let p = read_by _ layout1025 a.s.now a.values.now a.present.now c.check_1025.ensures (d.answer, (d.values, d.present)) in record { answer = p.0; values = p.1.0; present = p.1.1 }

@@ -7,4 +7,4 @@ use Rattle.layout_by_number.proofs.decode_1026.Goals as goal
 
 pub returns : goal.returns
 unfolding layout1026
-returns c = let a = c.args in let p = read_by _ layout1026 a.s.now a.values.now a.present.now c.check_1026.ensures c.decode_checked.ensures in record { answer = p.0; values = p.1.0; present = p.1.1 }
+returns c = let a = c.args in let d = c.decode_checked.ensures in let p = read_by _ layout1026 a.s.now a.values.now a.present.now c.check_1026.ensures (d.answer, (d.values, d.present)) in record { answer = p.0; values = p.1.0; present = p.1.1 }

@@ -15,5 +15,6 @@ slice_bounds-decode_checked-end c = let p = c.other_plan-p.ensures in sym (lengt
 
 pub returns : goal.returns
 returns c = let a = c.args in
-    let e = c.other_plan-p.ensures.1.1 in let p = rw (← e)
-    (read_by _ _ a.s.now a.values.now a.present.now (c.check_other-r.ensures ∙ ap (λ (es : List ℕ). refusal_of es a.s.now) (sym e)) c.decode_checked.ensures) in record { answer = p.0; values = p.1.0; present = p.1.1 }
+    let e = c.other_plan-p.ensures.1.1 in let d = c.decode_checked.ensures in
+    let p = read_by _ _ a.s.now a.values.now a.present.now (c.check_other-r.ensures ∙ ap (λ (es : List ℕ). refusal_of es a.s.now) (sym e)) (d.answer, (d.values, d.present)) in
+    record { answer = rw (← e) p.0; values = rw (← e) p.1.0; present = rw (← e) p.1.1 }

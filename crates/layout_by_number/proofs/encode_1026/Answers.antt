@@ -6,4 +6,4 @@ use Rattle.layout_by_number.proofs.encode_1026.Goals as goal
 
 pub returns : goal.returns
 unfolding layout1026
-returns c = let p = c.encode.ensures in record { answer = p.0; output = p.1 }
+returns c = let p = c.encode.ensures in record { answer = p.answer; output = p.output }

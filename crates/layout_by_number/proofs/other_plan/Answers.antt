@@ -1,5 +1,6 @@
 -- `layout_by_number::other_plan` meets its contract: each tail equals its layout's by computation.
 -- Assumes nothing.
+use Rattle.std.proofs.Common.{◌≢◌}
 use mathlib.Core.Path.{refl, sym, ◌∙◌}
 use native.Mathlib.Omega.{arith}
 use borrow.Author.Tests.{ne_eqb}
@@ -18,6 +19,7 @@ returns-in-1022 c = rw (c.in-1022.is, ← c.counter_of-in-1022.ensures.0, ← c.
 
 pub returns-in_default : goal.returns-in_default
 unfolding layout_by layout_of
-returns-in_default c = let r = c.in-1021.rest in
-    let p = c.requires in
-    rw (ne_eqb _ _ r.0.1, ne_eqb _ _ r.1, ne_eqb _ _ p.0.0.0.0, ne_eqb _ _ p.0.0.0.1, ne_eqb _ _ p.0.0.1, ne_eqb _ _ p.0.1, ne_eqb _ _ p.1) (omega arith, (refl, refl))
+returns-in_default c = let p = c.requires in
+    let k : c.args.number ≢ 1021 = omega arith in
+    let l : c.args.number ≢ 1022 = omega arith in
+    rw (ne_eqb _ _ k, ne_eqb _ _ l, ne_eqb _ _ p.0.0.0.0, ne_eqb _ _ p.0.0.0.1, ne_eqb _ _ p.0.0.1, ne_eqb _ _ p.0.1, ne_eqb _ _ p.1) (omega arith, (refl, refl))
