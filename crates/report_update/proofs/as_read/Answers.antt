@@ -1,6 +1,7 @@
 -- `report_update::as_read` meets its contract.
 -- Assumes nothing.
 use mathlib.Core.Path.{sym, ◌∙◌}
+use native.Mathlib.Omega.{arith}
 use lib.IntN.{pos}
 use borrow.Author.Tests.{eq-eqb, ne_eqb}
 use Rattle.report_update.specs.Update.{as_read}
@@ -18,7 +19,7 @@ returns-then-t-eq0 c = let t = c.args.t in
       greatest = pos 0;
       smallest_place = 0;
       greatest_place = 0;
-      sum = held t.sum c.struct_told-1.given.1.1.1.1.1.1.0.1 i;
+      sum = held t.sum (omega arith) i;
     })
     ∙ sym (yes _ _ (eq-eqb _ _ c.if-t-eq0.true))
 

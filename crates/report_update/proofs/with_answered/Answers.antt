@@ -4,6 +4,7 @@ use mathlib.Core.Path.{◌≡◌, ◌∙◌}
 use mathlib.Core.Bool.{cond, ◌||◌}
 use Prim.Native.Nat.{◌+◌}
 use borrow.Author.Rules.{rules}
+use native.Mathlib.Omega.{arith}
 use lib.Dec.{eqb}
 use lib.Signed.{lt_z}
 use mir.Syntax.{w64}
@@ -26,10 +27,10 @@ returns c = let count : Num = arg c.args.count 10000000 c.requires.2 tt in
     let sum : Num = add (arg c.args.t.sum 100000000000 c.requires.1 tt) count tt in
     let t : Tally = c.args.t in
     let z : to_z w64 (of_z w64 c.args.count) ≡ c.args.count = count.held in
-    let smallest : to_z w64 (of_z w64 t c.smallest) ≡ t c.smallest = held t c.smallest c.type_inv.t.1.1.0.1 in
-    let greatest : to_z w64 (of_z w64 t c.greatest) ≡ t c.greatest = held t c.greatest c.type_inv.t.1.1.1.0.1 in
-    let low : c.is_new-low.result ≡ is_new below t c.args.count t c.smallest = c.is_new-low.ensures ∙ (λ i. eqb t c.answered 0 || lt_z (z i) (smallest i)) in
-    let high : c.is_new-high.result ≡ is_new above t c.args.count t c.greatest = c.is_new-high.ensures ∙ (λ i. eqb t c.answered 0 || lt_z (greatest i) (z i)) in
+    let smallest : to_z w64 (of_z w64 t.smallest) ≡ t.smallest = held t.smallest (omega arith) in
+    let greatest : to_z w64 (of_z w64 t.greatest) ≡ t.greatest = held t.greatest (omega arith) in
+    let low : c.is_new-low.result ≡ is_new below t c.args.count t.smallest = c.is_new-low.ensures ∙ (λ i. eqb t.answered 0 || lt_z (z i) (smallest i)) in
+    let high : c.is_new-high.result ≡ is_new above t c.args.count t.greatest = c.is_new-high.ensures ∙ (λ i. eqb t.answered 0 || lt_z (greatest i) (z i)) in
     let k = c.args.place in
     λ i. record {
       answered = t.answered + 1;
