@@ -23,4 +23,5 @@ returns-then-hi-kind c = let a = c.args in
     (kind-kept a.lo a.hi s (length a.values.now) (length a.present.now) _ c.check_kind-then-hi-kind.ensures f) f in record { answer = p.0; values = p.1.0; present = p.1.1 }
 
 pub returns : goal.returns
-returns c = let a = c.args in let p = rw (← kind-numbered a.lo a.hi a.s.now (length a.values.now) (length a.present.now) c.field_at-kind.ensures (omega arith) (omega arith)) c.read_row.ensures in record { answer = p.0; values = p.1.0; present = p.1.1 }
+returns c = let a = c.args in let p = c.read_row.ensures in
+    let k = kind-numbered a.lo a.hi a.s.now (length a.values.now) (length a.present.now) c.field_at-kind.ensures (omega arith) (omega arith) in record { answer = rw (← k) p.answer; values = rw (← k) p.values; present = rw (← k) p.present }

@@ -18,7 +18,8 @@ target_of-m-requires c = let s = c.args.s.now in
 pub returns : goal.returns
 returns c = let a = c.args in
     let h = sym c.head_refusal-h.ensures ∙ c.if-h-ne0.false in
-    let k : Counted a.s.now c.field_at-number.result c.source_of-n.result c.target_of-m.result = record { number = c.field_at-number.ensures; source = c.source_of-n.ensures; target = c.target_of-m.ensures } in let p = row_read a.s.now a.values.now a.present.now h (counted-layout a.s.now h k) c.decode_by.ensures in record { answer = p.0; values = p.1.0; present = p.1.1 }
+    let k : Counted a.s.now c.field_at-number.result c.source_of-n.result c.target_of-m.result = record { number = c.field_at-number.ensures; source = c.source_of-n.ensures; target = c.target_of-m.ensures } in let d = c.decode_by.ensures in
+    let p = row_read a.s.now a.values.now a.present.now h (counted-layout a.s.now h k) (d.answer, (d.values, d.present)) in record { answer = p.0; values = p.1.0; present = p.1.1 }
 
 pub head_refusal-h-requires : goal.head_refusal-h-requires
 head_refusal-h-requires c = (c.field_at-number.ensures, c.source_of-n.ensures)

@@ -28,4 +28,4 @@ pub returns : goal.returns
 returns c = let a = c.args in
     let n = c.natural_at-number.ensures in
     let k = record-row a.lo a.hi a.values.now a.present.now (length a.out.now) a.good (c.if-not-good.false)
-    (rw n at c.if-number-lo.false) (rw n at c.if-hi-number.false) in let p = rw (← k) c.write_row.ensures in record { answer = p.0; output = p.1 }
+    (rw n at c.if-number-lo.false) (rw n at c.if-hi-number.false) in let p = c.write_row.ensures in record { answer = rw (← k) p.answer; output = rw (← k) p.output }
