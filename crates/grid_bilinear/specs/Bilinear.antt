@@ -49,7 +49,7 @@ outside d u = lt_z (from_edge d u) (pos 0) || lt_z (pos (3 * d)) (from_edge d u)
 unfoldable pub cell : ℕ → ℕ → ℕ
 cell d t = min 2 (t / d)
 
--- ---- the exact weighted mean, times W-as-H
+-- ---- the exact weighted mean, times W · H
 
 -- "the weights are (W-x)(H-y), x(H-y), (W-x)y, xy over W·H for the south-west, south-east, north-west and north-east nodes"
 unfoldable pub weighted : (H W y x : ℕ) (sw se nw ne : ℤ) → ℤ
