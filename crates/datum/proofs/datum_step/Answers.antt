@@ -29,20 +29,11 @@ returns c = let m : List ℕ = c.args.message.now in
     let read : c.read_helmert-r.result ≡ read_helmert m = c.read_helmert-r.ensures in
     let none : (read_helmert m).refusal ≡ 0 = sym (ap (λ (r : HelmertRead). r.refusal) read) ∙ c.if-refusal-ne0.false in
     let computation : to_z w64 (of_z w64 c.read_helmert-r.result.value.system.computation) ≡ (read_helmert m).value.system.computation = held c.read_helmert-r.result.value.system.computation (search rules) ∙ ap (λ (r : HelmertRead). r.value.system.computation) read in
-    let a = (s c).args in
-    let f = (s c).fits in
+    let a = c.args in
+    let f = c.ranges in
     numbered
     (answered-wider (10 ^ 35) tt
     (subst (λ (q : Type 0). q)
     (λ i. Answered (521 * 10 ^ 32) (step_by (computation i) (read i).value.parameters (is-back f.x i) (is-back f.y i) (is-back f.z i)) (values_in (read i).value.parameters) (is-back f.x i) (is-back f.y i) (is-back f.z i) c.step_by.result)
     c.step_by.ensures))
     (reading-passed m a.x a.y a.z none)
-
-pub read_helmert-r-requires : goal.read_helmert-r-requires
-read_helmert-r-requires c = tt
-
-pub refused-requires : goal.refused-requires
-refused-requires c = tt
-
-pub step_by-requires : goal.step_by-requires
-step_by-requires c = tt

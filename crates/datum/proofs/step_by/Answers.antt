@@ -37,15 +37,3 @@ returns c = let position : c.beyond.result ≡ beyond_any (10 ^ 11) c.args.x c.a
       sym position ∙ c.if-beyond.false,
       same-yes a.computation (pos 0) f.computation (fits-literal tt) c.if-computation-ne0.false,
     ))
-
-pub beyond-requires : goal.beyond-requires
-beyond-requires c = tt
-
-pub refused-requires : goal.refused-requires
-refused-requires c = tt
-
-pub refused-requires-then-computation-ne0 : goal.refused-requires-then-computation-ne0
-refused-requires-then-computation-ne0 c = tt
-
-pub by_values-requires : goal.by_values-requires
-by_values-requires c = tt

@@ -5,6 +5,3 @@ use Rattle.demands_datum.proofs.beyond.Goals as goal
 
 pub returns : goal.returns
 returns c = rw (bits-z c.args.a c.ranges.a, bits-z c.args.b c.ranges.b, bits-z c.args.c c.ranges.c) at c.beyond.ensures
-
-pub beyond-requires : goal.beyond-requires
-beyond-requires c = tt

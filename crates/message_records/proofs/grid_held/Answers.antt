@@ -23,9 +23,3 @@ pub returns : goal.returns
 returns c = let v = grid_row c.args.r in
     let e = c.grid_row-n.ensures in
     c.row_held.ensures ∙ (λ i. row_held 1023 1024 (values-row _ _ v e i) (present-row _ _ v e i))
-
-pub grid_row-n-requires : goal.grid_row-n-requires
-grid_row-n-requires c = tt
-
-pub row_held-requires : goal.row_held-requires
-row_held-requires c = tt

@@ -14,9 +14,3 @@ returns c = let s = c.args.s.now in
       refusal = read-refusal 1023 1024 s c.read_kind-refusal.ensures.answer i;
       value = (c.grid_of.ensures ∙ read-record 1023 1024 s grid_of c.read_kind-refusal.ensures.values c.read_kind-refusal.ensures.present) i;
     }
-
-pub read_kind-refusal-requires : goal.read_kind-refusal-requires
-read_kind-refusal-requires c = tt
-
-pub grid_of-requires : goal.grid_of-requires
-grid_of-requires c = tt

@@ -14,9 +14,3 @@ returns c = let s = c.args.s.now in
       refusal = read-refusal 1021 1021 s c.read_kind-refusal.ensures.answer i;
       value = (c.helmert_of.ensures ∙ read-record 1021 1021 s helmert_of c.read_kind-refusal.ensures.values c.read_kind-refusal.ensures.present) i;
     }
-
-pub read_kind-refusal-requires : goal.read_kind-refusal-requires
-read_kind-refusal-requires c = tt
-
-pub helmert_of-requires : goal.helmert_of-requires
-helmert_of-requires c = tt

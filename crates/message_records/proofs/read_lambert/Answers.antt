@@ -14,9 +14,3 @@ returns c = let s = c.args.s.now in
       refusal = read-refusal 1026 1026 s c.read_kind-refusal.ensures.answer i;
       value = (c.lambert_of.ensures ∙ read-record 1026 1026 s lambert_of c.read_kind-refusal.ensures.values c.read_kind-refusal.ensures.present) i;
     }
-
-pub read_kind-refusal-requires : goal.read_kind-refusal-requires
-read_kind-refusal-requires c = tt
-
-pub lambert_of-requires : goal.lambert_of-requires
-lambert_of-requires c = tt

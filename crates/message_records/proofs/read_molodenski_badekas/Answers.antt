@@ -14,9 +14,3 @@ returns c = let s = c.args.s.now in
       refusal = read-refusal 1022 1022 s c.read_kind-refusal.ensures.answer i;
       value = (c.molodenski_badekas_of.ensures ∙ read-record 1022 1022 s molodenski_badekas_of c.read_kind-refusal.ensures.values c.read_kind-refusal.ensures.present) i;
     }
-
-pub read_kind-refusal-requires : goal.read_kind-refusal-requires
-read_kind-refusal-requires c = tt
-
-pub molodenski_badekas_of-requires : goal.molodenski_badekas_of-requires
-molodenski_badekas_of-requires c = tt

@@ -14,9 +14,3 @@ returns c = let s = c.args.s.now in
       refusal = read-refusal 1027 1027 s c.read_kind-refusal.ensures.answer i;
       value = (c.oblique_mercator_of.ensures ∙ read-record 1027 1027 s oblique_mercator_of c.read_kind-refusal.ensures.values c.read_kind-refusal.ensures.present) i;
     }
-
-pub read_kind-refusal-requires : goal.read_kind-refusal-requires
-read_kind-refusal-requires c = tt
-
-pub oblique_mercator_of-requires : goal.oblique_mercator_of-requires
-oblique_mercator_of-requires c = tt

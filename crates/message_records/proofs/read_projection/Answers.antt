@@ -14,9 +14,3 @@ returns c = let s = c.args.s.now in
       refusal = read-refusal 1025 1025 s c.read_kind-refusal.ensures.answer i;
       value = (c.projection_of.ensures ∙ read-record 1025 1025 s projection_of c.read_kind-refusal.ensures.values c.read_kind-refusal.ensures.present) i;
     }
-
-pub read_kind-refusal-requires : goal.read_kind-refusal-requires
-read_kind-refusal-requires c = tt
-
-pub projection_of-requires : goal.projection_of-requires
-projection_of-requires c = tt

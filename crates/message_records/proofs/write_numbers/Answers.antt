@@ -15,7 +15,4 @@ slice_bounds-write_kind-end-2 c = let n = c.args.n in
     sym (length-take-le n.count n.present (omega arith))
 
 pub returns : goal.returns
-returns c = let p = c.write_kind.ensures in record { answer = p.0; output = p.1 }
-
-pub write_kind-requires : goal.write_kind-requires
-write_kind-requires c = tt
+returns c = record { answer = c.write_kind.ensures.answer; output = c.write_kind.ensures.output }

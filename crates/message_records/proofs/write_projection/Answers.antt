@@ -9,7 +9,4 @@ pub write_numbers-requires : goal.write_numbers-requires
 write_numbers-requires c = numbers-within _ _ (projection_row c.args.r) c.projection_row-n.ensures
 
 pub returns : goal.returns
-returns c = let a = c.args in let p = written-record _ _ (projection_row a.r) c.projection_row-n.ensures 1025 1025 a.out.now c.write_numbers.ensures in record { answer = p.0; output = p.1 }
-
-pub projection_row-n-requires : goal.projection_row-n-requires
-projection_row-n-requires c = tt
+returns c = let a = c.args in let p = written-record _ _ (projection_row a.r) c.projection_row-n.ensures 1025 1025 a.out.now (c.write_numbers.ensures.answer, c.write_numbers.ensures.output) in record { answer = p.0; output = p.1 }
