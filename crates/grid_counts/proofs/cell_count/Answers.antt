@@ -2,7 +2,7 @@
 -- Assumes nothing.
 use mathlib.Core.Path.{◌≡◌, refl, sym, ap, ◌∙◌}
 use mathlib.Core.Bool.{true, false}
-use borrow.Author.Rules.{rules}
+use native.Mathlib.Omega.{arith}
 use mir.Syntax.{w64}
 use mir.Val.{to_z, of_z}
 use Rattle.arith.proofs.Back.{held}
@@ -27,9 +27,8 @@ returns-in_default-needed c = let n : Nodes = c.args.n in
     let ws : Weights = c.args.k in
     let mean-has : available c.args.mean ≡ true = ap available c.in-Value.is in
     let sw-says : c.needed.result ≡ asked ws.sw n.sw = c.needed.ensures in
-    let s = s1 c in
-    sw-out s.args.number s.args.component s.args.mean (n s) (ws s) c.refused-in_default-needed.result
-    mean-has (missing (ws s).sw (n s).sw sw-says c.in_default-needed.is)
+    sw-out c.args.number c.args.component c.args.mean n ws c.refused-in_default-needed.result
+    mean-has (missing ws.sw n.sw sw-says c.in_default-needed.is)
     c.refused-in_default-needed.ensures
 
 pub returns-in_default-needed-2 : goal.returns-in_default-needed-2
@@ -39,9 +38,8 @@ returns-in_default-needed-2 c = let n : Nodes = c.args.n in
     let sw-says : c.needed.result ≡ asked ws.sw n.sw = c.needed.ensures in
     let sw-has : lacks ws.sw (available n.sw) ≡ false = (given ws.sw n.sw sw-says c.in-Value-needed.is).0 in
     let se-says : c.needed-2.result ≡ asked ws.se n.se = c.needed-2.ensures in
-    let s = s2 c in
-    se-out s.args.number s.args.component s.args.mean (n s) (ws s) c.refused-in_default-needed-2.result
-    mean-has sw-has (missing (ws s).se (n s).se se-says c.in_default-needed-2.is)
+    se-out c.args.number c.args.component c.args.mean n ws c.refused-in_default-needed-2.result
+    mean-has sw-has (missing ws.se n.se se-says c.in_default-needed-2.is)
     c.refused-in_default-needed-2.ensures
 
 pub returns-in_default-needed-3 : goal.returns-in_default-needed-3
@@ -53,9 +51,8 @@ returns-in_default-needed-3 c = let n : Nodes = c.args.n in
     let se-says : c.needed-2.result ≡ asked ws.se n.se = c.needed-2.ensures in
     let se-has : lacks ws.se (available n.se) ≡ false = (given ws.se n.se se-says c.in-Value-needed-2.is).0 in
     let nw-says : c.needed-3.result ≡ asked ws.nw n.nw = c.needed-3.ensures in
-    let s = s3 c in
-    nw-out s.args.number s.args.component s.args.mean (n s) (ws s) c.refused-in_default-needed-3.result
-    mean-has sw-has se-has (missing (ws s).nw (n s).nw nw-says c.in_default-needed-3.is)
+    nw-out c.args.number c.args.component c.args.mean n ws c.refused-in_default-needed-3.result
+    mean-has sw-has se-has (missing ws.nw n.nw nw-says c.in_default-needed-3.is)
     c.refused-in_default-needed-3.ensures
 
 pub returns-in_default-needed-4 : goal.returns-in_default-needed-4
@@ -69,31 +66,30 @@ returns-in_default-needed-4 c = let n : Nodes = c.args.n in
     let nw-says : c.needed-3.result ≡ asked ws.nw n.nw = c.needed-3.ensures in
     let nw-has : lacks ws.nw (available n.nw) ≡ false = (given ws.nw n.nw nw-says c.in-Value-needed-3.is).0 in
     let ne-says : c.needed-4.result ≡ asked ws.ne n.ne = c.needed-4.ensures in
-    let s = s4 c in
-    ne-out s.args.number s.args.component s.args.mean (n s) (ws s) c.refused-in_default-needed-4.result
-    mean-has sw-has se-has nw-has (missing (ws s).ne (n s).ne ne-says c.in_default-needed-4.is)
+    ne-out c.args.number c.args.component c.args.mean n ws c.refused-in_default-needed-4.result
+    mean-has sw-has se-has nw-has (missing ws.ne n.ne ne-says c.in_default-needed-4.is)
     c.refused-in_default-needed-4.ensures
 
 pub returns : goal.returns
 returns c = let n : Nodes = c.args.n in
     let ws : Weights = c.args.k in
     let mean-has : available c.args.mean ≡ true = ap available c.in-Value.is in
-    let mean-is : to_z w64 (of_z w64 c.in-Value.m) ≡ value_in c.args.mean = held _ c.known_told-1.given.0.1 ∙ sym (ap value_in c.in-Value.is) in
+    let mean-is : to_z w64 (of_z w64 c.in-Value.m) ≡ value_in c.args.mean = held c.in-Value.m (omega arith) ∙ sym (ap value_in c.in-Value.is) in
     let sw-says : c.needed.result ≡ asked ws.sw n.sw = c.needed.ensures in
     let sw-has : lacks ws.sw (available n.sw) ≡ false = (given ws.sw n.sw sw-says c.in-Value-needed.is).0 in
-    let sw-is : to_z w64 (of_z w64 c.in-Value-needed.sw) ≡ value_in n.sw = held _ c.known_told-in-Value-needed-1.given.0.1
+    let sw-is : to_z w64 (of_z w64 c.in-Value-needed.sw) ≡ value_in n.sw = held c.in-Value-needed.sw (omega arith)
     ∙ (given ws.sw n.sw sw-says c.in-Value-needed.is).1 in
     let se-says : c.needed-2.result ≡ asked ws.se n.se = c.needed-2.ensures in
     let se-has : lacks ws.se (available n.se) ≡ false = (given ws.se n.se se-says c.in-Value-needed-2.is).0 in
-    let se-is : to_z w64 (of_z w64 c.in-Value-needed-2.se) ≡ value_in n.se = held _ c.known_told-in-Value-needed-2-1.given.0.1
+    let se-is : to_z w64 (of_z w64 c.in-Value-needed-2.se) ≡ value_in n.se = held c.in-Value-needed-2.se (omega arith)
     ∙ (given ws.se n.se se-says c.in-Value-needed-2.is).1 in
     let nw-says : c.needed-3.result ≡ asked ws.nw n.nw = c.needed-3.ensures in
     let nw-has : lacks ws.nw (available n.nw) ≡ false = (given ws.nw n.nw nw-says c.in-Value-needed-3.is).0 in
-    let nw-is : to_z w64 (of_z w64 c.in-Value-needed-3.nw) ≡ value_in n.nw = held _ c.known_told-in-Value-needed-3-1.given.0.1
+    let nw-is : to_z w64 (of_z w64 c.in-Value-needed-3.nw) ≡ value_in n.nw = held c.in-Value-needed-3.nw (omega arith)
     ∙ (given ws.nw n.nw nw-says c.in-Value-needed-3.is).1 in
     let ne-says : c.needed-4.result ≡ asked ws.ne n.ne = c.needed-4.ensures in
     let ne-has : lacks ws.ne (available n.ne) ≡ false = (given ws.ne n.ne ne-says c.in-Value-needed-4.is).0 in
-    let ne-is : to_z w64 (of_z w64 c.in-Value-needed-4.ne) ≡ value_in n.ne = held _ c.known_told-in-Value-needed-4-1.given.0.1
+    let ne-is : to_z w64 (of_z w64 c.in-Value-needed-4.ne) ≡ value_in n.ne = held c.in-Value-needed-4.ne (omega arith)
     ∙ (given ws.ne n.ne ne-says c.in-Value-needed-4.is).1 in
     let values : ◌≡◌ {A = Corners} (record { sw = to_z w64 (of_z w64 c.in-Value-needed.sw); se = to_z w64 (of_z w64 c.in-Value-needed-2.se); nw = to_z w64 (of_z w64 c.in-Value-needed-3.nw); ne = to_z w64 (of_z w64 c.in-Value-needed-4.ne) }) (values_in n) = λ i. record {
       sw = sw-is i;
@@ -101,7 +97,7 @@ returns c = let n : Nodes = c.args.n in
       nw = nw-is i;
       ne = ne-is i;
     } in
-    let a = (s c).args in
+    let a = c.args in
     all_in a.number a.component a.mean a.n a.k _
     mean-has sw-has se-has nw-has ne-has
-    refl (held c.count_in-count.result c.count_in-count.type_inv) c.count_in-count.ensures (is-back (s c).fits.number) mean-is values
+    refl (held c.count_in-count.result c.count_in-count.type_inv) c.count_in-count.ensures (is-back c.ranges.number) mean-is values

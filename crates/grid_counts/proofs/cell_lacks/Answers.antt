@@ -22,11 +22,15 @@ returns-then-node_lacks-2 c = let mean : available c.args.mean ≡ true = ap ava
     rw (mean, sw _ c.if-node_lacks.false, se _ c.if-node_lacks-2.true)
 
 pub returns-then-node_lacks-3 : goal.returns-then-node_lacks-3
-returns-then-node_lacks-3 c = let se : (b : Bool) → c.node_lacks-2.result ≡ b → lacks c.args.k.se (available c.args.n.se) ≡ b = λ _ e. sym c.node_lacks-2.ensures ∙ e in
-    let nw : (t : Bool) → c.node_lacks-3.result ≡ t → lacks (s c).args.k.nw (available (s c).args.n.nw) ≡ t = λ _ e. sym c.node_lacks-3.ensures ∙ e in
-    rw (mean (a c), sw (a c) c.if-node_lacks.false, se _ c.if-node_lacks-2.false, nw _ c.if-node_lacks-3.true)
+returns-then-node_lacks-3 c = let mean : available c.args.mean ≡ true = ap available c.in-Value.is in
+    let sw : (b : Bool) → c.node_lacks.result ≡ b → lacks c.args.k.sw (available c.args.n.sw) ≡ b = λ _ e. sym c.node_lacks.ensures ∙ e in
+    let se : (b : Bool) → c.node_lacks-2.result ≡ b → lacks c.args.k.se (available c.args.n.se) ≡ b = λ _ e. sym c.node_lacks-2.ensures ∙ e in
+    let nw : (t : Bool) → c.node_lacks-3.result ≡ t → lacks c.args.k.nw (available c.args.n.nw) ≡ t = λ _ e. sym c.node_lacks-3.ensures ∙ e in
+    rw (mean, sw _ c.if-node_lacks.false, se _ c.if-node_lacks-2.false, nw _ c.if-node_lacks-3.true)
 
 pub returns : goal.returns
-returns c = let se : (b : Bool) → c.node_lacks-2.result ≡ b → lacks c.args.k.se (available c.args.n.se) ≡ b = λ _ e. sym c.node_lacks-2.ensures ∙ e in
-    let nw : (t : Bool) → c.node_lacks-3.result ≡ t → lacks (s c).args.k.nw (available (s c).args.n.nw) ≡ t = λ _ e. sym c.node_lacks-3.ensures ∙ e in
-    rw (mean (a c), sw (a c) c.if-node_lacks.false, se _ c.if-node_lacks-2.false, nw _ c.if-node_lacks-3.false) c.node_lacks-4.ensures
+returns c = let mean : available c.args.mean ≡ true = ap available c.in-Value.is in
+    let sw : (b : Bool) → c.node_lacks.result ≡ b → lacks c.args.k.sw (available c.args.n.sw) ≡ b = λ _ e. sym c.node_lacks.ensures ∙ e in
+    let se : (b : Bool) → c.node_lacks-2.result ≡ b → lacks c.args.k.se (available c.args.n.se) ≡ b = λ _ e. sym c.node_lacks-2.ensures ∙ e in
+    let nw : (t : Bool) → c.node_lacks-3.result ≡ t → lacks c.args.k.nw (available c.args.n.nw) ≡ t = λ _ e. sym c.node_lacks-3.ensures ∙ e in
+    rw (mean, sw _ c.if-node_lacks.false, se _ c.if-node_lacks-2.false, nw _ c.if-node_lacks-3.false) c.node_lacks-4.ensures

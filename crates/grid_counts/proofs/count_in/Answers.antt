@@ -20,13 +20,13 @@ returns-then-magnitude-gt16384 c = let size : c.magnitude.result ≡ nat_abs c.a
 
 pub returns : goal.returns
 returns c = let size : c.magnitude.result ≡ nat_abs c.args.mean = c.magnitude.ensures ∙ ap nat_abs (is-back c.ranges.mean) in
-    let means : Num = mul (lit 100 tt) (arg c.args.mean 16384 (omega (arith, size, c.if-magnitude-gt16384.left)) tt) tt in
+    let means : Num = mul (lit 100 tt) (arg c.args.mean 16384 (omega (arith, size, c.if-magnitude-gt16384.false)) tt) tt in
     let factor : c.factor_of-factor.result ≡ node_factor c.args.number c.args.component = c.factor_of-factor.ensures ∙ ap (λ (z : ℤ). node_factor z c.args.component) (is-back c.ranges.number) in
-    let a = (s c).args in
+    let a = c.args in
     held c.count_by.result c.count_by.type_inv ∙ c.count_by.ensures ∙ (λ i. count_by (means.held i) (factor i) a.n a.k)
 
 pub overflow_mul-mean : goal.overflow_mul-mean
 overflow_mul-mean c =
     let size : c.magnitude.result ≡ nat_abs c.args.mean = c.magnitude.ensures ∙ ap nat_abs (is-back c.ranges.mean) in
-    let means : Num = mul (lit 100 tt) (arg c.args.mean 16384 (omega (arith, size, c.if-magnitude-gt16384.left)) tt) tt in
+    let means : Num = mul (lit 100 tt) (arg c.args.mean 16384 (omega (arith, size, c.if-magnitude-gt16384.false)) tt) tt in
     fits means

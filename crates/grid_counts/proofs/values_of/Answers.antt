@@ -6,7 +6,7 @@ use Rattle.arith.proofs.Back.{held}
 use Rattle.grid_counts.proofs.values_of.Goals as goal
 
 pub returns : goal.returns
-returns c = record {
+returns c = λ i. record {
   sw = (held c.value_in.result c.value_in.type_inv ∙ c.value_in.ensures) i;
   se = (held c.value_in-2.result c.value_in-2.type_inv ∙ c.value_in-2.ensures) i;
   nw = (held c.value_in-3.result c.value_in-3.type_inv ∙ c.value_in-3.ensures) i;
