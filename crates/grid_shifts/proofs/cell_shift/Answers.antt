@@ -3,7 +3,7 @@
 use mathlib.Core.Path.{◌≡◌, sym, ap, ◌∙◌, subst}
 use Prim.Native.Nat.{◌≤◌}
 use native.Mathlib.Nat.{le_trans}
-use borrow.Author.Rules.{rules}
+use native.Mathlib.Omega.{arith}
 use lib.Dec.{lit≤}
 use lib.IntN.{ℤ, nat_abs}
 use mir.Syntax.{w64}
@@ -31,7 +31,7 @@ pub answer_of-requires : goal.answer_of-requires
 answer_of-requires c = let r : Counted = cell_count c.args.number c.args.component c.args.mean c.args.n c.args.k in
     let is : c.cell_count-c.result ≡ r = c.cell_count-c.ensures ∙ ap (λ (z : ℤ). cell_count z c.args.component c.args.mean c.args.n c.args.k) (is-back c.ranges.number) in
     let count : to_z w64 (of_z w64 c.cell_count-c.result.count) ≡ r.count = held c.cell_count-c.result.count (omega arith) ∙ ap (λ (o : Counted). o.count) is in
-    let a = (s c).args in
+    let a = c.args in
     subst (λ (z : ℤ). nat_abs z ≤ 9007199254740992) (sym count)
     (le_trans (cell-most a.number a.component a.mean a.n a.k) (lit≤ tt))
 
@@ -39,13 +39,12 @@ pub returns : goal.returns
 unfolding cell_shift outcome
 returns c = let r : Counted = cell_count c.args.number c.args.component c.args.mean c.args.n c.args.k in
     let is : c.cell_count-c.result ≡ r = c.cell_count-c.ensures ∙ ap (λ (z : ℤ). cell_count z c.args.component c.args.mean c.args.n c.args.k) (is-back c.ranges.number) in
-    let none : r.refusal ≡ 0 = sym (ap (λ (o : Counted). o.refusal) is) ∙ c.if-c-ne0.left in
+    let none : r.refusal ≡ 0 = sym (ap (λ (o : Counted). o.refusal) is) ∙ c.if-c-ne0.false in
     let count : to_z w64 (of_z w64 c.cell_count-c.result.count) ≡ r.count = held c.cell_count-c.result.count (omega arith) ∙ ap (λ (o : Counted). o.count) is in
-    let s = s c in
-    let a = s.args in
+    let a = c.args in
     (λ i. record {
       refusal = 0;
       count = (held c.cell_count-c.result.count (omega arith) ∙ ap (λ (o : Counted). o.count) is) i;
-      answer = (c.answer_of.ensures ∙ (λ i. answer_of (is-back s.fits.number i) a.component 0 (count i))) i;
+      answer = (c.answer_of.ensures ∙ (λ i. answer_of (is-back c.ranges.number i) a.component 0 (count i))) i;
     })
     ∙ (λ i. outcome a.number a.component (sym none i) r.count)

@@ -15,12 +15,13 @@ use Rattle.record_grids.specs.declared.Settings.{Settings}
 use Rattle.record_grids.specs.declared.Grid.{Grid}
 use Rattle.record_grids.specs.declared.Shifts.{Shifts}
 use Rattle.record_grids.specs.Grids.{grid_of, settings_of, shifts_at}
-use Rattle.grid_fields.specs.Inner.{mean_says, cell_says, cells_say}
+use Rattle.grid_fields.specs.Inner.{grid_says, mean_says, cell_says, cells_say}
 use Rattle.grid_fields.proofs.Says.{grid-long}
 use Rattle.grid_fields.specs.declared.Nodes.{Nodes}
 use Rattle.grid_fields.specs.declared.Cells.{Cells}
 use Rattle.message_rows.specs.Message.{row, kind_refusal}
 use Rattle.grid_cell.specs.declared.Weights.{Weights}
+use Rattle.grid_cell.specs.Inner.{weights_in}
 use Rattle.grid_place.specs.Inner.{held_two_places}
 use Rattle.grid_place.specs.declared.Located.{Located}
 use Rattle.grid_shifts.specs.Shift.{shift_with, three_of, message_shift, message_shifts}
@@ -52,82 +53,64 @@ returns-then-message-lt71 c = let m : List ℕ = c.args.message.now in
     let h = sym c.check_kind-refusal.ensures ∙ c.if-refusal-ne0.false in
     absurd (omega (arith, grid-long m h, c.if-message-lt71.true))
 
--- a grid message: its settings and the sides of the position
-module _ (q : tie.After-means-at) where
-  abbrev l : tie.After-locate-both
-  l = q.before.before.before.before
+-- one part
+module _ (s : List ℕ) (n e : ℤ) (none : kind_refusal 1023 1024 s ≡ 0) where
+  abbrev g : Grid
+  g = grid_of (says (row s))
 
-  abbrev s : tie.Start
-  s = l.before.before.before.before.before.before.before
-
-  none : kind_refusal 1023 1024 (m s) ≡ 0
-  none = sym l.before.before.before.before.before.check-kind.ensures ∙ l.before.before.before.before.if1.left
-
-  fields : Held (g s)
-  fields = message-fields (m s) 0 (n s) (e s) none
-
-  settings : l.before.before.settings-at.result ≡ settings_of (g s)
-  settings = l.before.before.settings-at.ensures ∙ settings-said (m s) none
-
-  number : to_z w64 (of_z w64 l.before.before.settings-at.result.number) ≡ (g s).number
-  number = held l.before.before.settings-at.result.number l.before.struct_told.given.0.1 ∙ ap (λ (f : Settings). f.number) settings
-
-  sides : l.locate-both.result ≡ held_two_places (settings_of (g s)) (n s) (e s)
-  sides = l.locate-both.ensures ∙ (λ i. held_two_places (settings i) (is-back s.fits.north i) (is-back s.fits.east i))
-
-  abbrev t : Located
-  t = l.locate-both.result.place
-
-  abbrev ws : Weights
-  ws = q.before.before.weights-in.result
-
-  -- one part
-  module _ (c r : ℕ) (d : Side (g s) c (n s) (e s) r t) {mean : Reading} {w : Nodes} (a : mean ≡ mean_says (m s) c) (b : w ≡ cell_says (m s) c t.row t.column) where
-    said : r ≡ 0 → w ≡ nodes_in (g s).nodes c t.row t.column
+  module _
+      (c r : ℕ)
+      {t : Located}
+      (d : Side g c n e r t)
+      {mean : Reading}
+      {w : Nodes}
+      {ws : Weights}
+      (a : mean ≡ mean_says s c)
+      (b : w ≡ cell_says s c t.row t.column)
+      (k : ws ≡ weights_in t.height t.width t.north t.east) where
+    said : r ≡ 0 → w ≡ nodes_in g.nodes c t.row t.column
     said z =
-        let i = call-cell (g s) c (n s) (e s) fields d.refusal d.place z in
-        nodes-said (m s) none c t.row t.column i.0 i.1 b
+        let i = call-cell g c n e (message-fields s 0 n e none) d.refusal d.place z in
+        nodes-said s none c t.row t.column i.0 i.1 b
 
-    gives : {x : Shift} → x ≡ part_shift (to_z w64 (of_z w64 l.before.before.settings-at.result.number)) c r mean w ws → x ≡ message_shift (m s) c (n s) (e s)
+    gives : {x : Shift} {z : ℤ} → x ≡ part_shift z c r mean w ws → z ≡ g.number → x ≡ message_shift s c n e
     unfolding message_shift
-    gives h =
-        call-part (g s) c (n s) (e s) fields d.refusal d.place (a ∙ mean-said (m s) none c) said
-        q.before.before.weights-in.ensures h number
-        ∙ ap (shift_with (g s) c (n s) (e s)) (message-passed (m s) c (n s) (e s) none)
+    gives h number =
+        call-part g c n e (message-fields s 0 n e none) d.refusal d.place (a ∙ mean-said s none c) said
+        k h number
+        ∙ ap (shift_with g c n e) (message-passed s c n e none)
 
-  north : Side (g s) 0 (n s) (e s) l.locate-both.result.horizontal t
-  north = north-side (g s) (n s) (e s) fields sides
-
-  east : Side (g s) 1 (n s) (e s) l.locate-both.result.horizontal t
-  east = east-side (g s) (n s) (e s) fields sides
-
-  height : Side (g s) 2 (n s) (e s) l.locate-both.result.vertical t
-  height = height-side (g s) (n s) (e s) fields sides
-
-  -- what is read of each component
-  mean-north : q.means-at.result.north ≡ mean_says (m s) 0
+-- what is read of each component
+module _ (s : List ℕ) {m : Shifts} (h : m ≡ shifts_at (grid_says s) 8) where
+  mean-north : m.north ≡ mean_says s 0
   unfolding shifts_at mean_says
-  mean-north = ap (λ (x : Shifts). x.north) q.means-at.ensures
+  mean-north = ap (λ (x : Shifts). x.north) h
 
-  mean-east : q.means-at.result.east ≡ mean_says (m s) 1
+  mean-east : m.east ≡ mean_says s 1
   unfolding shifts_at mean_says
-  mean-east = ap (λ (x : Shifts). x.east) q.means-at.ensures
+  mean-east = ap (λ (x : Shifts). x.east) h
 
-  mean-height : q.means-at.result.height ≡ mean_says (m s) 2
+  mean-height : m.height ≡ mean_says s 2
   unfolding shifts_at mean_says
-  mean-height = ap (λ (x : Shifts). x.height) q.means-at.ensures
-
-  nodes-of : (f : Cells → Nodes) → f q.before.cells_at.result ≡ f (cells_say (m s) t.row t.column)
-  nodes-of f = ap f q.before.cells_at.ensures
+  mean-height = ap (λ (x : Shifts). x.height) h
 
 pub returns : goal.returns
 unfolding message_shifts
-returns c = c.three_of.ensures
+returns c = let m : List ℕ = c.args.message.now in
+    let n : ℤ = c.args.north in
+    let e : ℤ = c.args.east in
+    let none : kind_refusal 1023 1024 m ≡ 0 = sym c.check_kind-refusal.ensures ∙ c.if-refusal-ne0.false in
+    let fields : Held (g m n e none) = message-fields m 0 n e none in
+    let settings : c.settings_at-f.result ≡ settings_of (g m n e none) = c.settings_at-f.ensures ∙ settings-said m none in
+    let number : to_z w64 (of_z w64 c.settings_at-f.result.number) ≡ (g m n e none).number = held c.settings_at-f.result.number (omega arith) ∙ ap (λ (f : Settings). f.number) settings in
+    let sides : c.locate_both-p.result ≡ held_two_places (settings_of (g m n e none)) n e = c.locate_both-p.ensures ∙ (λ i. held_two_places (settings i) (is-back c.ranges.north i) (is-back c.ranges.east i)) in
+    let nodes-of : (f : Cells → Nodes) → f c.cells_at-n.result ≡ f (cells_say m c.locate_both-p.result.place.row c.locate_both-p.result.place.column) = λ f. ap f c.cells_at-n.ensures in
+    c.three_of.ensures
     ∙ (λ i.
     three_of
-    (gives c 0 _ (north c) (mean-north c) (nodes-of c (λ x. x.north)) c.part_shift.ensures i)
-    (gives c 1 _ (east c) (mean-east c) (nodes-of c (λ x. x.east)) c.part_shift-2.ensures i)
-    (gives c 2 _ (height c) (mean-height c) (nodes-of c (λ x. x.height)) c.part_shift-3.ensures i))
+    (gives m n e none 0 _ (north-side (g m n e none) n e fields sides) (mean-north m c.means_at-m.ensures) (nodes-of (λ x. x.north)) c.weights_in-k.ensures c.part_shift.ensures number i)
+    (gives m n e none 1 _ (east-side (g m n e none) n e fields sides) (mean-east m c.means_at-m.ensures) (nodes-of (λ x. x.east)) c.weights_in-k.ensures c.part_shift-2.ensures number i)
+    (gives m n e none 2 _ (height-side (g m n e none) n e fields sides) (mean-height m c.means_at-m.ensures) (nodes-of (λ x. x.height)) c.weights_in-k.ensures c.part_shift-3.ensures number i))
 
 pub check_kind-refusal-requires : goal.check_kind-refusal-requires
 check_kind-refusal-requires c = tt

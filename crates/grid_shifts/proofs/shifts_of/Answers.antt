@@ -17,6 +17,7 @@ use Rattle.record_grids.specs.Grids.{settings_of}
 use Rattle.grid_fields.specs.declared.Nodes.{Nodes}
 use Rattle.message_records.specs.Kinds.{grid_held}
 use Rattle.grid_cell.specs.declared.Weights.{Weights}
+use Rattle.grid_cell.specs.Inner.{weights_in}
 use Rattle.grid_place.specs.Inner.{held_two_places}
 use Rattle.grid_place.specs.declared.Located.{Located}
 use Rattle.grid_shifts.specs.Shift.{part, shift_with, three_of, record_shift}
@@ -44,7 +45,7 @@ pub nodes_of-a-requires : goal.nodes_of-a-requires
 nodes_of-a-requires c = let g : Grid = c.args.grid in
     let n : ℤ = c.args.north in
     let e : ℤ = c.args.east in
-    let holds : grid_held g ≡ true = sym c.grid_held.ensures ∙ not-false _ c.if-not-grid_held.left in
+    let holds : grid_held g ≡ true = sym c.grid_held.ensures ∙ c.if-not-grid_held.false in
     let fields : Held g = record-fields g holds in
     let settings : c.settings_of-settings.result ≡ settings_of g = c.settings_of-settings.ensures in
     let sides : c.locate_both-p.result ≡ held_two_places (settings_of g) n e = c.locate_both-p.ensures ∙ (λ i. held_two_places (settings i) (is-back c.ranges.north i) (is-back c.ranges.east i)) in
@@ -54,7 +55,7 @@ pub nodes_of-b-requires : goal.nodes_of-b-requires
 nodes_of-b-requires c = let g : Grid = c.args.grid in
     let n : ℤ = c.args.north in
     let e : ℤ = c.args.east in
-    let holds : grid_held g ≡ true = sym c.grid_held.ensures ∙ not-false _ c.if-not-grid_held.left in
+    let holds : grid_held g ≡ true = sym c.grid_held.ensures ∙ c.if-not-grid_held.false in
     let fields : Held g = record-fields g holds in
     let settings : c.settings_of-settings.result ≡ settings_of g = c.settings_of-settings.ensures in
     let sides : c.locate_both-p.result ≡ held_two_places (settings_of g) n e = c.locate_both-p.ensures ∙ (λ i. held_two_places (settings i) (is-back c.ranges.north i) (is-back c.ranges.east i)) in
@@ -64,47 +65,46 @@ pub nodes_of-c-requires : goal.nodes_of-c-requires
 nodes_of-c-requires c = let g : Grid = c.args.grid in
     let n : ℤ = c.args.north in
     let e : ℤ = c.args.east in
-    let holds : grid_held g ≡ true = sym c.grid_held.ensures ∙ not-false _ c.if-not-grid_held.left in
+    let holds : grid_held g ≡ true = sym c.grid_held.ensures ∙ c.if-not-grid_held.false in
     let fields : Held g = record-fields g holds in
     let settings : c.settings_of-settings.result ≡ settings_of g = c.settings_of-settings.ensures in
     let sides : c.locate_both-p.result ≡ held_two_places (settings_of g) n e = c.locate_both-p.ensures ∙ (λ i. held_two_places (settings i) (is-back c.ranges.north i) (is-back c.ranges.east i)) in
     some-cell g n e fields sides
 
-module _ (q : tie.After-nodes-of3) where
-  abbrev l : tie.After-locate-both
-  l = q.before.before.before.before.before.before
-
-  abbrev b : tie.Start
-  b = s l
-
-  abbrev ws : Weights
-  ws = q.before.before.before.before.weights-in.result
-
-  -- one part
-  module _ (c r : ℕ) (d : Side (g b) c (n b) (e b) r (t l)) {mean : Reading} {w : Nodes} (a : mean ≡ part c (g b).mean) (h : w ≡ nodes_in (g b).nodes c (t l).row (t l).column) where
-    gives : {x : Shift} → x ≡ part_shift (to_z w64 (of_z w64 l.before.before.settings-of.result.number)) c r mean w ws → x ≡ record_shift (g b) c (n b) (e b)
+-- one part
+module _ (g : Grid) (n e : ℤ) (holds : grid_held g ≡ true) where
+  module _
+      (c r : ℕ)
+      {t : Located}
+      (d : Side g c n e r t)
+      {mean : Reading}
+      {w : Nodes}
+      {ws : Weights}
+      (a : mean ≡ part c g.mean)
+      (h : w ≡ nodes_in g.nodes c t.row t.column)
+      (k : ws ≡ weights_in t.height t.width t.north t.east) where
+    gives : {x : Shift} {z : ℤ} → x ≡ part_shift z c r mean w ws → z ≡ g.number → x ≡ record_shift g c n e
     unfolding record_shift
-    gives k =
-        call-part (g b) c (n b) (e b) (fields l) d.refusal d.place a (λ _. h) q.before.before.before.before.weights-in.ensures k (number l)
-        ∙ ap (shift_with (g b) c (n b) (e b)) (record-passed (g b) c (n b) (e b) (holds l))
-
-  north : Side (g b) 0 (n b) (e b) l.locate-both.result.horizontal (t l)
-  north = north-side (g b) (n b) (e b) (fields l) (sides l)
-
-  east : Side (g b) 1 (n b) (e b) l.locate-both.result.horizontal (t l)
-  east = east-side (g b) (n b) (e b) (fields l) (sides l)
-
-  height : Side (g b) 2 (n b) (e b) l.locate-both.result.vertical (t l)
-  height = height-side (g b) (n b) (e b) (fields l) (sides l)
+    gives q number =
+        call-part g c n e (record-fields g holds) d.refusal d.place a (λ _. h) k q number
+        ∙ ap (shift_with g c n e) (record-passed g c n e holds)
 
 pub returns : goal.returns
 unfolding record_shifts
-returns c = c.three_of.ensures
+returns c = let g : Grid = c.args.grid in
+    let n : ℤ = c.args.north in
+    let e : ℤ = c.args.east in
+    let holds : grid_held g ≡ true = sym c.grid_held.ensures ∙ c.if-not-grid_held.false in
+    let fields : Held g = record-fields g holds in
+    let settings : c.settings_of-settings.result ≡ settings_of g = c.settings_of-settings.ensures in
+    let number : to_z w64 (of_z w64 c.settings_of-settings.result.number) ≡ g.number = held c.settings_of-settings.result.number (omega arith) ∙ ap (λ (f : Settings). f.number) settings in
+    let sides : c.locate_both-p.result ≡ held_two_places (settings_of g) n e = c.locate_both-p.ensures ∙ (λ i. held_two_places (settings i) (is-back c.ranges.north i) (is-back c.ranges.east i)) in
+    c.three_of.ensures
     ∙ (λ i.
     three_of
-    (gives c 0 _ (north c) c.part_of.ensures c.nodes_of-a.ensures c.part_shift.ensures i)
-    (gives c 1 _ (east c) c.part_of-2.ensures c.nodes_of-b.ensures c.part_shift-2.ensures i)
-    (gives c 2 _ (height c) c.part_of-3.ensures c.nodes_of-c.ensures c.part_shift-3.ensures i))
+    (gives g n e holds 0 _ (north-side g n e fields sides) c.part_of.ensures c.nodes_of-a.ensures c.weights_in-k.ensures c.part_shift.ensures number i)
+    (gives g n e holds 1 _ (east-side g n e fields sides) c.part_of-2.ensures c.nodes_of-b.ensures c.weights_in-k.ensures c.part_shift-2.ensures number i)
+    (gives g n e holds 2 _ (height-side g n e fields sides) c.part_of-3.ensures c.nodes_of-c.ensures c.weights_in-k.ensures c.part_shift-3.ensures number i))
 
 pub grid_held-requires : goal.grid_held-requires
 grid_held-requires c = tt
