@@ -22,18 +22,18 @@ returns-then-kept-ne0 c = c.refused.ensures ∙ rw (ne_eqb _ 0 c.if-kept-ne0.tru
 pub returns-then-p-ne0 : goal.returns-then-p-ne0
 unfolding counted_by
 returns-then-p-ne0 c = let p : Located = held_place c.args.kept.settings c.args.component c.args.north c.args.east in
-    let kept : c.args.kept.refusal ≡ 0 = c.if-kept-ne0.left in
+    let kept : c.args.kept.refusal ≡ 0 = c.if-kept-ne0.false in
     let place : c.locate-p.result ≡ p = c.locate-p.ensures ∙ (λ i. held_place c.args.kept.settings c.args.component (is-back c.ranges.north i) (is-back c.ranges.east i)) in
     let o : p.refusal ≡ 0 → ⊥ = λ z. c.if-p-ne0.true (ap (λ (q : Located). q.refusal) place ∙ z) in
     c.refused-then-p-ne0.ensures ∙ rw (eq-eqb _ 0 kept, ne_eqb p.refusal 0 o, ← place)
 
 pub returns : goal.returns
 unfolding counted_by
-returns c = let m : List ℕ = c.args.message.now in
-    let mean : c.mean_at-mean.result ≡ mean_says m c.args.component = c.mean_at-mean.ensures in
-    let k = k c in
-    let a = (s k).args in
-    let none : (p k).refusal ≡ 0 = sym (ap (λ (q : Located). q.refusal) (place k)) ∙ c.if-p-ne0.false in
+returns c = let a = c.args in
+    let p : Located = held_place a.kept.settings a.component a.north a.east in
+    let kept : a.kept.refusal ≡ 0 = c.if-kept-ne0.false in
+    let place : c.locate-p.result ≡ p = c.locate-p.ensures ∙ (λ i. held_place a.kept.settings a.component (is-back c.ranges.north i) (is-back c.ranges.east i)) in
+    let none : p.refusal ≡ 0 = sym (ap (λ (q : Located). q.refusal) place) ∙ c.if-p-ne0.false in
     c.cell_count.ensures
-    ∙ rw (eq-eqb _ 0 (kept k), eq-eqb (p k).refusal 0 none, ← place k)
-    (λ i. cell_count (held a.kept.settings.number (omega arith) i) a.component (mean i) (c.nodes_of-n.ensures i) (c.weights_in-k.ensures i))
+    ∙ rw (eq-eqb _ 0 kept, eq-eqb p.refusal 0 none, ← place)
+    (λ i. cell_count (held a.kept.settings.number (omega arith) i) a.component (c.mean_at-mean.ensures i) (c.nodes_of-n.ensures i) (c.weights_in-k.ensures i))

@@ -6,4 +6,4 @@ use Rattle.grid_component.proofs.keep.Goals as goal
 
 pub returns : goal.returns
 unfolding kept_of
-returns c = record { refusal = c.check_kind.ensures i; settings = c.settings_at.ensures i }
+returns c = λ i. record { refusal = c.check_kind.ensures i; settings = c.settings_at.ensures i }

@@ -21,11 +21,11 @@ two-more (suc zero) o i = absurd (i refl)
 two-more (suc (suc c)) o i = omega arith
 
 pub returns-then-component-eq0 : goal.returns-then-component-eq0
-returns-then-component-eq0 c = let says : ℕ → Nodes = λ c. let a = c.args in cell_says a.message.now c a.row a.column in
+returns-then-component-eq0 c = let says : ℕ → Nodes = λ k. cell_says c.args.message.now k c.args.row c.args.column in
     ap (λ (n : Cells). n.north) c.cells_at-n.ensures ∙ ap says (sym c.if-component-eq0.true)
 
 pub returns-then-component-eq1 : goal.returns-then-component-eq1
-returns-then-component-eq1 c = let says : ℕ → Nodes = λ c. let a = c.args in cell_says a.message.now c a.row a.column in
+returns-then-component-eq1 c = let says : ℕ → Nodes = λ k. cell_says c.args.message.now k c.args.row c.args.column in
     ap (λ (n : Cells). n.east) c.cells_at-n.ensures ∙ ap says (sym c.if-component-eq1.true)
 
 pub returns : goal.returns

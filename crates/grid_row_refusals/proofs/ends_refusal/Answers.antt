@@ -51,21 +51,19 @@ returns c = let first : Bool = beyond c.args.number c.args.north c.args.east in
     (c.position_refusal.ensures
     ∙ (λ i. cond (ltb 2 c.args.component) 8 (cond (beyond (is-back c.ranges.number i) (is-back c.ranges.north i) (is-back c.ranges.east i)) 9 0))) in
     let fine : first ≡ false = no_nine first known c.if-position_refusal-ne0.false in
-    let z : tie.Start = c in
-    let small : nat_abs z c.args.step ≤ 2000000000000 = abs-most z c.pre.3 (not-less (lit 2000000000000 tt) (any z c.args.step z c.fits.step) c.if-step-gt2000000000000.false) in
-    let way : Num = mul (cast (z c.args.count - 1) 4095 (omega (arith, z c.pre.2)) tt) (arg z c.args.step 2000000000000 small tt) tt in
-    let last : Num = add (arg z c.args.east 1000000000000 (near-most z c.args.number z c.args.north z c.args.east fine) tt) way tt in
-    let s = z in
-    let a = s.args in
-    nine (beyond a.number a.north last.z) s.pre.0
+    let small : nat_abs c.args.step ≤ 2000000000000 = abs-most c.requires.3 (not-less (lit 2000000000000 tt) (any c.args.step c.ranges.step) c.if-step-gt2000000000000.false) in
+    let way : Num = mul (cast (c.args.count - 1) 4095 (omega (arith, c.requires.2)) tt) (arg c.args.step 2000000000000 small tt) tt in
+    let last : Num = add (arg c.args.east 1000000000000 (near-most c.args.number c.args.north c.args.east fine) tt) way tt in
+    let a = c.args in
+    nine (beyond a.number a.north last.z) c.requires.0
     (c.position_refusal-2.ensures
-    ∙ (λ i. cond (ltb 2 a.component) 8 (cond (beyond (is-back s.fits.number i) (is-back s.fits.north i) (last.held i)) 9 0)))
-    ∙ ap (λ (t : Bool). cond t 9 0) (sym (last-tells a.number a.north a.east a.step a.count s.pre.3 s.pre.1 fine))
+    ∙ (λ i. cond (ltb 2 a.component) 8 (cond (beyond (is-back c.ranges.number i) (is-back c.ranges.north i) (last.held i)) 9 0)))
+    ∙ ap (λ (t : Bool). cond t 9 0) (sym (last-tells a.number a.north a.east a.step a.count c.requires.3 c.requires.1 fine))
 
 pub overflow_mul-last : goal.overflow_mul-last
 overflow_mul-last c =
-    let small : nat_abs z c.args.step ≤ 2000000000000 = abs-most z c.pre.3 (not-less (lit 2000000000000 tt) (any z c.args.step z c.fits.step) c.if-step-gt2000000000000.false) in
-    let way : Num = mul (cast (z c.args.count - 1) 4095 (omega (arith, z c.pre.2)) tt) (arg z c.args.step 2000000000000 small tt) tt in
+    let small : nat_abs c.args.step ≤ 2000000000000 = abs-most c.requires.3 (not-less (lit 2000000000000 tt) (any c.args.step c.ranges.step) c.if-step-gt2000000000000.false) in
+    let way : Num = mul (cast (c.args.count - 1) 4095 (omega (arith, c.requires.2)) tt) (arg c.args.step 2000000000000 small tt) tt in
     fits way
 
 pub overflow_add-last : goal.overflow_add-last
@@ -75,7 +73,7 @@ overflow_add-last c =
     (c.position_refusal.ensures
     ∙ (λ i. cond (ltb 2 c.args.component) 8 (cond (beyond (is-back c.ranges.number i) (is-back c.ranges.north i) (is-back c.ranges.east i)) 9 0))) in
     let fine : first ≡ false = no_nine first known c.if-position_refusal-ne0.false in
-    let small : nat_abs z c.args.step ≤ 2000000000000 = abs-most z c.pre.3 (not-less (lit 2000000000000 tt) (any z c.args.step z c.fits.step) c.if-step-gt2000000000000.false) in
-    let way : Num = mul (cast (z c.args.count - 1) 4095 (omega (arith, z c.pre.2)) tt) (arg z c.args.step 2000000000000 small tt) tt in
-    let last : Num = add (arg z c.args.east 1000000000000 (near-most z c.args.number z c.args.north z c.args.east fine) tt) way tt in
+    let small : nat_abs c.args.step ≤ 2000000000000 = abs-most c.requires.3 (not-less (lit 2000000000000 tt) (any c.args.step c.ranges.step) c.if-step-gt2000000000000.false) in
+    let way : Num = mul (cast (c.args.count - 1) 4095 (omega (arith, c.requires.2)) tt) (arg c.args.step 2000000000000 small tt) tt in
+    let last : Num = add (arg c.args.east 1000000000000 (near-most c.args.number c.args.north c.args.east fine) tt) way tt in
     fits last

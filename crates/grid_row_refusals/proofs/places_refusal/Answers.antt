@@ -20,7 +20,7 @@ returns-then-r-ne0 c = let n : ℤ = to_z w64 (of_z w64 c.args.north) in
     let e : ℤ = to_z w64 (of_z w64 c.args.east) in
     let i : ℕ = c.loop-i.i in
     let looked : Looked c.args.message.now c.args.component n e c.args.step i (c.args.count - i) c.look_from-r.result = c.look_from-r.ensures in
-    let inside : i + c.look_from-r.result.places ≤ c.args.count = omega (arith, looked c.most, c.loop-i-test.taken) in
+    let inside : i + c.look_from-r.result.places ≤ c.args.count = omega (arith, looked.most, c.loop-i-test.true) in
     let a = c.args in
     stops-there a.message.now a.component n e (pos a.step) i c.look_from-r.result.places a.count c.loop-i.invariant.1
     looked.refusal c.if-r-ne0.true inside
@@ -31,7 +31,7 @@ loop-i-preserved c = let n : ℤ = to_z w64 (of_z w64 c.args.north) in
     let e : ℤ = to_z w64 (of_z w64 c.args.east) in
     let i : ℕ = c.loop-i.i in
     let looked : Looked c.args.message.now c.args.component n e c.args.step i (c.args.count - i) c.look_from-r.result = c.look_from-r.ensures in
-    let inside : i + c.look_from-r.result.places ≤ c.args.count = omega (arith, looked c.most, c.loop-i-test.taken) in
+    let inside : i + c.look_from-r.result.places ≤ c.args.count = omega (arith, looked.most, c.loop-i-test.true) in
     let a = c.args in (
       inside,
       passes_on a.message.now a.component n e (pos a.step) i c.look_from-r.result.places c.loop-i.invariant.1
@@ -55,8 +55,11 @@ look_from-r-requires c =
 
 pub overflow_add-i : goal.overflow_add-i
 overflow_add-i c =
+    let n : ℤ = to_z w64 (of_z w64 c.args.north) in
+    let e : ℤ = to_z w64 (of_z w64 c.args.east) in
     let i : ℕ = c.loop-i.i in
-    let inside : i + c.look_from-r.result.places ≤ c.args.count = omega (arith, looked c.most, c.loop-i-test.taken) in
+    let looked : Looked c.args.message.now c.args.component n e c.args.step i (c.args.count - i) c.look_from-r.result = c.look_from-r.ensures in
+    let inside : i + c.look_from-r.result.places ≤ c.args.count = omega (arith, looked.most, c.loop-i-test.true) in
     omega (arith, inside, c.requires.most)
 
 pub loop-i-smaller : goal.loop-i-smaller
@@ -65,5 +68,5 @@ loop-i-smaller c =
     let e : ℤ = to_z w64 (of_z w64 c.args.east) in
     let i : ℕ = c.loop-i.i in
     let looked : Looked c.args.message.now c.args.component n e c.args.step i (c.args.count - i) c.look_from-r.result = c.look_from-r.ensures in
-    let inside : i + c.look_from-r.result.places ≤ c.args.count = omega (arith, looked c.most, c.loop-i-test.taken) in
+    let inside : i + c.look_from-r.result.places ≤ c.args.count = omega (arith, looked.most, c.loop-i-test.true) in
     omega (arith, inside, looked.some)

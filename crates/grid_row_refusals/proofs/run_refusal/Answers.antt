@@ -25,27 +25,24 @@ returns-then-places-lt2 c = let first : (b : Bool) → c.cell_lacks.result ≡ b
     rw (one_has a.mean a.n a.h a.w a.y a.x a.step a.places c.if-places-lt2.true (first _ c.if-cell_lacks.false))
 
 pub returns-then-cell_lacks-2 : goal.returns-then-cell_lacks-2
-returns-then-cell_lacks-2 c = let z : tie.Start = s c in
-    let second : z c.args.x + z c.args.step ≤ z c.args.w = let m : 1 * z c.args.step ≤ (z c.args.places - 1) * z c.args.step = mul-le-mul_right z c.args.step (omega (arith, c.if-places-lt2.false)) in
-    omega (arith, z c.pre.2) in
-    let inside : Within z c.args.h z c.args.w z c.args.y (z c.args.x + z c.args.step) = let p = z c.pre.0 in record { north = p.north; east = second; high = p.high; wide = p.wide } in
-    let next : (t : Bool) → c.cell_lacks-2.result ≡ t → lacking_at z.args.mean z.args.n z.args.h z.args.w z.args.y (z.args.x + z.args.step) ≡ t = λ _ e. sym (c.cell_lacks-2.ensures ∙ ap (lacking z.args.mean z.args.n) (c.weights_in-2.ensures ∙ weights-in-is inside)) ∙ e in
-    let a = z.args in
+returns-then-cell_lacks-2 c = let second : c.args.x + c.args.step ≤ c.args.w = let m : 1 * c.args.step ≤ (c.args.places - 1) * c.args.step = mul-le-mul_right c.args.step (omega (arith, c.if-places-lt2.false)) in
+    omega (arith, c.requires.2) in
+    let inside : Within c.args.h c.args.w c.args.y (c.args.x + c.args.step) = let p = c.requires.0 in record { north = p.north; east = second; high = p.high; wide = p.wide } in
+    let next : (t : Bool) → c.cell_lacks-2.result ≡ t → lacking_at c.args.mean c.args.n c.args.h c.args.w c.args.y (c.args.x + c.args.step) ≡ t = λ _ e. sym (c.cell_lacks-2.ensures ∙ ap (lacking c.args.mean c.args.n) (c.weights_in-2.ensures ∙ weights-in-is inside)) ∙ e in
+    let a = c.args in
     rw (second-lacks a.mean a.n a.h a.w a.y a.x a.step a.places c.if-places-lt2.false (next _ c.if-cell_lacks-2.true))
 
 pub returns : goal.returns
-returns c = let z : tie.Start = s c in
-    let second : z c.args.x + z c.args.step ≤ z c.args.w = let m : 1 * z c.args.step ≤ (z c.args.places - 1) * z c.args.step = mul-le-mul_right z c.args.step (omega (arith, c.if-places-lt2.false)) in
-    omega (arith, z c.pre.2) in
-    let inside : Within z c.args.h z c.args.w z c.args.y (z c.args.x + z c.args.step) = let p = z c.pre.0 in record { north = p.north; east = second; high = p.high; wide = p.wide } in
-    let next : (t : Bool) → c.cell_lacks-2.result ≡ t → lacking_at z.args.mean z.args.n z.args.h z.args.w z.args.y (z.args.x + z.args.step) ≡ t = λ _ e. sym (c.cell_lacks-2.ensures ∙ ap (lacking z.args.mean z.args.n) (c.weights_in-2.ensures ∙ weights-in-is inside)) ∙ e in
-    let d = b c in
-    let a = (z d).args in
-    rw (two-have a.mean a.n a.h a.w a.y a.x a.step a.places (z d).pre.2 (first d.before.before d.before.if1.left) (next _ c.if-cell_lacks-2.false))
+returns c = let second : c.args.x + c.args.step ≤ c.args.w = let m : 1 * c.args.step ≤ (c.args.places - 1) * c.args.step = mul-le-mul_right c.args.step (omega (arith, c.if-places-lt2.false)) in
+    omega (arith, c.requires.2) in
+    let inside : Within c.args.h c.args.w c.args.y (c.args.x + c.args.step) = let p = c.requires.0 in record { north = p.north; east = second; high = p.high; wide = p.wide } in
+    let next : (t : Bool) → c.cell_lacks-2.result ≡ t → lacking_at c.args.mean c.args.n c.args.h c.args.w c.args.y (c.args.x + c.args.step) ≡ t = λ _ e. sym (c.cell_lacks-2.ensures ∙ ap (lacking c.args.mean c.args.n) (c.weights_in-2.ensures ∙ weights-in-is inside)) ∙ e in
+    let first : (b : Bool) → c.cell_lacks.result ≡ b → lacking_at c.args.mean c.args.n c.args.h c.args.w c.args.y c.args.x ≡ b = λ _ e. sym (c.cell_lacks.ensures ∙ ap (lacking c.args.mean c.args.n) (c.weights_in.ensures ∙ weights-in-is c.requires.0)) ∙ e in
+    let a = c.args in
+    rw (two-have a.mean a.n a.h a.w a.y a.x a.step a.places c.requires.2 (first _ c.if-cell_lacks.false) (next _ c.if-cell_lacks-2.false))
 
 pub overflow_add-x : goal.overflow_add-x
 overflow_add-x c =
-    let z : tie.Start = s c in
-    let second : z c.args.x + z c.args.step ≤ z c.args.w = let m : 1 * z c.args.step ≤ (z c.args.places - 1) * z c.args.step = mul-le-mul_right z c.args.step (omega (arith, c.if-places-lt2.false)) in
-    omega (arith, z c.pre.2) in
-    omega (arith, second, z.requires.0.wide.1)
+    let second : c.args.x + c.args.step ≤ c.args.w = let m : 1 * c.args.step ≤ (c.args.places - 1) * c.args.step = mul-le-mul_right c.args.step (omega (arith, c.if-places-lt2.false)) in
+    omega (arith, c.requires.2) in
+    omega (arith, second, c.requires.0.wide.1)
