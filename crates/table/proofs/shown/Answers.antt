@@ -40,5 +40,5 @@ returns c = let t = c.args.table.now in
     record {
       bytes = ap (λ k. take k (drop f.at t)) (z ∙ e.size) ∙ ap (λ k. take (found_length t o s g) (drop k t)) e.start;
       block = refl;
-      offset = ap (λ k. k + c.args.table.ptr.1) e.start;
+      offset = ap (λ k. k + c.args.table.ref_ptr.1) e.start;
     }

@@ -36,7 +36,7 @@ unfolding probed
 returns-then-not-p c = let a = c.args in
     let v = sym c.is_owner.ensures ∙ c.if-not-is_owner.false in
     let e = c.search-p.ensures ∙ ap (searched a.index.now) c.entry_key.ensures in
-    let n = ap (λ (r : Probe). r.found) (sym e) ∙ c.if-not-p.true in
+    let n = ap (λ (r : Probe). r.found) (sym e) ∙ not-true _ c.if-not-p.true in
     c.not_found-then-not-p.ensures ∙ sym (find_none a.table.now a.index.now a.owner a.sin a.group c.if-table-ne-TABLE_SIZE.false c.if-index-ne-INDEX_SIZE.false v c.if-group-gt2.false n)
 
 pub returns : goal.returns
@@ -46,7 +46,7 @@ returns c = let a = c.args in
     let p = c.search-p.result in
     let v = sym c.is_owner.ensures ∙ c.if-not-is_owner.false in
     let e = c.search-p.ensures ∙ ap (searched a.index.now) c.entry_key.ensures in
-    let n = ap (λ (r : Probe). r.found) (sym e) ∙ c.if-not-p.false in
+    let n = ap (λ (r : Probe). r.found) (sym e) ∙ not-false _ c.if-not-p.false in
     let small : a.sin < 256 = omega arith in
     c.in_slot.ensures
     ∙ ap (λ (g : ℕ). in_slot t p.slot g p.probes) c.tag_of.ensures
