@@ -4,4 +4,4 @@ use Rattle.demands_messages.proofs.Trips.{both-trips}
 use Rattle.demands_messages.proofs.round_trips.Goals as goal
 
 pub returns : goal.returns
-returns c = both-trips
+returns c = record { trips = both-trips }
