@@ -9,9 +9,9 @@ use borrow.Author.Rules.{rules}
 use lib.IntN.{ℤ}
 use lib.ListN.{length}
 use mir.Syntax.{w64}
-use mir.Val.{to_z, of_z}
+use mir.ValLaws.{to_z-of_z}
+use Rattle.std.proofs.Common.{FitsSigned}
 use Rattle.arith.specs.First.{first}
-use Rattle.arith.proofs.Back.{held}
 use Rattle.message_rows.specs.Message.{kind_write_refusal}
 use Rattle.heights_mean.specs.Means.{smallest_mean}
 use Rattle.heights_mean.specs.declared.Mean.TheVariants.{Is, Missing}
@@ -51,27 +51,29 @@ returns-in_default c = let z : List ℤ = c.args.values.now in
     let b : List ℕ = c.args.present.now in
     let w : List ℤ = c.args.wanted.now in
     let out : List ℕ = c.args.out.now in
-    let record-passed : first (record_tests z b) ≡ 0 = sym c.record_refusal-early.ensures ∙ c.if-early-ne0.left in
-    let missing : smallest_mean w ≡ Missing → 23 ≡ heights_refusal z b w (length out) = λ f. mean-out z b w (length out) c.if-values-ne64.left c.if-present-ne64.left c.if-wanted-ne16.left record-passed f in let p = refused _ 23 (heights_message z b w) out (missing (sym c.smallest_mean-chosen.ensures ∙ c.in_default.is)) (λ e. omega arith) in record { answer = p.0; output = p.1 }
+    let record-passed : first (record_tests z b) ≡ 0 = sym c.record_refusal-early.ensures ∙ c.if-early-ne0.false in
+    let missing : smallest_mean w ≡ Missing → 23 ≡ heights_refusal z b w (length out) = λ f. mean-out z b w (length out) c.if-values-ne64.false c.if-present-ne64.false c.if-wanted-ne16.false record-passed f in let p = refused _ 23 (heights_message z b w) out (missing (sym c.smallest_mean-chosen.ensures ∙ c.in_default.is)) (λ e. omega arith) in record { answer = p.0; output = p.1 }
 
 pub values_with-v-requires : goal.values_with-v-requires
 values_with-v-requires c = let w : List ℤ = c.args.wanted.now in
     let mean : ℤ = c.in-Is.mean in
     let found : smallest_mean w ≡ Is mean = sym c.smallest_mean-chosen.ensures ∙ c.in-Is.is in
-    let mean-back : to_z w64 (of_z w64 mean) ≡ mean = held mean c.known_told-1.given.0.1 in
-    let m = smallest (w (s c)) mean found in
-    rw mean-back (c.if-values-ne64.false, (m.range, m.fitting))
+    let m = smallest w mean found in
+    let f : FitsSigned w64 mean = search rules in
+    rw (to_z-of_z w64 mean f) (c.if-values-ne64.false, (m.range, m.fitting))
 
 pub returns : goal.returns
 returns c = let z : List ℤ = c.args.values.now in
     let b : List ℕ = c.args.present.now in
     let w : List ℤ = c.args.wanted.now in
     let out : List ℕ = c.args.out.now in
-    let record-passed : first (record_tests z b) ≡ 0 = sym c.record_refusal-early.ensures ∙ c.if-early-ne0.left in
-    let written : (m : ℤ) → smallest_mean w ≡ Is m → kind_write_refusal 1023 1023 true (height_values z w m) (height_present b) (length out) ≡ heights_refusal z b w (length out) = λ m f. written_out z b w (length out) c.if-values-ne64.left c.if-present-ne64.left c.if-wanted-ne16.left record-passed m f in
+    let record-passed : first (record_tests z b) ≡ 0 = sym c.record_refusal-early.ensures ∙ c.if-early-ne0.false in
     let mean : ℤ = c.in-Is.mean in
     let found : smallest_mean w ≡ Is mean = sym c.smallest_mean-chosen.ensures ∙ c.in-Is.is in
-    let mean-back : to_z w64 (of_z w64 mean) ≡ mean = held mean c.known_told-1.given.0.1 in
-    let i = s c in
-    let v : c.values_with-v.result ≡ height_values (z i) (w i) mean = c.values_with-v.ensures ∙ ap (height_values (z i) (w i)) mean-back in
-    let p : c.bytes_with-p.result ≡ height_present (b i) = c.bytes_with-p.ensures in let p = rw (← written mean found, ← message-is (z i) (b i) (w i) mean found, ← v, ← p) c.write_kind.ensures in record { answer = p.0; output = p.1 }
+    let n : kind_write_refusal 1023 1023 true (height_values z w mean) (height_present b) (length out) ≡ heights_refusal z b w (length out) = written_out z b w (length out) c.if-values-ne64.false c.if-present-ne64.false c.if-wanted-ne16.false record-passed mean found in
+    let f : FitsSigned w64 mean = search rules in
+    let v : c.values_with-v.result ≡ height_values z w mean = c.values_with-v.ensures ∙ ap (height_values z w) (to_z-of_z w64 mean f) in
+    let p : c.bytes_with-p.result ≡ height_present b = c.bytes_with-p.ensures in
+    let m = message-is z b w mean found in
+    let d = c.write_kind.ensures in
+    record { answer = rw (← n, ← m, ← v, ← p) d.answer; output = rw (← n, ← m, ← v, ← p) d.output }
