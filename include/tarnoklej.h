@@ -1,7 +1,7 @@
 /* Tarnoklej: RTCM messages 1021 to 1027, and the transport frames of RTCM messages of any number.
  *
  * The functions are in libtarnoklej, which `targets/build` makes from one proved module for each machine (docs/TARGETS.md);
- * for x86-64 Linux it is the archive that `rt staticlib capi` writes, byte for byte.
+ * for x86-64 Linux it is the archive that the Rattle kit builds of the crate capi, byte for byte.
  * Every call ends with an answer for every input, keeps nothing between calls and allocates nothing.
  * A refusal number says why a call was refused; refusals are tested in the order given at each call.
  * No buffer that a call writes may overlap another. Every buffer must be memory of at least the length given with it, and
