@@ -31,5 +31,5 @@ returns c = let a = c.args in
     record {
       bytes = ap (λ k. take k (drop f.at t)) (z ∙ e.size) ∙ ap (λ k. take (part_length t a.index.now a.owner a.sin a.group) (drop k t)) e.start;
       block = refl;
-      offset = ap (λ k. k + a.table.ptr.1) e.start;
+      offset = ap (λ k. k + a.table.ref_ptr.1) e.start;
     }
