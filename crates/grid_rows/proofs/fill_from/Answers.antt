@@ -32,32 +32,28 @@ pub fill_run-requires : goal.fill_run-requires
 fill_run-requires c = let t : Num = stands c.requires.0.ready c.args.i c.requires.1 in
     let p : Located = c.locate-p.result in
     let is : p ≡ held_place c.args.f c.args.component c.args.north (east_at c.args.east (pos c.args.step) c.args.i) = c.locate-p.ensures ∙ (λ i. held_place c.args.f c.args.component (is-back c.ranges.north i) (t.held i)) in
-    let b : tie.Start = s c in
     let n : ℕ = c.places_in.result in
-    let end : ℕ = b c.args.i + n in
-    let reach : Reaches (b c.args.count - b c.args.i) p.width p.east b c.args.step n = subst (Reaches (b c.args.count - b c.args.i) p.width p.east b c.args.step) (sym c.places_in.ensures.number)
-    (reaches (b c.args.count - b c.args.i) p.width p.east b c.args.step (omega (arith, b c.pre.1)) (bounds b c.pre.0 b c.args.i b c.pre.1 is).within.east) in
-    let inside : end ≤ b c.args.count = omega (arith, reach c.most, b c.pre.1) in
-    let long : length (mid_of b c.args.i (end - b c.args.i) b c.args.row.now) ≡ n = let e : end - b c.args.i ≡ n = omega arith in
-    mid_len b c.args.i end b c.args.row.now (omega (arith, inside, b c.pre.0.enough)) ∙ e in
-    let z = b in
+    let end : ℕ = c.args.i + n in
+    let reach : Reaches (c.args.count - c.args.i) p.width p.east c.args.step n = subst (Reaches (c.args.count - c.args.i) p.width p.east c.args.step) (sym c.places_in.ensures.number)
+    (reaches (c.args.count - c.args.i) p.width p.east c.args.step (omega (arith, c.requires.1)) (bounds c.requires.0 c.args.i c.requires.1 is).within.east) in
+    let inside : end ≤ c.args.count = omega (arith, reach.most, c.requires.1) in
+    let long : length (mid_of c.args.i (end - c.args.i) c.args.row.now) ≡ n = let e : end - c.args.i ≡ n = omega arith in
+    mid_len c.args.i end c.args.row.now (omega (arith, inside, c.requires.0.enough)) ∙ e in
     let r = reach in
-    asked p.east z.args.step long (bounds z.pre.0 z.args.i z.pre.1 is) r.some (omega (arith, inside, z.pre.0.ready.most)) r.last
+    asked p.east c.args.step long (bounds c.requires.0 c.args.i c.requires.1 is) r.some (omega (arith, inside, c.requires.0.ready.most)) r.last
 
 pub returns : goal.returns
 returns c = let t : Num = stands c.requires.0.ready c.args.i c.requires.1 in
     let p : Located = c.locate-p.result in
     let is : p ≡ held_place c.args.f c.args.component c.args.north (east_at c.args.east (pos c.args.step) c.args.i) = c.locate-p.ensures ∙ (λ i. held_place c.args.f c.args.component (is-back c.ranges.north i) (t.held i)) in
-    let b : tie.Start = s c in
     let n : ℕ = c.places_in.result in
-    let end : ℕ = b c.args.i + n in
-    let reach : Reaches (b c.args.count - b c.args.i) p.width p.east b c.args.step n = subst (Reaches (b c.args.count - b c.args.i) p.width p.east b c.args.step) (sym c.places_in.ensures.number)
-    (reaches (b c.args.count - b c.args.i) p.width p.east b c.args.step (omega (arith, b c.pre.1)) (bounds b c.pre.0 b c.args.i b c.pre.1 is).within.east) in
-    let inside : end ≤ b c.args.count = omega (arith, reach c.most, b c.pre.1) in
-    let long : length (mid_of b c.args.i (end - b c.args.i) b c.args.row.now) ≡ n = let e : end - b c.args.i ≡ n = omega arith in
-    mid_len b c.args.i end b c.args.row.now (omega (arith, inside, b c.pre.0.enough)) ∙ e in
-    let z = b in
-    let a = z.args in
+    let end : ℕ = c.args.i + n in
+    let reach : Reaches (c.args.count - c.args.i) p.width p.east c.args.step n = subst (Reaches (c.args.count - c.args.i) p.width p.east c.args.step) (sym c.places_in.ensures.number)
+    (reaches (c.args.count - c.args.i) p.width p.east c.args.step (omega (arith, c.requires.1)) (bounds c.requires.0 c.args.i c.requires.1 is).within.east) in
+    let inside : end ≤ c.args.count = omega (arith, reach.most, c.requires.1) in
+    let long : length (mid_of c.args.i (end - c.args.i) c.args.row.now) ≡ n = let e : end - c.args.i ≡ n = omega arith in
+    mid_len c.args.i end c.args.row.now (omega (arith, inside, c.requires.0.enough)) ∙ e in
+    let a = c.args in
     let w = p in
     let r = reach in
     let v : a.i + n - a.i ≡ n = omega arith in
@@ -65,7 +61,7 @@ returns c = let t : Num = stands c.requires.0.ready c.args.i c.requires.1 in
     (values_in (cell_says a.message.now a.component w.row w.column))) l in
     let filled =
     c.fill_run.ensures ∙ (λ i. counts (held a.f.number (omega arith) i) (long i))
-    ∙ counts-are z.pre.0 a.i z.pre.1 is n r.most r.last in record {
+    ∙ counts-are c.requires.0 a.i c.requires.1 is n r.most r.last in record {
       filled = record {
         some = omega (arith, r.some);
         most = inside;
@@ -94,17 +90,23 @@ overflow_add-t c =
     fits t
 
 pub overflow_add-end : goal.overflow_add-end
-overflow_add-end c =
-    let b : tie.Start = s c in
+overflow_add-end c = let t : Num = stands c.requires.0.ready c.args.i c.requires.1 in
+    let p : Located = c.locate-p.result in
+    let is : p ≡ held_place c.args.f c.args.component c.args.north (east_at c.args.east (pos c.args.step) c.args.i) = c.locate-p.ensures ∙ (λ i. held_place c.args.f c.args.component (is-back c.ranges.north i) (t.held i)) in
     let n : ℕ = c.places_in.result in
-    let end : ℕ = b c.args.i + n in
-    let inside : end ≤ b c.args.count = omega (arith, reach c.most, b c.pre.1) in
-    record { fits = omega (arith, inside, b.requires.0.ready.most) }
+    let end : ℕ = c.args.i + n in
+    let reach : Reaches (c.args.count - c.args.i) p.width p.east c.args.step n = subst (Reaches (c.args.count - c.args.i) p.width p.east c.args.step) (sym c.places_in.ensures.number)
+    (reaches (c.args.count - c.args.i) p.width p.east c.args.step (omega (arith, c.requires.1)) (bounds c.requires.0 c.args.i c.requires.1 is).within.east) in
+    let inside : end ≤ c.args.count = omega (arith, reach.most, c.requires.1) in
+    record { fits = omega (arith, inside, c.requires.0.ready.most) }
 
 pub slice_bounds-fill_run-end : goal.slice_bounds-fill_run-end
-slice_bounds-fill_run-end c =
-    let b : tie.Start = s c in
+slice_bounds-fill_run-end c = let t : Num = stands c.requires.0.ready c.args.i c.requires.1 in
+    let p : Located = c.locate-p.result in
+    let is : p ≡ held_place c.args.f c.args.component c.args.north (east_at c.args.east (pos c.args.step) c.args.i) = c.locate-p.ensures ∙ (λ i. held_place c.args.f c.args.component (is-back c.ranges.north i) (t.held i)) in
     let n : ℕ = c.places_in.result in
-    let end : ℕ = b c.args.i + n in
-    let inside : end ≤ b c.args.count = omega (arith, reach c.most, b c.pre.1) in
-    omega (arith, inside, b.requires.0.enough)
+    let end : ℕ = c.args.i + n in
+    let reach : Reaches (c.args.count - c.args.i) p.width p.east c.args.step n = subst (Reaches (c.args.count - c.args.i) p.width p.east c.args.step) (sym c.places_in.ensures.number)
+    (reaches (c.args.count - c.args.i) p.width p.east c.args.step (omega (arith, c.requires.1)) (bounds c.requires.0 c.args.i c.requires.1 is).within.east) in
+    let inside : end ≤ c.args.count = omega (arith, reach.most, c.requires.1) in
+    omega (arith, inside, c.requires.0.enough)

@@ -28,7 +28,7 @@ pub loop-i-preserved : goal.loop-i-preserved
 loop-i-preserved c = let counts : ℕ → ℤ = count_at c.args.message.now c.args.component (to_z w64 (of_z w64 c.args.north)) (to_z w64 (of_z w64 c.args.east)) (pos c.args.step) in
     let r = c.fill_from-i.ensures.filled in (
       r.most,
-      c.fill_from-i.auto.0 ∙ c.loop-i.invariant.1,
+      c.fill_from-i.auto.row ∙ c.loop-i.invariant.1,
       fills-on counts c.args.row.now c.loop-i.row c.loop-i.i c.loop-i.invariant.2 _ _ r.some r.row,
     )
 

@@ -26,18 +26,22 @@ pub fill_cell-requires : goal.fill_cell-requires
 fill_cell-requires c = let m : List ℕ = c.args.message.now in
     let p : Located = c.args.p in
     let nodes : c.values_of.result ≡ values_in (cell_says m c.args.component p.row p.column) = c.values_of.ensures ∙ ap (λ (n : Nodes). values_in n) c.nodes_at-n.ensures in
-    let k = k c in
-    let b = (s k).pre in
-    run_of b.0 (s k).args.number (s k).args.component (s k).args.step (length (s k).args.row.now) b.1 b.2 b.3 (mean k).held (factor k) nodes
+    let mean : Num = mul (lit 100 tt)
+    (result c.value_in.result 16384 (c.value_in.ensures ∙ ap value_in c.mean_at-mean.ensures) c.requires.0.mean tt) tt in
+    let factor : c.factor_of-factor.result ≡ node_factor c.args.number c.args.component = c.factor_of-factor.ensures ∙ ap (λ (z : ℤ). node_factor z c.args.component) (is-back c.ranges.number) in
+    let b = c.requires in
+    run_of b.0 c.args.number c.args.component c.args.step (length c.args.row.now) b.1 b.2 b.3 mean.held factor nodes
 
 pub returns : goal.returns
 returns c = let m : List ℕ = c.args.message.now in
     let p : Located = c.args.p in
     let nodes : c.values_of.result ≡ values_in (cell_says m c.args.component p.row p.column) = c.values_of.ensures ∙ ap (λ (n : Nodes). values_in n) c.nodes_at-n.ensures in
-    let k = k c in
-    let a = (s k).args in
+    let mean : Num = mul (lit 100 tt)
+    (result c.value_in.result 16384 (c.value_in.ensures ∙ ap value_in c.mean_at-mean.ensures) c.requires.0.mean tt) tt in
+    let factor : c.factor_of-factor.result ≡ node_factor c.args.number c.args.component = c.factor_of-factor.ensures ∙ ap (λ (z : ℤ). node_factor z c.args.component) (is-back c.ranges.number) in
+    let a = c.args in
     c.fill_cell.ensures
-    ∙ (λ i. up_to (cell_counts ((mean k).held i) (factor k i) a.p.height a.p.width a.p.north a.p.east a.step (nodes i)) (length a.row.now))
+    ∙ (λ i. up_to (cell_counts (mean.held i) (factor i) a.p.height a.p.width a.p.north a.p.east a.step (nodes i)) (length a.row.now))
 
 pub overflow_mul-value_in : goal.overflow_mul-value_in
 overflow_mul-value_in c =

@@ -33,7 +33,7 @@ overflow_mul-result c =
     omega (arith, low, raised-most c.args.area c.args.sum c.raised-n.result c.requires.1 c.requires.0 is, c.requires.2)
 
 pub overflow_sub-result-2 : goal.overflow_sub-result-2
-overflow_sub-result-2 c = low c
+overflow_sub-result-2 c = div-mul-le_self c.raised-n.result c.args.area
 
 pub returns : goal.returns
 returns c =

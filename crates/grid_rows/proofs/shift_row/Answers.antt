@@ -33,8 +33,7 @@ overflow_cast-step c = let m : List ℕ = c.args.message.now in
     let none : shift_row_refusal m c.args.component c.args.north c.args.east c.args.step c.args.count (length c.args.row.now) ≡ 0 = sym known ∙ c.if-refusal-ne0.false in
     let passed : Passed m c.args.component c.args.north c.args.east c.args.step c.args.count (length c.args.row.now) = row-passes m c.args.component c.args.north c.args.east c.args.step c.args.count (length c.args.row.now) none in
     let back : to_z w64 (of_z w64 c.args.step) ≡ c.args.step = is-back c.ranges.step in
-    let z = s c in
-    let e = cast-natural z.args.step z.fits.step.sfits passed.within.up in
+    let e = cast-natural c.args.step c.ranges.step.sfits passed.within.up in
     rw back (e.0, record { fits = e.1 })
 
 moved : {m : List ℕ} {f : Settings} {c : ℕ} {n n' e e' z z' : ℤ} {count room : ℕ} → n' ≡ n → e' ≡ e → z' ≡ z → Answered m f c n e (nat_abs z) count room → Answered m f c n' e' (nat_abs z') count room
@@ -47,7 +46,7 @@ fill_row-requires c = let m : List ℕ = c.args.message.now in
     let none : shift_row_refusal m c.args.component c.args.north c.args.east c.args.step c.args.count (length c.args.row.now) ≡ 0 = sym known ∙ c.if-refusal-ne0.false in
     let passed : Passed m c.args.component c.args.north c.args.east c.args.step c.args.count (length c.args.row.now) = row-passes m c.args.component c.args.north c.args.east c.args.step c.args.count (length c.args.row.now) none in
     let back : to_z w64 (of_z w64 c.args.step) ≡ c.args.step = is-back c.ranges.step in
-    let up : pos (nat_abs c.args.step) ≡ c.args.step = natural-step c.args.step passed c.within.up in
+    let up : pos (nat_abs c.args.step) ≡ c.args.step = natural-step c.args.step passed.within.up in
     let answered : Answered m c.settings_at-f.result c.args.component c.args.north c.args.east (nat_abs c.args.step) c.args.count (length c.args.row.now) = let p = passed in
     let a = c.args in
     record {
@@ -55,7 +54,7 @@ fill_row-requires c = let m : List ℕ = c.args.message.now in
       none = λ j l. ap (λ (z : ℤ). (message_shift m a.component a.north (east_at a.east z j)).refusal) up ∙ p.none j l;
       enough = p.enough;
     } in
-    moved (is-back (s c).fits.north) (is-back (s c).fits.east) back answered
+    moved (is-back c.ranges.north) (is-back c.ranges.east) back answered
 
 pub returns : goal.returns
 unfolding shift_row_filled
@@ -64,13 +63,13 @@ returns c = let m : List ℕ = c.args.message.now in
     let known : c.row_refusal-refusal.result ≡ shift_row_refusal m c.args.component c.args.north c.args.east c.args.step c.args.count (length c.args.row.now) = c.row_refusal-refusal.ensures
     ∙ (λ i. shift_row_refusal m c.args.component (is-back c.ranges.north i) (is-back c.ranges.east i) (is-back c.ranges.step i) c.args.count (length c.args.row.now)) in
     let none : shift_row_refusal m c.args.component c.args.north c.args.east c.args.step c.args.count (length c.args.row.now) ≡ 0 = sym known ∙ c.if-refusal-ne0.false in
+    let passed : Passed m c.args.component c.args.north c.args.east c.args.step c.args.count (length c.args.row.now) = row-passes m c.args.component c.args.north c.args.east c.args.step c.args.count (length c.args.row.now) none in
     let back : to_z w64 (of_z w64 c.args.step) ≡ c.args.step = is-back c.ranges.step in
-    let up : pos (nat_abs c.args.step) ≡ c.args.step = natural-step c.args.step passed c.within.up in
-    let z = s c in
-    let a = z.args in record {
+    let up : pos (nat_abs c.args.step) ≡ c.args.step = natural-step c.args.step passed.within.up in
+    let a = c.args in record {
       answer = sym none;
       output = c.fill_row.ensures
-          ∙ (λ i. up_to (count_at m a.component (is-back z.fits.north i) (is-back z.fits.east i) (pos (nat_abs (back i)))) a.count ++ drop a.count a.row.now)
+          ∙ (λ i. up_to (count_at m a.component (is-back c.ranges.north i) (is-back c.ranges.east i) (pos (nat_abs (back i)))) a.count ++ drop a.count a.row.now)
           ∙ (λ i. up_to (count_at m a.component a.north a.east (up i)) a.count ++ drop a.count a.row.now)
           ∙ fills full a.row.now none;
     }

@@ -12,16 +12,18 @@ use Rattle.grid_rows.proofs.increments.count_of.Goals as goal
 
 pub overflow_add-result : goal.overflow_add-result
 overflow_add-result c =
+    let whole : Num = arg c.args.p.whole 10000000000 c.requires.1 tt in
     let count : Num = add (arg c.args.mean 10000000000 c.requires.2 tt)
     (result c.nearest.result 10000000001
-    (c.nearest.ensures ∙ (λ i. nearest_whole (number_of c.args.area (whole c.held i) c.args.p.rest) c.args.area))
+    (c.nearest.ensures ∙ (λ i. nearest_whole (number_of c.args.area (whole.held i) c.args.p.rest) c.args.area))
     (nearest-most c.args.area c.args.p.whole c.args.p.rest c.requires.0 c.requires.1) tt) tt in
     fits count
 
 pub returns : goal.returns
 returns c =
+    let whole : Num = arg c.args.p.whole 10000000000 c.requires.1 tt in
     let count : Num = add (arg c.args.mean 10000000000 c.requires.2 tt)
     (result c.nearest.result 10000000001
-    (c.nearest.ensures ∙ (λ i. nearest_whole (number_of c.args.area (whole c.held i) c.args.p.rest) c.args.area))
+    (c.nearest.ensures ∙ (λ i. nearest_whole (number_of c.args.area (whole.held i) c.args.p.rest) c.args.area))
     (nearest-most c.args.area c.args.p.whole c.args.p.rest c.requires.0 c.requires.1) tt) tt in
     count.held

@@ -24,8 +24,7 @@ returns-then-whole-lt0 c = let whole : Num = arg c.args.whole 10000000000 c.requ
     let back : Num = sub (lit 0 tt)
     (result c.rounded.result 10000000002 (c.rounded.ensures ∙ ap (λ (z : ℤ). half_up c.args.area z (c.args.area - c.args.rest)) opposite.held)
     (half-most c.args.area opposite.z (c.args.area - c.args.rest) opposite.le) tt) tt in
-    let s = b c in
-    back.held ∙ rounds-below s.args.area s.args.whole s.args.rest s.pre.0 (less (whole s) (lit 0 tt) c.if-whole-lt0.true)
+    back.held ∙ rounds-below c.args.area c.args.whole c.args.rest c.requires.0 (less whole (lit 0 tt) c.if-whole-lt0.true)
 
 pub rounded-requires-2 : goal.rounded-requires-2
 rounded-requires-2 c = let whole : Num = arg c.args.whole 10000000000 c.requires.1 tt in
