@@ -8,7 +8,7 @@ use Rattle.grid_shifts.proofs.Parts.{refuses}
 use Rattle.grid_shifts.proofs.all_refused.Goals as goal
 
 pub returns : goal.returns
-returns c = let r = c.args.refusal in
+returns c = λ z. let r = c.args.refusal in
     let x = c.refused-r.result in
     let h = c.refused-r.ensures in
     c.three_of.ensures
