@@ -10,7 +10,7 @@ use Rattle.report_tally.proofs.Totals.{over, capped, total-one, total-part, tota
 use Rattle.report_tally.proofs.points_in.Goals as goal
 
 pub returns-then-n-ge10000 : goal.returns-then-n-ge10000
-returns-then-n-ge10000 c = let a = c.args in over (a.answered + total a.t2) (omega arith)
+returns-then-n-ge10000 c = let a = c.args in over (a.answered + total a.refused) (omega arith)
 
 pub loop-i-init : goal.loop-i-init
 loop-i-init c = omega arith
@@ -27,7 +27,7 @@ overflow_sub-n c = omega arith
 pub returns-then-n-k : goal.returns-then-n-k
 returns-then-n-k c = let a = c.args in
     let l = c.loop-i in
-    over (a.answered + total a.t2) (omega (arith, total-part a.t2 l.i, l.invariant.1.0))
+    over (a.answered + total a.refused) (omega (arith, total-part a.refused l.i, l.invariant.1.0))
 
 pub overflow_add-n : goal.overflow_add-n
 overflow_add-n c = omega arith
@@ -41,12 +41,12 @@ loop-i-smaller c = omega arith
 pub loop-i-preserved : goal.loop-i-preserved
 loop-i-preserved c = let a = c.args in
     let l = c.loop-i in
-    (omega arith, (omega (arith, l.invariant.1.0, total-one a.t2 l.i, ap (λ (k : ℕ). total (take k a.t2)) (add-one l.i)), omega arith))
+    (omega arith, (omega (arith, l.invariant.1.0, total-one a.refused l.i, ap (λ (k : ℕ). total (take k a.refused)) (add-one l.i)), omega arith))
 
 pub returns : goal.returns
 returns c = let a = c.args in
     let l = c.loop-i in
     let e : l.i ≡ 15 = omega arith in
-    let size : length a.t2 ≤ 15 = omega (arith, c.well_formed) in
-    capped (a.answered + total a.t2) l.n
-    (l.invariant.1.0 ∙ ap (λ (k : ℕ). a.answered + total (take k a.t2)) e ∙ ap (λ (k : ℕ). a.answered + k) (total-all a.t2 15 size)) l.invariant.1.1
+    let size : length a.refused ≤ 15 = omega (arith, c.well_formed) in
+    capped (a.answered + total a.refused) l.n
+    (l.invariant.1.0 ∙ ap (λ (k : ℕ). a.answered + total (take k a.refused)) e ∙ ap (λ (k : ℕ). a.answered + k) (total-all a.refused 15 size)) l.invariant.1.1

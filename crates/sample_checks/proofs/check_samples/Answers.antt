@@ -52,7 +52,7 @@ returns-then-place-ne0 c = let f : List ℕ = c.args.file.now in
     let refusal : c.keep-kept.result.refusal ≡ message_refusal (message_of f) = ap (λ (k : Kept). k.refusal) kept in
     let none : message_refusal (message_of f) ≡ 0 = sym refusal ∙ c.if-kept-ne0.false in
     let bad : c.first_bad-place.result ≡ first_bad (message_of f) (points_of f) = c.first_bad-place.ensures ∙ ap (λ (m : List ℕ). first_bad m (points_of f)) known.part in
-    claim-fails _ (shaped (e c)) none _ bad c.if-place-ne0.true
+    claim-fails _ shaped none _ bad c.if-place-ne0.true
 
 pub returns : goal.returns
 unfolding kept_of
@@ -63,4 +63,4 @@ returns c = let f : List ℕ = c.args.file.now in
     let refusal : c.keep-kept.result.refusal ≡ message_refusal (message_of f) = ap (λ (k : Kept). k.refusal) kept in
     let none : message_refusal (message_of f) ≡ 0 = sym refusal ∙ c.if-kept-ne0.false in
     let bad : c.first_bad-place.result ≡ first_bad (message_of f) (points_of f) = c.first_bad-place.ensures ∙ ap (λ (m : List ℕ). first_bad m (points_of f)) known.part in
-    claims-hold _ (shaped (e c)) none _ bad c.if-place-ne0.false
+    claims-hold _ shaped none _ bad c.if-place-ne0.false

@@ -30,9 +30,3 @@ loop-i-preserved c = let tested : c.right_point.result ≡ right c.args.message.
 pub returns : goal.returns
 returns c = let v = c.loop-i.invariant in
     none-bad _ _ c.loop-i.i (omega (arith, c.loop-i-test.false, v.0)) v.1.1
-
-pub point_count-n-requires : goal.point_count-n-requires
-point_count-n-requires c = tt
-
-pub point_at-requires : goal.point_at-requires
-point_at-requires c = tt

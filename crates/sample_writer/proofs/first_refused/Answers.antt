@@ -22,7 +22,7 @@ returns-then-refusal-ne0 c = let answer : c.count_at-refusal.result ≡ counted 
     let y : ℤ = get_or c.args.east.now c.loop-i.i (pos 0) in
     let k : ℕ = get_or c.args.components.now c.loop-i.i 0 in
     c.count_at-refusal.ensures
-    ∙ (λ j. counted_by c.args.message.now (c.requires.0 j) k (held z c.count_at-arg-1.given j) (held y c.count_at-arg-in-loop-i-1.given j))
+    ∙ (λ j. counted_by c.args.message.now (c.requires.0 j) k (held z (omega arith) j) (held y (omega arith) j))
     ∙ counted_is c.args.message.now k z y in
     let v = c.loop-i.invariant.1 in
     sym (v.1.1 ∙ round-refused _ _ _ _ c.loop-i-test.true v.0 v.1.0 _ _ answer c.if-refusal-ne0.true)
@@ -33,13 +33,10 @@ loop-i-preserved c = let answer : c.count_at-refusal.result ≡ counted (answer_
     let y : ℤ = get_or c.args.east.now c.loop-i.i (pos 0) in
     let k : ℕ = get_or c.args.components.now c.loop-i.i 0 in
     c.count_at-refusal.ensures
-    ∙ (λ j. counted_by c.args.message.now (c.requires.0 j) k (held z c.count_at-arg-1.given j) (held y c.count_at-arg-in-loop-i-1.given j))
+    ∙ (λ j. counted_by c.args.message.now (c.requires.0 j) k (held z (omega arith) j) (held y (omega arith) j))
     ∙ counted_is c.args.message.now k z y in
     let v = c.loop-i.invariant.1 in
     (omega arith, (v.0, (v.1.0, v.1.1 ∙ round-answered _ _ _ _ c.loop-i-test.true v.0 v.1.0 _ _ answer c.if-refusal-ne0.false)))
 
 pub returns : goal.returns
 returns c = sym (c.loop-i.invariant.1.1.1 ∙ end_refused _ _ _ _ _ c.loop-i-test.false)
-
-pub count_at-refusal-requires : goal.count_at-refusal-requires
-count_at-refusal-requires c = tt

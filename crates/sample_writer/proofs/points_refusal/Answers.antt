@@ -30,21 +30,21 @@ pub returns-then-point-ne0 : goal.returns-then-point-ne0
 unfolding kept_of
 returns-then-point-ne0 c = let refusal : c.keep-kept.result.refusal ≡ kind_refusal 1023 1024 c.args.message.now = ap (λ (r : Kept). r.refusal) c.keep-kept.ensures in
     let none : kind_refusal 1023 1024 c.args.message.now ≡ 0 = sym refusal ∙ c.if-kept-ne0.false in
-    let point : c.first_refused-point.result ≡ first_refused from c.args.message.now (asked_of from c.args.components.now from c.args.north.now from c.args.east.now) = c.first_refused-point.ensures in
+    let point : c.first_refused-point.result ≡ first_refused c.args.message.now (asked_of c.args.components.now c.args.north.now c.args.east.now) = c.first_refused-point.ensures in
     by-point _ _ _ _ none c.if-n-north.false c.if-n-east.false _ point c.if-point-ne0.true
 
 pub returns-then-n-gt-MOST_POINTS : goal.returns-then-n-gt-MOST_POINTS
 unfolding kept_of
 returns-then-n-gt-MOST_POINTS c = let refusal : c.keep-kept.result.refusal ≡ kind_refusal 1023 1024 c.args.message.now = ap (λ (r : Kept). r.refusal) c.keep-kept.ensures in
     let none : kind_refusal 1023 1024 c.args.message.now ≡ 0 = sym refusal ∙ c.if-kept-ne0.false in
-    let point : c.first_refused-point.result ≡ first_refused from c.args.message.now (asked_of from c.args.components.now from c.args.north.now from c.args.east.now) = c.first_refused-point.ensures in
+    let point : c.first_refused-point.result ≡ first_refused c.args.message.now (asked_of c.args.components.now c.args.north.now c.args.east.now) = c.first_refused-point.ensures in
     by_count _ _ _ _ none c.if-n-north.false c.if-n-east.false (sym point ∙ c.if-point-ne0.false) c.if-n-gt-MOST_POINTS.true
 
 pub returns : goal.returns
 unfolding kept_of
 returns c = let refusal : c.keep-kept.result.refusal ≡ kind_refusal 1023 1024 c.args.message.now = ap (λ (r : Kept). r.refusal) c.keep-kept.ensures in
     let none : kind_refusal 1023 1024 c.args.message.now ≡ 0 = sym refusal ∙ c.if-kept-ne0.false in
-    let point : c.first_refused-point.result ≡ first_refused from c.args.message.now (asked_of from c.args.components.now from c.args.north.now from c.args.east.now) = c.first_refused-point.ensures in
+    let point : c.first_refused-point.result ≡ first_refused c.args.message.now (asked_of c.args.components.now c.args.north.now c.args.east.now) = c.first_refused-point.ensures in
     by-none _ _ _ _ none c.if-n-north.false c.if-n-east.false (sym point ∙ c.if-point-ne0.false) c.if-n-gt-MOST_POINTS.false
 
 pub first_refused-point-requires : goal.first_refused-point-requires

@@ -17,11 +17,11 @@ put_samples-requires c = (c.requires.0, (c.requires.1.0, (c.requires.1.1.0, sear
 pub returns : goal.returns
 unfolding samples_file
 returns c = let m = c.args.message.now in
-    let b1 = and-number (begins c.args.out.now) 1 1 c.put_at.new.0 (omega (arith, c.requires)) c.put_at.ensures in
-    let b2 = and-number b1 2 (length m) c.put_at-2.new.0 (omega (arith, c.requires)) c.put_at-2.ensures in
-    let b3 = and_bytes b2 (length m) m c.put_bytes.new.0 refl (omega (arith, c.requires)) c.put_bytes.ensures in
+    let b1 = and-number (begins c.args.out.now) 1 1 c.put_at.new.out (omega (arith, c.requires)) c.put_at.ensures in
+    let b2 = and-number b1 2 (length m) c.put_at-2.new.out (omega (arith, c.requires)) c.put_at-2.ensures in
+    let b3 = and_bytes b2 (length m) m c.put_bytes.new.out refl (omega (arith, c.requires)) c.put_bytes.ensures in
     let n3 = same_size b3 (omega (arith, c.requires)) in
-    let b4 = and-part b3 (length c.put_bytes.new.0) c.put_samples.new.0 (omega (arith, c.requires)) (omega arith) c.put_samples.auto.0 in
+    let b4 = and-part b3 (length c.put_bytes.new.out) c.put_samples.new.out (omega (arith, c.requires)) (omega arith) c.put_samples.auto.out in
     filled b4 (omega (arith, c.requires))
     ∙ (λ i. ((([] ++ bytes_of 1 1) ++ bytes_of 2 (length m)) ++ m) ++ c.put_samples.ensures i)
     ∙ put-file-is m _

@@ -10,6 +10,7 @@ use Rattle.grid_shifts.specs.Shift.{message_shift}
 use Rattle.sample_files.specs.File.{point_field}
 use Rattle.sample_writer.specs.Write.{sample}
 use Rattle.sample_writer.specs.Refusals.{answer_at}
+use native.Mathlib.Omega.{arith}
 use borrow.Author.Rules.{rules}
 use Rattle.sample_writer.proofs.put_sample.Goals as goal
 
@@ -24,5 +25,5 @@ returns c = let answer : c.count_at-answer.result ≡ counted (message_shift c.a
       component = c.args.component;
       north = held c.args.north c.ranges.north.sfits i;
       east = held c.args.east c.ranges.east.sfits i;
-      claim = (held c.count_at-answer.result.count c.type_inv.answer.1.0.1 ∙ ap (λ (r : Counted). r.count) answer) i;
+      claim = (held c.count_at-answer.result.count (omega arith) ∙ ap (λ (r : Counted). r.count) answer) i;
     })

@@ -22,13 +22,13 @@ pub put_sample-requires : goal.put_sample-requires
 put_sample-requires c = (c.requires.0, search rules)
 
 pub loop-i-preserved : goal.loop-i-preserved
-loop-i-preserved c = let put : c.put_sample.new.0 ≡ point_field (sample c.args.message.now (point c.args.components.now c.args.north.now c.args.east.now c.loop-i.i)) = c.put_sample.ensures
+loop-i-preserved c = let put : c.put_sample.new.out ≡ point_field (sample c.args.message.now (point c.args.components.now c.args.north.now c.args.east.now c.loop-i.i)) = c.put_sample.ensures
     ∙ λ j. point_field
     (sample c.args.message.now
     (record {
       component = get_or c.args.components.now c.loop-i.i 0;
-      north = held (get_or c.args.north.now c.loop-i.i (pos 0)) c.put_sample-arg-in-loop-i-1.given j;
-      east = held (get_or c.args.east.now c.loop-i.i (pos 0)) c.put_sample-arg-in-loop-i-2-1.given j;
+      north = held (get_or c.args.north.now c.loop-i.i (pos 0)) (omega arith) j;
+      east = held (get_or c.args.east.now c.loop-i.i (pos 0)) (omega arith) j;
     })) in
     let v = c.loop-i.invariant.1 in (
       omega arith,
@@ -37,10 +37,10 @@ loop-i-preserved c = let put : c.put_sample.new.0 ≡ point_field (sample c.args
         (
           v.1.0,
           (
-            size-put c.loop-i.out c.put_sample.new.0 c.loop-i.i c.put_sample.auto.0 ∙ v.1.1.0,
+            size-put c.loop-i.out c.put_sample.new.out c.loop-i.i c.put_sample.auto.out ∙ v.1.1.0,
             (
               v.1.1.1.0,
-              round-fields _ _ _ _ c.loop-i-test.true v.0 v.1.0 _ c.loop-i.out c.put_sample.new.0 put (omega arith) ∙ v.1.1.1.1,
+              round-fields _ _ _ _ c.loop-i-test.true v.0 v.1.0 _ c.loop-i.out c.put_sample.new.out put (omega arith) ∙ v.1.1.1.1,
             ),
           ),
         ),
