@@ -176,8 +176,7 @@ place_in-requires c = let f : Settings = c.args.f in
     ∙ (λ i. east_by (number i) (is-back c.ranges.east i -ℤ pos (steps i) *ℤ longitude i)) in
     let placed-east : c.along-e.result ≡ along_of (width_of f) (east_from f e) = c.along-e.ensures ∙ (λ i. along_of (width i) (apart-east i)) in
     let refusal-east : c.along-e.result.refusal ≡ cond (outside (width_of f) (east_from f e)) 14 0 = ap (λ (p : PlaceAlong). p.refusal) placed-east ∙ along-refusal (width_of f) (east_from f e) sizes.1.0 sizes.1.1 in
-    let in-east : outside (width_of f) (east_from f e) ≡ false = outside-no (outside (width_of f) (east_from f e)) refusal-east c.if-e-ne0.false in
-    (
+    let in-east : outside (width_of f) (east_from f e) ≡ false = outside-no (outside (width_of f) (east_from f e)) refusal-east c.if-e-ne0.false in (
       along-asks (height_of f) (north_from f n) sizes.0 in-north placed-north height,
       along-asks (width_of f) (east_from f e) sizes.1 in-east placed-east width,
     )
