@@ -28,7 +28,7 @@ use Rattle.record_rows.specs.Numbers.{says, number_at, pair_at}
 use Rattle.record_grids.specs.declared.Grid.{Grid}
 use Rattle.record_grids.specs.declared.Shifts.{Shifts}
 use Rattle.record_grids.specs.Grids.{grid_of, settings_of, origin_at, spacing_at, shifts_at, nodes_at}
-use Rattle.message_rows.specs.Message.{message, row, row_layout, row_tests, refusal, kind_refusal, of_kind, write_refusal}
+use Rattle.message_rows.specs.Message.{message, row, row_layout, row_tests, kind_refusal, of_kind, write_refusal}
 use Rattle.message_rows.proofs.OneKind.{kind-read}
 use Rattle.message_rows.proofs.Trips.{number-back, message-accepted, row-of-message}
 use Rattle.grid_bilinear.specs.Bilinear.{from_edge, outside, absent, interpolated}
