@@ -1,7 +1,6 @@
 -- `report_prepared::node_value` meets its contract.
 -- Assumes nothing.
 use mathlib.Core.Path.{ap, ◌∙◌}
-use borrow.Author.Rules.{rules}
 use Rattle.arith.proofs.Back.{held}
 use Rattle.layout.specs.Layout.{value_in}
 use Rattle.report_prepared.proofs.node_value.Goals as goal

@@ -1,14 +1,10 @@
 -- `report_prepared::nodes_available` meets its contract: the nodes passed have values.
 -- Assumes nothing.
 use Prim.Native.Nat.{◌-◌, ◌≤◌}
-use native.Mathlib.Omega.{arith}
-use mathlib.Core.Path.{◌≡◌, refl, sym, ap, ◌∙◌}
+use mathlib.Core.Path.{◌≡◌}
 use mathlib.Core.Bool.{true}
-use borrow.Author.Tests.{not-true, not-false}
 use Rattle.arith.specs.Lists.{all_below}
-use Rattle.arith.proofs.Tests.{all_more, all-stops}
-use Rattle.layout.specs.Layout.{available}
-use Rattle.report_prepared.specs.Inner.{node_available, nodes_available}
+use Rattle.report_prepared.specs.Inner.{node_available}
 use Rattle.report_prepared.proofs.nodes_available.Given as goal
 
 abbrev pub invariant-loop-k : goal.invariant-loop-k

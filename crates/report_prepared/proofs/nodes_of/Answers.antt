@@ -1,12 +1,8 @@
 -- `report_prepared::nodes_of` meets its contract: a loop that fills the nodes from the front.
 -- Assumes nothing.
-use Prim.Native.Nat.{◌-◌, ◌≤◌}
-use mathlib.Core.Path.{◌≡◌, refl, ◌∙◌}
-use mathlib.Core.List.{◌++◌}
+use mathlib.Core.Path.{refl, ◌∙◌}
 use native.Mathlib.Omega.{arith}
 use lib.IntN.{pos}
-use lib.ListN.{drop}
-use Rattle.arith.specs.Lists.{up_to}
 use Rattle.arith.proofs.Back.{held}
 use Rattle.arith.proofs.Lists.{fill-turn, fill_done}
 use Rattle.report_prepared.specs.Inner.{node_value, node_values}

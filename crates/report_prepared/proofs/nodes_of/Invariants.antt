@@ -1,15 +1,11 @@
 -- `report_prepared::nodes_of` meets its contract: a loop that fills the nodes from the front.
 -- Assumes nothing.
 use Prim.Native.Nat.{◌-◌, ◌≤◌}
-use mathlib.Core.Path.{◌≡◌, refl, ◌∙◌}
+use mathlib.Core.Path.{◌≡◌}
 use mathlib.Core.List.{◌++◌}
-use native.Mathlib.Omega.{arith}
-use lib.IntN.{pos}
 use lib.ListN.{drop}
 use Rattle.arith.specs.Lists.{up_to}
-use Rattle.arith.proofs.Back.{held}
-use Rattle.arith.proofs.Lists.{fill-turn, fill_done}
-use Rattle.report_prepared.specs.Inner.{node_value, node_values}
+use Rattle.report_prepared.specs.Inner.{node_value}
 use Rattle.report_prepared.proofs.nodes_of.Given as goal
 
 abbrev pub invariant-loop-k : goal.invariant-loop-k

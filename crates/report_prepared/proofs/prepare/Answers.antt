@@ -1,14 +1,14 @@
 -- `report_prepared::prepare` meets its contract: the code's tests are the definition's, and the position is the origin.
 -- Assumes nothing.
+use native.Mathlib.Omega.{arith}
 use mathlib.Core.Path.{◌≡◌, sym, ap, ◌∙◌}
 use mathlib.Core.Bool.{true, false}
 use mathlib.Core.List.{List}
 use Prim.Native.Nat.{ℕ}
 use lib.IntN.{ℤ}
-use borrow.Author.Rules.{rules}
-use borrow.Author.Tests.{eq-eqb, ne_eqb, not-true, not-false}
 use mir.Syntax.{w64}
 use mir.Val.{to_z, of_z}
+use borrow.Author.Tests.{eq-eqb, ne_eqb}
 use Rattle.arith.proofs.Back.{held}
 use Rattle.layout.specs.Layout.{value_in, available}
 use Rattle.record_grids.specs.declared.Settings.{Settings}
@@ -42,29 +42,38 @@ returns-then-kept-ne0 c = let a = c.args in
     c.no_edges.ensures ∙ refused a.message.now a.kept a.component c.if-kept-ne0.true
 
 pub returns-then-not-is_available : goal.returns-then-not-is_available
-returns-then-not-is_available c = let m : List ℕ = c c.args.message.now in
-    let kept : Kept = c c.args.kept in
-    let c : ℕ = c.args.component in
-    let accepted : kept c.refusal ≡ 0 = c c.if-kept-ne0.left in
-    let mean : c c.is_available.result ≡ available (mean_says m c c) = c c.is_available.ensures ∙ ap available c c.mean_at.ensures in
-    c.no_edges-then-not-is_available.ensures ∙ no-mean m kept c accepted (sym mean ∙ c.if-not-is_available.true)
+returns-then-not-is_available c =
+    let m : List ℕ = c.args.message.now in
+    let kept : Kept = c.args.kept in
+    let d : ℕ = c.args.component in
+    let accepted : kept.refusal ≡ 0 = c.if-kept-ne0.false in
+    let mean : c.is_available.result ≡ available (mean_says m d) = c.is_available.ensures ∙ ap available c.mean_at.ensures in
+    c.no_edges-then-not-is_available.ensures ∙ no-mean m kept d accepted (sym mean ∙ c.if-not-is_available.true)
 
 pub returns-then-not-nodes_available : goal.returns-then-not-nodes_available
-returns-then-not-nodes_available c = let m : List ℕ = c c.args.message.now in
-    let c : ℕ = c.args.component in
-    let mean : c c.is_available.result ≡ available (mean_says m c c) = c c.is_available.ensures ∙ ap available c c.mean_at.ensures in
-    let mean-there : available (mean_says m c) ≡ true = sym mean ∙ not-false _ c.if-not-is_available.left in
-    let t = t c in
-    c.no_edges-then-not-nodes_available.ensures ∙ no-nodes (m t) (kept t) (c t) (accepted t) mean-there (sym c.nodes_available.ensures ∙ c.if-not-nodes_available.true)
+returns-then-not-nodes_available c =
+    let m : List ℕ = c.args.message.now in
+    let kept : Kept = c.args.kept in
+    let d : ℕ = c.args.component in
+    let accepted : kept.refusal ≡ 0 = c.if-kept-ne0.false in
+    let mean : c.is_available.result ≡ available (mean_says m d) = c.is_available.ensures ∙ ap available c.mean_at.ensures in
+    let mean-there : available (mean_says m d) ≡ true = sym mean ∙ c.if-not-is_available.false in
+    c.no_edges-then-not-nodes_available.ensures ∙ no-nodes m kept d accepted mean-there (sym c.nodes_available.ensures ∙ c.if-not-nodes_available.true)
 
 pub returns : goal.returns
-returns c = let m : List ℕ = c c.args.message.now in
-    let kept : Kept = c c.args.kept in
-    let c : ℕ = c.args.component in
-    let number : to_z w64 (of_z w64 f c.number) ≡ f c.number = held f c.number c.type_inv.f.0.1 in
-    let north : to_z w64 (of_z w64 c.middle-north.result) ≡ (middles m kept c).0 = held c.middle-north.result c.middle-north.type_inv ∙ c.middle-north.ensures ∙ (λ i. middle_of (number i) ((held c.value_in.result c.value_in.type_inv ∙ c.value_in.ensures) i)) in
-    let east : to_z w64 (of_z w64 c.middle-east.result) ≡ (middles m kept c).1 = held c.middle-east.result c.middle-east.type_inv ∙ c.middle-east.ensures ∙ (λ i. middle_of (number i) ((held c.value_in-2.result c.value_in-2.type_inv ∙ c.value_in-2.ensures) i)) in
-    let h = h c in
-    let t = t h in
-    c.prepare_at.ensures ∙ (λ i. edges_at (m t) (kept t).settings (c t) (north i) (east i))
-    ∙ all_there (m t) (kept t) (c t) (accepted t) (mean-there h) (sym h.nodes-available.ensures ∙ c.if-not-nodes_available.false)
+returns c =
+    let m : List ℕ = c.args.message.now in
+    let kept : Kept = c.args.kept in
+    let d : ℕ = c.args.component in
+    let accepted : kept.refusal ≡ 0 = c.if-kept-ne0.false in
+    let mean : c.is_available.result ≡ available (mean_says m d) = c.is_available.ensures ∙ ap available c.mean_at.ensures in
+    let mean-there : available (mean_says m d) ≡ true = sym mean ∙ c.if-not-is_available.false in
+    let f : Settings = kept.settings in
+    let number : to_z w64 (of_z w64 f.number) ≡ f.number = held f.number (omega arith) in
+    let north : to_z w64 (of_z w64 c.middle-north.result) ≡ (middles m kept d).0 =
+    held c.middle-north.result c.middle-north.type_inv ∙ c.middle-north.ensures ∙ (λ i. middle_of (number i) ((held c.value_in.result c.value_in.type_inv ∙ c.value_in.ensures) i)) in
+    let east : to_z w64 (of_z w64 c.middle-east.result) ≡ (middles m kept d).1 =
+    held c.middle-east.result c.middle-east.type_inv ∙ c.middle-east.ensures ∙ (λ i. middle_of (number i) ((held c.value_in-2.result c.value_in-2.type_inv ∙ c.value_in-2.ensures) i)) in
+    c.prepare_at.ensures
+    ∙ (λ i. edges_at m kept.settings d (north i) (east i))
+    ∙ all_there m kept d accepted mean-there (sym c.nodes_available.ensures ∙ c.if-not-nodes_available.false)

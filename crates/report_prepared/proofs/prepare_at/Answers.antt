@@ -1,13 +1,11 @@
 -- `report_prepared::prepare_at` meets its contract: by the place of one position, and the limits at two corners.
 -- Assumes nothing.
+use native.Mathlib.Omega.{arith}
 use mathlib.Core.Path.{◌≡◌, sym, ap, ◌∙◌}
 use mathlib.Core.List.{List}
 use Prim.Native.Nat.{ℕ}
 use lib.IntN.{ℤ, pos, ◌*ℤ◌}
-use borrow.Author.Rules.{rules}
 use borrow.Author.Tests.{eq-eqb, ne_eqb}
-use mir.Syntax.{w64}
-use mir.Val.{to_z, of_z}
 use Rattle.arith.proofs.Back.{held}
 use Rattle.arith.proofs.Machine.{Num, lit, result, mul, fits, is-back}
 use Rattle.layout.specs.Layout.{value_in}
@@ -55,121 +53,113 @@ module _ (s : List ℕ) (f : Settings) (c : ℕ) (n e : ℤ) where
   unfolding edges_at
   both-in z l h = rw (eq-eqb q.refusal 0 z, eq-eqb low 0 l, eq-eqb high 0 h)
 
--- a number that a local held
-abbrev back : ℤ → ℤ
-back z = to_z w64 (of_z w64 z)
-
 pub returns-then-q-ne0 : goal.returns-then-q-ne0
-returns-then-q-ne0 c = let m : List ℕ = c c.args.message.now in
-    let f : Settings = c c.args.kept.settings in
-    let c : ℕ = c.args.component in
-    let n : ℤ = c c.args.north in
-    let e : ℤ = c c.args.east in
-    let place : c c.locate-q.result ≡ held_place f c c n e = c c.locate-q.ensures ∙ (λ i. held_place f c c (is-back c c.ranges.north i) (is-back c c.ranges.east i)) in
-    let refusal : c c.locate-q.result.refusal ≡ (held_place f c c n e).refusal = ap (λ (p : Located). p.refusal) place in
-    c.no_edges.ensures ∙ no_place_lem m f c n e (λ z. c.if-q-ne0.true (refusal ∙ z))
+returns-then-q-ne0 c =
+    let m : List ℕ = c.args.message.now in
+    let f : Settings = c.args.kept.settings in
+    let d : ℕ = c.args.component in
+    let n : ℤ = c.args.north in
+    let e : ℤ = c.args.east in
+    let place : c.locate-q.result ≡ held_place f d n e = c.locate-q.ensures ∙ (λ i. held_place f d (is-back c.ranges.north i) (is-back c.ranges.east i)) in
+    let refusal : c.locate-q.result.refusal ≡ (held_place f d n e).refusal = ap (λ (p : Located). p.refusal) place in
+    c.no_edges.ensures ∙ no_place_lem m f d n e (λ z. c.if-q-ne0.true (refusal ∙ z))
 
 pub around-p-requires : goal.around-p-requires
-around-p-requires c = let f : Settings = c c.args.kept.settings in
-    let c : ℕ = c.args.component in
-    let n : ℤ = c c.args.north in
-    let e : ℤ = c c.args.east in
-    let place : c c.locate-q.result ≡ held_place f c c n e = c c.locate-q.ensures ∙ (λ i. held_place f c c (is-back c c.ranges.north i) (is-back c c.ranges.east i)) in
-    let refusal : c c.locate-q.result.refusal ≡ (held_place f c c n e).refusal = ap (λ (p : Located). p.refusal) place in
-    let none : (held_place f c n e).refusal ≡ 0 = sym refusal ∙ c.if-q-ne0.left in
-    let k = k c in
-    near-back (place k) (is-back (s k).fits.north) (is-back (s k).fits.east) (near-is (f k) (c k) (n k) (e k) none)
+around-p-requires c =
+    let m : List ℕ = c.args.message.now in
+    let f : Settings = c.args.kept.settings in
+    let d : ℕ = c.args.component in
+    let n : ℤ = c.args.north in
+    let e : ℤ = c.args.east in
+    let place : c.locate-q.result ≡ held_place f d n e = c.locate-q.ensures ∙ (λ i. held_place f d (is-back c.ranges.north i) (is-back c.ranges.east i)) in
+    let refusal : c.locate-q.result.refusal ≡ (held_place f d n e).refusal = ap (λ (p : Located). p.refusal) place in
+    let none : (held_place f d n e).refusal ≡ 0 = sym refusal ∙ c.if-q-ne0.false in
+    near-back place (is-back c.ranges.north) (is-back c.ranges.east) (near-is f d n e none)
 
 pub returns-then-position_refusal-ne0 : goal.returns-then-position_refusal-ne0
-returns-then-position_refusal-ne0 c = let m : List ℕ = c c.args.message.now in
-    let f : Settings = c c.args.kept.settings in
-    let c : ℕ = c.args.component in
-    let n : ℤ = c c.args.north in
-    let e : ℤ = c c.args.east in
-    let place : c c.locate-q.result ≡ held_place f c c n e = c c.locate-q.ensures ∙ (λ i. held_place f c c (is-back c c.ranges.north i) (is-back c c.ranges.east i)) in
-    let refusal : c c.locate-q.result.refusal ≡ (held_place f c c n e).refusal = ap (λ (p : Located). p.refusal) place in
-    let none : (held_place f c n e).refusal ≡ 0 = sym refusal ∙ c.if-q-ne0.left in
-    let mean : Num = mul (lit 100 tt)
-    (result c.value_in.result 16384 (c.value_in.ensures ∙ ap value_in c.mean_at-mean.ensures) (mean-most m c) tt) tt in
-    let number : back f.number ≡ f.number = held f.number c.struct_told-1.given.0.1 in
-    let factor : c.factor_of-factor.result ≡ node_factor f.number c = c.factor_of-factor.ensures ∙ ap (λ (z : ℤ). node_factor z c) number in
-    let around-is : let k = k c in c.around-p.result ≡ edges (m k) (f k) (c k) (n k) (e k) = let k = k c in
-    c.around-p.ensures ∙ (λ i. around_of (place k i) (is-back (s k).fits.north i) (is-back (s k).fits.east i) (mean.held i) (factor i)) in
-    let j : tie.After-locate = k c in
-    let low-is : c.position_refusal.result ≡ low (m j) (f j) (c j) (n j) (e j) = let g = c.type_inv.p in
-    let south = held x c.south g.0.1 in
-    let west = held x c.west g.1.1.0.1 in
-    let said : c.position_refusal.result ≡ refusal_at (back (f j).number) (c j) (back x c.south) (back x c.west) = c.position_refusal.ensures in
-    said
-    ∙ (λ i. refusal_at (number i) (c j) (south i) (west i))
-    ∙ ap (λ (y : Prepared). refusal_at (f j).number (c j) y.south y.west) around-is in
-    let j = j in
-    c.no_edges-then-position_refusal-ne0.ensures ∙ low-out (m j) (f j) (c j) (n j) (e j) none (λ z. c.if-position_refusal-ne0.true (low-is ∙ z))
+returns-then-position_refusal-ne0 c =
+    let m : List ℕ = c.args.message.now in
+    let f : Settings = c.args.kept.settings in
+    let d : ℕ = c.args.component in
+    let n : ℤ = c.args.north in
+    let e : ℤ = c.args.east in
+    let place : c.locate-q.result ≡ held_place f d n e = c.locate-q.ensures ∙ (λ i. held_place f d (is-back c.ranges.north i) (is-back c.ranges.east i)) in
+    let refusal : c.locate-q.result.refusal ≡ (held_place f d n e).refusal = ap (λ (p : Located). p.refusal) place in
+    let none : (held_place f d n e).refusal ≡ 0 = sym refusal ∙ c.if-q-ne0.false in
+    let mean : Num =
+    mul (lit 100 tt)
+    (result c.value_in.result 16384 (c.value_in.ensures ∙ ap value_in c.mean_at-mean.ensures) (mean-most m d) tt) tt in
+    let factor : c.factor_of-factor.result ≡ node_factor f.number d = c.factor_of-factor.ensures ∙ ap (λ (z : ℤ). node_factor z d) (held f.number (omega arith)) in
+    let around-is : c.around-p.result ≡ edges m f d n e =
+    c.around-p.ensures ∙ (λ i. around_of (place i) (is-back c.ranges.north i) (is-back c.ranges.east i) (mean.held i) (factor i)) in
+    let x : Prepared = c.around-p.result in
+    let low-is : c.position_refusal.result ≡ low m f d n e =
+    c.position_refusal.ensures
+    ∙ (λ i. refusal_at (held f.number (omega arith) i) d (held x.south (omega arith) i) (held x.west (omega arith) i))
+    ∙ ap (λ (y : Prepared). refusal_at f.number d y.south y.west) around-is in
+    c.no_edges-then-position_refusal-ne0.ensures ∙ low-out m f d n e none (λ z. c.if-position_refusal-ne0.true (low-is ∙ z))
 
 pub returns-then-position_refusal-ne0-2 : goal.returns-then-position_refusal-ne0-2
-returns-then-position_refusal-ne0-2 c = let m : List ℕ = c c.args.message.now in
-    let f : Settings = c c.args.kept.settings in
-    let c : ℕ = c.args.component in
-    let mean : Num = mul (lit 100 tt)
-    (result c.value_in.result 16384 (c.value_in.ensures ∙ ap value_in c.mean_at-mean.ensures) (mean-most m c) tt) tt in
-    let number : back f.number ≡ f.number = held f.number c.struct_told-1.given.0.1 in
-    let factor : c.factor_of-factor.result ≡ node_factor f.number c = c.factor_of-factor.ensures ∙ ap (λ (z : ℤ). node_factor z c) number in
-    let around-is : let k = k c in c.around-p.result ≡ edges (m k) (f k) (c k) (n k) (e k) = let k = k c in
-    c.around-p.ensures ∙ (λ i. around_of (place k i) (is-back (s k).fits.north i) (is-back (s k).fits.east i) (mean.held i) (factor i)) in
-    let j : tie.After-locate = k c in
+returns-then-position_refusal-ne0-2 c =
+    let m : List ℕ = c.args.message.now in
+    let f : Settings = c.args.kept.settings in
+    let d : ℕ = c.args.component in
+    let n : ℤ = c.args.north in
+    let e : ℤ = c.args.east in
+    let place : c.locate-q.result ≡ held_place f d n e = c.locate-q.ensures ∙ (λ i. held_place f d (is-back c.ranges.north i) (is-back c.ranges.east i)) in
+    let refusal : c.locate-q.result.refusal ≡ (held_place f d n e).refusal = ap (λ (p : Located). p.refusal) place in
+    let none : (held_place f d n e).refusal ≡ 0 = sym refusal ∙ c.if-q-ne0.false in
+    let mean : Num =
+    mul (lit 100 tt)
+    (result c.value_in.result 16384 (c.value_in.ensures ∙ ap value_in c.mean_at-mean.ensures) (mean-most m d) tt) tt in
+    let factor : c.factor_of-factor.result ≡ node_factor f.number d = c.factor_of-factor.ensures ∙ ap (λ (z : ℤ). node_factor z d) (held f.number (omega arith)) in
+    let around-is : c.around-p.result ≡ edges m f d n e =
+    c.around-p.ensures ∙ (λ i. around_of (place i) (is-back c.ranges.north i) (is-back c.ranges.east i) (mean.held i) (factor i)) in
     let x : Prepared = c.around-p.result in
-    let low-is : c.position_refusal.result ≡ low (m j) (f j) (c j) (n j) (e j) = let g = c.type_inv.p in
-    let south = held x c.south g.0.1 in
-    let west = held x c.west g.1.1.0.1 in
-    let said : c.position_refusal.result ≡ refusal_at (back (f j).number) (c j) (back x c.south) (back x c.west) = c.position_refusal.ensures in
-    said
-    ∙ (λ i. refusal_at (number i) (c j) (south i) (west i))
-    ∙ ap (λ (y : Prepared). refusal_at (f j).number (c j) y.south y.west) around-is in
-    let low-none : low (m j) (f j) (c j) (n j) (e j) ≡ 0 = sym low-is ∙ c.if-position_refusal-ne0.left in
-    let high_is : c.position_refusal-2.result ≡ high (m j) (f j) (c j) (n j) (e j) = let g = c.type_inv.p in
-    let north = held x.north g.1.0.1 in
-    let east = held x.east g.1.1.1.0.1 in
-    let said : c.position_refusal-2.result ≡ refusal_at (back (f j).number) (c j) (back x.north) (back x.east) = c.position_refusal-2.ensures in
-    said
-    ∙ (λ i. refusal_at (number i) (c j) (north i) (east i))
-    ∙ ap (λ (y : Prepared). refusal_at (f j).number (c j) y.north y.east) around-is in
-    let j = j in
-    c.no_edges-then-position_refusal-ne0-2.ensures ∙ high-out (m j) (f j) (c j) (n j) (e j) (none (a c).before) low-none (λ z. c.if-position_refusal-ne0-2.true (high_is ∙ z))
+    let low-is : c.position_refusal.result ≡ low m f d n e =
+    c.position_refusal.ensures
+    ∙ (λ i. refusal_at (held f.number (omega arith) i) d (held x.south (omega arith) i) (held x.west (omega arith) i))
+    ∙ ap (λ (y : Prepared). refusal_at f.number d y.south y.west) around-is in
+    let low-none : low m f d n e ≡ 0 = sym low-is ∙ c.if-position_refusal-ne0.false in
+    let high-is : c.position_refusal-2.result ≡ high m f d n e =
+    c.position_refusal-2.ensures
+    ∙ (λ i. refusal_at (held f.number (omega arith) i) d (held x.north (omega arith) i) (held x.east (omega arith) i))
+    ∙ ap (λ (y : Prepared). refusal_at f.number d y.north y.east) around-is in
+    c.no_edges-then-position_refusal-ne0-2.ensures ∙ high-out m f d n e none low-none (λ z. c.if-position_refusal-ne0-2.true (high-is ∙ z))
 
 pub returns : goal.returns
-returns c = let m : List ℕ = c c.args.message.now in
-    let f : Settings = c c.args.kept.settings in
-    let c : ℕ = c.args.component in
-    let mean : Num = mul (lit 100 tt)
-    (result c.value_in.result 16384 (c.value_in.ensures ∙ ap value_in c.mean_at-mean.ensures) (mean-most m c) tt) tt in
-    let number : back f.number ≡ f.number = held f.number c.struct_told-1.given.0.1 in
-    let factor : c.factor_of-factor.result ≡ node_factor f.number c = c.factor_of-factor.ensures ∙ ap (λ (z : ℤ). node_factor z c) number in
-    let around-is : let k = k c in c.around-p.result ≡ edges (m k) (f k) (c k) (n k) (e k) = let k = k c in
-    c.around-p.ensures ∙ (λ i. around_of (place k i) (is-back (s k).fits.north i) (is-back (s k).fits.east i) (mean.held i) (factor i)) in
-    let j : tie.After-locate = k c in
+returns c =
+    let m : List ℕ = c.args.message.now in
+    let f : Settings = c.args.kept.settings in
+    let d : ℕ = c.args.component in
+    let n : ℤ = c.args.north in
+    let e : ℤ = c.args.east in
+    let place : c.locate-q.result ≡ held_place f d n e = c.locate-q.ensures ∙ (λ i. held_place f d (is-back c.ranges.north i) (is-back c.ranges.east i)) in
+    let refusal : c.locate-q.result.refusal ≡ (held_place f d n e).refusal = ap (λ (p : Located). p.refusal) place in
+    let none : (held_place f d n e).refusal ≡ 0 = sym refusal ∙ c.if-q-ne0.false in
+    let mean : Num =
+    mul (lit 100 tt)
+    (result c.value_in.result 16384 (c.value_in.ensures ∙ ap value_in c.mean_at-mean.ensures) (mean-most m d) tt) tt in
+    let factor : c.factor_of-factor.result ≡ node_factor f.number d = c.factor_of-factor.ensures ∙ ap (λ (z : ℤ). node_factor z d) (held f.number (omega arith)) in
+    let around-is : c.around-p.result ≡ edges m f d n e =
+    c.around-p.ensures ∙ (λ i. around_of (place i) (is-back c.ranges.north i) (is-back c.ranges.east i) (mean.held i) (factor i)) in
     let x : Prepared = c.around-p.result in
-    let low-is : c.position_refusal.result ≡ low (m j) (f j) (c j) (n j) (e j) = let g = c.type_inv.p in
-    let south = held x c.south g.0.1 in
-    let west = held x c.west g.1.1.0.1 in
-    let said : c.position_refusal.result ≡ refusal_at (back (f j).number) (c j) (back x c.south) (back x c.west) = c.position_refusal.ensures in
-    said
-    ∙ (λ i. refusal_at (number i) (c j) (south i) (west i))
-    ∙ ap (λ (y : Prepared). refusal_at (f j).number (c j) y.south y.west) around-is in
-    let low-none : low (m j) (f j) (c j) (n j) (e j) ≡ 0 = sym low-is ∙ c.if-position_refusal-ne0.left in
-    let high_is : c.position_refusal-2.result ≡ high (m j) (f j) (c j) (n j) (e j) = let g = c.type_inv.p in
-    let north = held x.north g.1.0.1 in
-    let east = held x.east g.1.1.1.0.1 in
-    let said : c.position_refusal-2.result ≡ refusal_at (back (f j).number) (c j) (back x.north) (back x.east) = c.position_refusal-2.ensures in
-    said
-    ∙ (λ i. refusal_at (number i) (c j) (north i) (east i))
-    ∙ ap (λ (y : Prepared). refusal_at (f j).number (c j) y.north y.east) around-is in
-    let j = j in
-    around-is (a c) ∙ both-in (m j) (f j) (c j) (n j) (e j) (none (a c).before) low-none (sym high_is ∙ c.if-position_refusal-ne0-2.false)
+    let low-is : c.position_refusal.result ≡ low m f d n e =
+    c.position_refusal.ensures
+    ∙ (λ i. refusal_at (held f.number (omega arith) i) d (held x.south (omega arith) i) (held x.west (omega arith) i))
+    ∙ ap (λ (y : Prepared). refusal_at f.number d y.south y.west) around-is in
+    let low-none : low m f d n e ≡ 0 = sym low-is ∙ c.if-position_refusal-ne0.false in
+    let high-is : c.position_refusal-2.result ≡ high m f d n e =
+    c.position_refusal-2.ensures
+    ∙ (λ i. refusal_at (held f.number (omega arith) i) d (held x.north (omega arith) i) (held x.east (omega arith) i))
+    ∙ ap (λ (y : Prepared). refusal_at f.number d y.north y.east) around-is in
+    around-is ∙ both-in m f d n e none low-none (sym high-is ∙ c.if-position_refusal-ne0-2.false)
 
 pub overflow_mul-value_in : goal.overflow_mul-value_in
 overflow_mul-value_in c =
-    let m : List ℕ = c c.args.message.now in
-    let c : ℕ = c.args.component in
-    let mean : Num = mul (lit 100 tt)
-    (result c.value_in.result 16384 (c.value_in.ensures ∙ ap value_in c.mean_at-mean.ensures) (mean-most m c) tt) tt in
+    let m : List ℕ = c.args.message.now in
+    let d : ℕ = c.args.component in
+    let mean : Num =
+    mul (lit 100 tt)
+    (result c.value_in.result 16384 (c.value_in.ensures ∙ ap value_in c.mean_at-mean.ensures) (mean-most m d) tt) tt in
     fits mean
