@@ -25,9 +25,10 @@ fn succeed(command: &mut Command) -> Output {
     output
 }
 
-/// A prefix in which the library is installed as archive and as shared library.
+/// A prefix in which the library is installed as archive and as shared library. It holds a link, so it stands outside the
+/// repository, where `rt ci` allows none.
 fn installed(archive: &Path) -> PathBuf {
-    let prefix = Path::new(env!("CARGO_TARGET_TMPDIR")).join("prefix");
+    let prefix = std::env::temp_dir().join(format!("tarnoklej-installed-{}", std::process::id()));
     let _ = fs::remove_dir_all(&prefix);
     let lib = prefix.join("lib");
     fs::create_dir_all(lib.join("pkgconfig")).expect("a folder can be made");
@@ -80,4 +81,5 @@ fn a_program_is_linked_with_the_installed_library() {
     assert!(said.contains("libtarnoklej.so.1 (shared, installed, found by pkg-config)"), "{said}");
     assert_eq!(String::from_utf8_lossy(&run(&program, &prefix.join("lib")).stdout), LINES);
     assert!(!run(&program, Path::new("/none")).status.success(), "the program does not use the shared library");
+    fs::remove_dir_all(&prefix).expect("the folder can be removed");
 }
