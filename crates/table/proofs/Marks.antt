@@ -4,15 +4,15 @@ use Prim.Native.Nat.{ℕ, suc, ◌≤◌, ◌<◌}
 use native.Mathlib.Omega.{arith}
 use native.Mathlib.Decide.{ℕ_discrete}
 use mathlib.Core.Path.{◌≡◌, refl, sym, ap, ◌∙◌}
-use mathlib.Core.Bool.{Bool, true, false, not, cond, ◌||◌}
+use mathlib.Core.Bool.{Bool, true, false, not, ◌||◌}
 use mathlib.Core.List.{List}
-use lib.Dec.{eqb, leb}
+use lib.Dec.{eqb}
 use lib.ListN.{length, get_or}
-use borrow.Author.Tests.{eq-eqb, ne_eqb}
+use borrow.Author.Tests.{ne_eqb}
 use Rattle.arith.specs.Places.{first_of}
-use Rattle.table_slots.specs.Slots.{slots, table_size, group_of, key, key_of, joined, slot, held, well_slot, tag}
+use Rattle.table_slots.specs.Slots.{slots, table_size, key_of, joined, slot, well_slot, tag}
 use Rattle.table.specs.Table.{has_tag, place, new_key, flawed, well_slots, holding, well_formed, store_place}
-use Rattle.table_slots.specs.Inner.{no_tag, mark, mark_at, marks, has_mark, mark_place, flawed_mark, sound_marks, mark_or_free}
+use Rattle.table_slots.specs.Inner.{no_tag, marks, has_mark, mark_place, flawed_mark, sound_marks, mark_or_free}
 use Rattle.arith.proofs.Places.{agree}
 use Rattle.table_slots.proofs.Marks.{mark-well, mark-ill, tag-most, mark-in}
 use Rattle.table.proofs.Whole.{unflawed, slots-first, formed}

@@ -9,7 +9,7 @@ use native.Mathlib.Omega.{arith}
 use native.Mathlib.Decide.{dec_lt, ℕ_discrete}
 use lib.Dec.{ltb, eqb}
 use borrow.Author.Tests.{eqb-true, eqb-false, eq-eqb, ne_eqb, lt-ltb}
-use Rattle.table_slots.specs.Slots.{slots, key, slot, held, tag}
+use Rattle.table_slots.specs.Slots.{slots, slot, held, tag}
 use Rattle.table.specs.Table.{has_tag, place, new_key}
 use Rattle.arith.proofs.Places.{first, first-is}
 use Rattle.table_slots.proofs.Slot.{or_right}

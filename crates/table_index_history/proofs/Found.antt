@@ -16,16 +16,13 @@ use Rattle.table.specs.Table.{place, well_formed, key_place, find_refusal, found
 use Rattle.table.proofs.Whole.{Formed, formed}
 use Rattle.table.proofs.Calls as walk
 use Rattle.table_history.proofs.Look.{place_of}
-use Rattle.table_index_search.specs.Index.{above}
 use Rattle.table_index_search.specs.Search.{searched}
 use Rattle.table_index_search.specs.Agree.{agree}
-use Rattle.table_index_search.specs.declared.Probe.{Probe}
 use Rattle.table_index_search.proofs.Agree.{index-sized}
 use Rattle.table_index.proofs.Laws.{slot-found, none_found}
 use Rattle.table_indexed.specs.Indexed.{entry_key, slot_keys}
 use Rattle.table_indexed.specs.Find.{probed, find_number, part_at, part_length, found_by}
-use Rattle.table_indexed.specs.Private.{missing, in_slot}
-use Rattle.table_indexed.specs.declared.Found.{Found}
+use Rattle.table_indexed.specs.Private.{in_slot}
 use Rattle.table_indexed.proofs.Calls.{find-owner, find-group, find_none, find-slot, says}
 use Rattle.table_index_history.proofs.Keys.{tag-of-key, key-of-tag, key_in, key-out, keys}
 

@@ -1,6 +1,6 @@
 -- The keys of a well-formed table's slots: each is a key, none stands twice, and a replaced slot changes one of them. Of the reader only that a SIN is below 256.
 -- Assumes nothing.
-use Prim.Native.Nat.{ℕ, suc, ◌+◌, ◌*◌, ◌≤◌, ◌<◌}
+use Prim.Native.Nat.{ℕ, suc, ◌≤◌, ◌<◌}
 use native.Mathlib.Omega.{arith}
 use native.Mathlib.Decide.{dec_lt, ℕ_discrete}
 use mathlib.Core.Path.{◌≡◌, refl, sym, ap, subst, ◌∙◌}
@@ -12,7 +12,7 @@ use borrow.Author.Tests.{ne_eqb}
 use Rattle.arith.proofs.Lists.{length-up_to, get_d-up_to}
 use Rattle.message_rows.specs.Message.{number_of, sin_of}
 use Rattle.message_rows.proofs.Limits.{sin-most}
-use Rattle.table_slots.specs.Slots.{slots, message_size, table_size, is_owner, group_of, key, key_of, joined, slot, held, well_slot, tag, slot_of}
+use Rattle.table_slots.specs.Slots.{slots, message_size, table_size, group_of, key, key_of, joined, slot, held, well_slot, tag, slot_of}
 use Rattle.table_slots.proofs.Owner.{owner-range}
 use Rattle.table_slots.proofs.Slot.{tag_free, tag-used, used-of}
 use Rattle.table_slots.proofs.Marks.{group-most}

@@ -1,6 +1,6 @@
 -- The search counts the entries that it names and depends on no other. Rests on the rule's rounds.
 -- Assumes nothing.
-use Prim.Native.Nat.{ℕ, zero, suc, ◌+◌, ◌*◌, ◌<◌}
+use Prim.Native.Nat.{ℕ, zero, suc, ◌*◌, ◌<◌}
 use native.Mathlib.Omega.{arith}
 use native.Mathlib.Decide.{dec_lt, ℕ_discrete}
 use mathlib.Core.Path.{◌≡◌, refl, sym, ap, ◌∙◌}
@@ -9,11 +9,10 @@ use mathlib.Core.List.{List, [], ◌∷◌}
 use lib.Dec.{eqb, ltb}
 use lib.ListN.{length, get_or, drop}
 use lib.Seq.{get_or-take, get_or-drop}
-use borrow.Author.Tests.{lt-ltb, le-ltb, eq-eqb, ne_eqb}
+use borrow.Author.Tests.{eq-eqb}
 use Rattle.table_index_search.specs.Index.{entries, entry_size, index_size, byte_at, owner_at, number_at, above, slot_at, key_at}
 use Rattle.table_index_search.specs.Search.{middle, named_among, named, missed_after, met_after, last_named, searched, entry_at, entries_at}
 use Rattle.table_index_search.specs.Private.{binary_search}
-use Rattle.table_index_search.specs.declared.Probe.{Probe}
 use Rattle.table_index_search.proofs.Rounds.{named-met, named-behind, named-before, probe-none, probe-met, probe-behind, probe-before, searched-sized, searched-other}
 
 -- ---- entries that are equal have equal keys and slots

@@ -1,16 +1,16 @@
 -- One call where table and index agree: it answers, shows and leaves what the call without an index does, and they agree after it. Rests on find, on the keys of a replaced slot and on the laws of the index.
 -- Assumes nothing.
-use Prim.Native.Nat.{ℕ, suc, ◌+◌, ◌*◌, ◌≤◌, ◌<◌}
+use Prim.Native.Nat.{ℕ, suc, ◌≤◌, ◌<◌}
 use native.Mathlib.Omega.{arith}
 use native.Mathlib.Decide.{dec_lt, ℕ_discrete}
 use mathlib.Core.Path.{◌≡◌, refl, sym, ap, ◌∙◌}
-use mathlib.Core.Bool.{Bool, true, false}
+use mathlib.Core.Bool.{true}
 use mathlib.Core.List.{List, []}
-use lib.ListN.{length, get_or, set, take, drop}
+use lib.ListN.{get_or, set, take, drop}
 use borrow.Author.Tests.{ltb-true}
-use Rattle.message_rows.specs.Message.{number_of, sin_of, refusal}
+use Rattle.message_rows.specs.Message.{number_of, sin_of}
 use Rattle.message_rows.proofs.Limits.{accepted-size, sin-most}
-use Rattle.table_slots.specs.Slots.{slots, most, is_owner, group_of, key, key_of, joined, slot, tag, slot_of}
+use Rattle.table_slots.specs.Slots.{slots, most, group_of, key_of, joined, slot, tag}
 use Rattle.table_slots.proofs.Owner.{owner-range, not_none}
 use Rattle.table_slots.proofs.Slot.{tag-none}
 use Rattle.table_slots.proofs.Marks.{group-most}
@@ -27,8 +27,8 @@ use Rattle.table_index_search.specs.Agree.{agree}
 use Rattle.table_index_search.specs.Private.{IsKey}
 use Rattle.table_index.specs.Change.{inserted, deleted}
 use Rattle.table_index.proofs.Laws.{stored-new, stored-again, removed}
-use Rattle.table_indexed.specs.Indexed.{entry_key, message_key, slot_key, slot_keys, agrees_refusal, stored_table, stored_index, removed_table, removed_index}
-use Rattle.table_indexed.specs.Find.{part_at, part_length, part}
+use Rattle.table_indexed.specs.Indexed.{entry_key, message_key, slot_keys, agrees_refusal}
+use Rattle.table_indexed.specs.Find.{part_at, part}
 use Rattle.table_indexed.proofs.Calls.{agrees-done, agrees-passed, Stored, store-passed, store-refused, store-done, remove-refused, remove-done}
 use Rattle.table_index_history.specs.Calls.{Both, number, shown, after, byte_ask}
 use Rattle.table_index_history.proofs.Keys.{keys, entry_key_lem, key_in, put-keys, key-slot_of, key-empty}

@@ -12,10 +12,10 @@ use borrow.Author.Tests.{eq-eqb, ne_eqb, lt-ltb, le-ltb, ltb-true, eqb-true}
 use Rattle.arith.proofs.First.{passed, not-false}
 use Rattle.arith.proofs.Tests.{both_first}
 use Rattle.arith.proofs.Places.{first}
-use Rattle.message_rows.specs.Message.{number_of, sin_of, refusal, header}
+use Rattle.message_rows.specs.Message.{refusal, header}
 use Rattle.message_rows.specs.declared.Header.{Header}
 use Rattle.table_slots.specs.Slots.{slots, most, slot_size, table_size, is_owner, group_of, key, key_of, joined, slot, used, tag}
-use Rattle.table_slots.specs.Inner.{mark, marks, has_mark, mark_place, mark_or_free}
+use Rattle.table_slots.specs.Inner.{marks, has_mark, mark_place, mark_or_free}
 use Rattle.table_slots.proofs.Owner.{owner-range}
 use Rattle.table_slots.proofs.Slot.{size-byte}
 use Rattle.table.specs.Table.{place, holding, well_formed, store_place, store_refusal, store_table, find_refusal, remove_table}

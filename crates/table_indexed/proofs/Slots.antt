@@ -1,10 +1,10 @@
 -- The keys of a table's slots from its row of marks, and a used slot by its mark. Of the reader only that a SIN is below 256.
 -- Assumes nothing.
-use Prim.Native.Nat.{ℕ, suc, ◌+◌, ◌-◌, ◌*◌, ◌/◌, ◌%◌, ◌≤◌, ◌<◌}
+use Prim.Native.Nat.{ℕ, suc, ◌-◌, ◌/◌, ◌%◌, ◌≤◌, ◌<◌}
 use native.Mathlib.Omega.{arith}
 use native.Mathlib.Decide.{ℕ_discrete}
-use mathlib.Core.Path.{◌≡◌, refl, sym, ap, subst, ◌∙◌}
-use mathlib.Core.Bool.{Bool, true, false, cond, ◌&&◌, ◌||◌}
+use mathlib.Core.Path.{◌≡◌, refl, sym, ap, ◌∙◌}
+use mathlib.Core.Bool.{Bool, true, false, ◌&&◌, ◌||◌}
 use mathlib.Core.List.{List}
 use lib.Dec.{eqb}
 use lib.ListN.{get_or, replicate, get_or-replicate}
@@ -13,7 +13,7 @@ use Rattle.arith.specs.Lists.{up_to}
 use Rattle.arith.proofs.Lists.{up_to-same}
 use Rattle.message_rows.specs.Message.{number_of, sin_of}
 use Rattle.message_rows.proofs.Limits.{sin-most}
-use Rattle.table_slots.specs.Slots.{slots, is_owner, group_of, key, key_of, joined, slot, held, all_zero, used, well_slot, tag}
+use Rattle.table_slots.specs.Slots.{slots, group_of, key, key_of, joined, slot, held, all_zero, used, well_slot, tag}
 use Rattle.table_slots.specs.Inner.{no_tag, mark, marks}
 use Rattle.table_slots.proofs.Owner.{owner-range}
 use Rattle.table_slots.proofs.Slot.{tag_free, tag-used, used-of, or_right, not-zero}

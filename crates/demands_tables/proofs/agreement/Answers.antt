@@ -1,15 +1,13 @@
 -- `demands_tables::agreement` carries its theorems: those of table_index_history on what agrees and stays so, and on what find shows.
 -- Assumes nothing.
-use Prim.Native.Nat.{ℕ, ◌<◌}
-use native.Mathlib.Omega.{arith}
-use mathlib.Core.Path.{◌≡◌, sym, ◌∙◌}
+use Prim.Native.Nat.{ℕ}
+use mathlib.Core.Path.{sym, ◌∙◌}
 use mathlib.Core.List.{List}
-use Rattle.table_slots.specs.Slots.{slots, slot}
 use Rattle.table.specs.Table.{found_of}
 use Rattle.table.proofs.Whole.{formed}
 use Rattle.table_index_search.proofs.Agree as tested
 use Rattle.table_index.proofs.Laws.{one-listed}
-use Rattle.table_indexed.specs.Indexed.{slot_key, slot_keys}
+use Rattle.table_indexed.specs.Indexed.{slot_keys}
 use Rattle.table_indexed.specs.Find.{found_by}
 use Rattle.table_indexed.proofs.Calls.{agrees-passed, agrees-done}
 use Rattle.table_index_history.proofs.Keys.{keys, key_in, length-keys}

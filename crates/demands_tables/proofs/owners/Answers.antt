@@ -1,19 +1,17 @@
 -- `demands_tables::owners` carries its theorems.
 -- Assumes nothing.
-use Prim.Native.Nat.{ℕ, suc, ◌*◌, ◌+◌, ◌≤◌}
+use Prim.Native.Nat.{ℕ, suc}
 use mathlib.Core.Path.{◌≡◌, refl, sym, ap, ◌∙◌}
 use mathlib.Core.Bool.{Bool, true, false, cond, ◌&&◌, ◌||◌}
-use mathlib.Core.List.{List}
 use lib.Dec.{eqb, leb}
-use lib.ListN.{get_or}
 use borrow.Author.Tests.{eq-eqb, eqb-true}
 use Rattle.arith.proofs.Tests.{both_first, both-second}
 use Rattle.message_rows.specs.Message.{number_of, sin_of}
 use Rattle.message_rows.proofs.Limits.{sin-most}
-use Rattle.table_slots.specs.Slots.{group_of, slots, message_size, key, joined, slot, used, tag}
+use Rattle.table_slots.specs.Slots.{group_of, key, joined, slot, used, tag}
 use Rattle.table_slots.proofs.Slot.{size-byte, tag-says}
 use Rattle.table.specs.Table.{holding, used_slots, store_table, remove_table}
-use Rattle.table_history.specs.History.{Ask, store, find, remove}
+use Rattle.table_history.specs.History.{store, find, remove}
 use Rattle.table_history.specs.Private as plain
 use Rattle.table_history.proofs.Others.{owner-refused, others-kept, full-exactly, twelve-there}
 use Rattle.table_indexed.specs.Indexed.{agrees_refusal, stored_table, removed_table}
@@ -22,7 +20,7 @@ use Rattle.table_indexed.proofs.Calls.{agrees-passed, find-passed}
 use Rattle.table_index_history.proofs.Found.{find-same}
 use Rattle.table_index_history.proofs.Step.{step}
 use Rattle.table_indexed.proofs.Slots.{used-well}
-use Rattle.table_index_history.specs.Calls.{Both, after, byte_ask}
+use Rattle.table_index_history.specs.Calls.{after, byte_ask}
 use Rattle.demands_tables.specs.Tables.{OwnerRefused, OthersKept, ShownOwn, FullExactly, TwelveThere}
 use Rattle.demands_tables.proofs.owners.Goals as goal
 

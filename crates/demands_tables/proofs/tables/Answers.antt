@@ -12,7 +12,7 @@ use Rattle.table_history.specs.Private.{walk}
 use Rattle.table_history.proofs.Replies.{replies-same, fresh-empty}
 use Rattle.table_history.proofs.Answers.{find-last, find-other}
 use Rattle.table.proofs.Whole.{formed}
-use Rattle.table_indexed.specs.Find.{part_at, part_length, part}
+use Rattle.table_indexed.specs.Find.{part_at, part}
 use Rattle.table_indexed.proofs.Calls.{agrees-passed}
 use Rattle.table_index_history.specs.Calls.{Both, Agreed, indexed}
 use Rattle.table_index_history.proofs.Found.{find-same}

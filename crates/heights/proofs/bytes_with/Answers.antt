@@ -1,11 +1,7 @@
 -- `heights::bytes_with` meets its contract: a loop that fills the row from the front.
 -- Assumes nothing.
-use Prim.Native.Nat.{◌-◌, ◌≤◌}
-use mathlib.Core.Path.{◌≡◌, refl}
-use mathlib.Core.List.{◌++◌}
+use mathlib.Core.Path.{refl}
 use native.Mathlib.Omega.{arith}
-use lib.ListN.{drop}
-use Rattle.arith.specs.Lists.{up_to}
 use Rattle.arith.proofs.Lists.{fill-turn, fill_done}
 use Rattle.heights.specs.Heights.{present_with, height_present}
 use Rattle.heights.proofs.bytes_with.Goals as goal

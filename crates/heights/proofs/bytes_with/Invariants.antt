@@ -1,13 +1,11 @@
 -- `heights::bytes_with` meets its contract: a loop that fills the row from the front.
 -- Assumes nothing.
 use Prim.Native.Nat.{◌-◌, ◌≤◌}
-use mathlib.Core.Path.{◌≡◌, refl}
+use mathlib.Core.Path.{◌≡◌}
 use mathlib.Core.List.{◌++◌}
-use native.Mathlib.Omega.{arith}
 use lib.ListN.{drop}
 use Rattle.arith.specs.Lists.{up_to}
-use Rattle.arith.proofs.Lists.{fill-turn, fill_done}
-use Rattle.heights.specs.Heights.{present_with, height_present}
+use Rattle.heights.specs.Heights.{present_with}
 use Rattle.heights.proofs.bytes_with.Given as goal
 
 abbrev pub invariant-loop-k : goal.invariant-loop-k

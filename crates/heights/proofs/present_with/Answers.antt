@@ -1,6 +1,5 @@
 -- `heights::present_with` meets its contract: each return is a case of the definition.
 -- Assumes nothing.
-use borrow.Author.Rules.{rules}
 use borrow.Author.Tests.{le-leb, lt-leb, eq-eqb, ne_eqb}
 use Rattle.heights.specs.Heights.{present_with}
 use Rattle.heights.proofs.present_with.Goals as goal

@@ -1,6 +1,5 @@
 -- `heights::record_refusal` meets its contract: each return is the first test that holds.
 -- Assumes nothing.
-use borrow.Author.Rules.{rules}
 use Rattle.arith.proofs.Order.{is}
 use Rattle.heights.proofs.record_refusal.Goals as goal
 

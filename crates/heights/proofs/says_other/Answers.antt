@@ -1,6 +1,5 @@
 -- `heights::says_other` meets its contract: each return is a case of the definition.
 -- Assumes nothing.
-use borrow.Author.Rules.{rules}
 use borrow.Author.Tests.{eq-eqb, ne_eqb}
 use Rattle.arith.proofs.Order.{same-yes, same-no, fits-literal}
 use Rattle.heights.specs.Heights.{says_other}

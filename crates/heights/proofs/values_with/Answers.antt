@@ -1,11 +1,8 @@
 -- `heights::values_with` meets its contract: a loop that fills the row from the front.
 -- Assumes nothing.
-use Prim.Native.Nat.{◌-◌, ◌≤◌}
-use mathlib.Core.Path.{◌≡◌, refl, ap, ◌∙◌}
-use mathlib.Core.List.{◌++◌}
+use mathlib.Core.Path.{refl, ap, ◌∙◌}
 use native.Mathlib.Omega.{arith}
 use lib.IntN.{ℤ, pos}
-use lib.ListN.{drop}
 use mir.Syntax.{w64}
 use mir.Val.{to_z, of_z}
 use Rattle.arith.specs.Lists.{up_to}

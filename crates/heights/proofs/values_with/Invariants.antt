@@ -1,18 +1,11 @@
 -- `heights::values_with` meets its contract: a loop that fills the row from the front.
 -- Assumes nothing.
 use Prim.Native.Nat.{◌-◌, ◌≤◌}
-use mathlib.Core.Path.{◌≡◌, refl, ap, ◌∙◌}
+use mathlib.Core.Path.{◌≡◌}
 use mathlib.Core.List.{◌++◌}
-use native.Mathlib.Omega.{arith}
-use lib.IntN.{ℤ, pos}
 use lib.ListN.{drop}
-use mir.Syntax.{w64}
-use mir.Val.{to_z, of_z}
 use Rattle.arith.specs.Lists.{up_to}
-use Rattle.arith.proofs.Back.{held}
-use Rattle.arith.proofs.Machine.{is-back}
-use Rattle.arith.proofs.Lists.{fill-turn, fill_done}
-use Rattle.heights.specs.Heights.{value_with, height_values}
+use Rattle.heights.specs.Heights.{value_with}
 use Rattle.heights.proofs.values_with.Given as goal
 
 abbrev pub invariant-loop-k : goal.invariant-loop-k

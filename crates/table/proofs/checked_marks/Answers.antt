@@ -1,7 +1,6 @@
 -- `table::checked_marks` meets its contract: the two cases of the definition.
 -- Assumes nothing.
-use mathlib.Core.Path.{sym, ap, ◌∙◌}
-use borrow.Author.Rules.{rules}
+use mathlib.Core.Path.{sym, ◌∙◌}
 use Rattle.table.specs.Inner.{checked_marks}
 use Rattle.table.proofs.checked_marks.Goals as goal
 

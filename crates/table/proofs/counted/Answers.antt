@@ -12,7 +12,6 @@ use borrow.Author.Tests.{eq-eqb, ne_eqb}
 use Rattle.table_slots.specs.Slots.{slot_size, owner_at}
 use Rattle.table.specs.Table.{owns}
 use Rattle.table.proofs.Calls.{slot_read}
-use borrow.Author.Rules.{rules}
 use Rattle.table.proofs.counted.Goals as goal
 
 -- the byte read

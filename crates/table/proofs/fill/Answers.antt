@@ -1,11 +1,8 @@
 -- `table::fill` meets its contract: the bytes passed are those of the slot that holds the owner and the message.
 -- Assumes nothing.
-use Prim.Native.Nat.{◌-◌, ◌≤◌}
 use native.Mathlib.Omega.{arith}
-use mathlib.Core.Path.{◌≡◌, refl, sym, ◌∙◌}
-use mathlib.Core.List.{◌++◌}
-use lib.ListN.{length, get_or, drop, length-set}
-use Rattle.arith.specs.Lists.{up_to}
+use mathlib.Core.Path.{refl, sym, ◌∙◌}
+use lib.ListN.{get_or, length-set}
 use Rattle.arith.proofs.Lists.{fill-turn, fill_done}
 use Rattle.table_slots.specs.Slots.{slot_size, slot_of}
 use Rattle.table_slots.proofs.Slot.{slot-bytes}

@@ -1,14 +1,11 @@
 -- `table::fill` meets its contract: the bytes passed are those of the slot that holds the owner and the message.
 -- Assumes nothing.
 use Prim.Native.Nat.{◌-◌, ◌≤◌}
-use native.Mathlib.Omega.{arith}
-use mathlib.Core.Path.{◌≡◌, refl, sym, ◌∙◌}
+use mathlib.Core.Path.{◌≡◌}
 use mathlib.Core.List.{◌++◌}
-use lib.ListN.{length, get_or, drop, length-set}
+use lib.ListN.{length, get_or, drop}
 use Rattle.arith.specs.Lists.{up_to}
-use Rattle.arith.proofs.Lists.{fill-turn, fill_done}
 use Rattle.table_slots.specs.Slots.{slot_size, slot_of}
-use Rattle.table_slots.proofs.Slot.{slot-bytes}
 use Rattle.table.proofs.fill.Given as goal
 
 abbrev pub invariant-loop-k : goal.invariant-loop-k

@@ -6,14 +6,12 @@ use mathlib.Core.Path.{◌≡◌, refl, sym, ap, ◌∙◌}
 use mathlib.Core.Bool.{true}
 use mathlib.Core.List.{List}
 use lib.ListN.{get_or}
-use borrow.Author.Tests.{not-true, not-false}
 use Rattle.table_slots.specs.Slots.{slots, slot_size, is_owner, key, joined}
 use Rattle.table.specs.Table.{well_formed, key_place}
 use Rattle.table_slots.specs.Inner.{mark_place}
 use Rattle.table.proofs.Whole.{formed}
 use Rattle.table.proofs.Marks.{row-place}
 use Rattle.table.proofs.Calls.{find-table, find-owner, find_none, find-done, found-is, key_place-in, key_place-out, slot_read}
-use borrow.Author.Rules.{rules}
 use Rattle.table.proofs.find.Goals as goal
 
 -- what is known where a slot has been looked for

@@ -1,11 +1,9 @@
 -- `table::held_by` meets its contract: the slots passed are counted.
 -- Assumes nothing.
-use Prim.Native.Nat.{◌+◌, ◌-◌, ◌≤◌}
-use native.Mathlib.Omega.{arith}
-use mathlib.Core.Path.{◌≡◌, refl, sym, ap, ◌∙◌}
+use Prim.Native.Nat.{◌-◌, ◌≤◌}
+use mathlib.Core.Path.{◌≡◌}
 use Rattle.table_slots.specs.Slots.{slots}
-use Rattle.table.specs.Table.{count_of, owns, holding}
-use Rattle.table.proofs.Count.{count_turn, count-le}
+use Rattle.table.specs.Table.{count_of, owns}
 use Rattle.table.proofs.held_by.Given as goal
 
 abbrev pub invariant-loop-i : goal.invariant-loop-i

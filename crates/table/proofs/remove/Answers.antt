@@ -8,7 +8,6 @@ use Rattle.table_slots.specs.Slots.{slots, slot_size}
 use Rattle.table.specs.Table.{put, key_place}
 use Rattle.table.proofs.Whole.{formed}
 use Rattle.table.proofs.Calls.{Passed, says, find-passed, find-done, remove-kept}
-use borrow.Author.Rules.{rules}
 use Rattle.table.proofs.remove.Goals as goal
 
 -- what is known where find answered 0

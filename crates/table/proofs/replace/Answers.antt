@@ -8,7 +8,6 @@ use lib.ListN.{take}
 use borrow.Rule.Slice.PartMut.{put_mid, Post-is}
 use Rattle.table_slots.specs.Slots.{slot_size, slot_of}
 use Rattle.table.specs.Table.{put}
-use borrow.Author.Rules.{rules}
 use Rattle.table.proofs.replace.Goals as goal
 
 pub returns : goal.returns

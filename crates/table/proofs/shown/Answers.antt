@@ -7,7 +7,6 @@ use lib.ListN.{length, take, drop}
 use Rattle.table.specs.Table.{found_length}
 use Rattle.table.specs.Inner.{found}
 use Rattle.table.proofs.Calls.{says, found-fits}
-use borrow.Author.Rules.{rules}
 use Rattle.table.proofs.shown.Goals as goal
 
 pub overflow_add-e : goal.overflow_add-e

@@ -2,7 +2,6 @@
 -- Assumes nothing.
 use native.Mathlib.Omega.{arith}
 use Rattle.table_slots.proofs.Slot.{byte-owner, byte-length, byte-in, byte-after}
-use borrow.Author.Rules.{rules}
 use Rattle.table.proofs.slot_byte.Goals as goal
 
 pub returns-then-i-eq0 : goal.returns-then-i-eq0

@@ -2,12 +2,11 @@
 -- Assumes nothing.
 use mathlib.Core.Bool.{true}
 use mathlib.Core.Path.{◌≡◌, ◌∙◌}
-use borrow.Author.Tests.{not-true, not-false, le-leb, lt-leb}
+use borrow.Author.Tests.{le-leb, lt-leb}
 use Rattle.table_slots.specs.Slots.{most}
 use Rattle.table.specs.Table.{well_slots, well_formed}
 use Rattle.table.proofs.Whole.{slots-size}
 use Rattle.table.proofs.Marks.{row-slots}
-use borrow.Author.Rules.{rules}
 use Rattle.table.proofs.sound.Goals as goal
 
 pub returns-then-not-sound_marks : goal.returns-then-not-sound_marks

@@ -1,10 +1,8 @@
 -- `table::store` meets its contract: a table that is not well formed is refused, and any other has its marks.
 -- Assumes nothing.
-use mathlib.Core.Path.{◌≡◌, sym, ◌∙◌}
-use borrow.Author.Tests.{not-true, not-false}
+use mathlib.Core.Path.{sym, ◌∙◌}
 use Rattle.table.specs.Inner.{Marked}
 use Rattle.table.proofs.Calls.{store-table}
-use borrow.Author.Rules.{rules}
 use Rattle.table.proofs.store.Goals as goal
 
 pub returns-then-not-sound : goal.returns-then-not-sound

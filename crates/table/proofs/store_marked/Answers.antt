@@ -4,18 +4,16 @@ use Prim.Native.Nat.{ℕ, suc, ◌≤◌, ◌<◌}
 use mathlib.Core.Path.{◌≡◌, sym, ap, subst, ◌∙◌}
 use mathlib.Core.Bool.{true}
 use mathlib.Core.List.{List}
-use borrow.Author.Tests.{not-true, not-false}
 use Rattle.message_rows.specs.Message.{refusal}
 use Rattle.message_rows.proofs.Limits.{accepted-size}
 use Rattle.table_slots.specs.Slots.{slots, is_owner, key, key_of, joined}
-use Rattle.table.specs.Table.{well_formed, put, store_place}
+use Rattle.table.specs.Table.{put, store_place}
 use Rattle.table.specs.Inner.{Marked}
 use Rattle.table_slots.specs.Inner.{mark_or_free}
 use Rattle.table.proofs.Whole.{formed}
 use Rattle.table_slots.proofs.Marks.{header-refusal, header-tag}
 use Rattle.table.proofs.Marks.{row-store}
 use Rattle.table.proofs.Calls.{store-owner, store-refused, store-full, store-done}
-use borrow.Author.Rules.{rules}
 use Rattle.table.proofs.store_marked.Goals as goal
 
 -- what is known where a slot has been looked for

@@ -6,7 +6,6 @@ use mathlib.Core.Path.{ap, ◌∙◌}
 use Rattle.table_slots.specs.Inner.{mark_or_free}
 use Rattle.table_index.specs.Change.{inserted}
 use Rattle.table_indexed.proofs.Calls.{free-top, header-entry}
-use borrow.Author.Rules.{rules}
 use Rattle.table_indexed.proofs.add_entry.Goals as goal
 
 pub overflow_cast-i : goal.overflow_cast-i

@@ -1,13 +1,11 @@
 -- `table_indexed::agreement` meets its contract: each return is a case of what agreement answers.
 -- Assumes nothing.
-use mathlib.Core.Path.{◌≡◌, sym, ap, ◌∙◌}
+use mathlib.Core.Path.{sym, ap, ◌∙◌}
 use mathlib.Core.List.{List}
 use Prim.Native.Nat.{ℕ}
-use borrow.Author.Tests.{not-true, not-false}
 use Rattle.table_index_search.specs.Agree.{agree}
 use Rattle.table_indexed.proofs.Slots.{row-keys, ill-table, well-table}
 use Rattle.table_indexed.proofs.Calls.{agrees-table, agrees-index, agrees-done}
-use borrow.Author.Rules.{rules}
 use Rattle.table_indexed.proofs.agreement.Goals as goal
 
 pub returns-then-row-eq-NO_TAG : goal.returns-then-row-eq-NO_TAG

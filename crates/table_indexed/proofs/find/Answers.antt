@@ -2,7 +2,7 @@
 -- Assumes nothing.
 use Prim.Native.Nat.{ℕ, suc, ◌<◌}
 use native.Mathlib.Omega.{arith}
-use mathlib.Core.Path.{◌≡◌, sym, ap, ◌∙◌}
+use mathlib.Core.Path.{sym, ap, ◌∙◌}
 use borrow.Author.Tests.{not-true, not-false}
 use Rattle.table_slots.specs.Slots.{key, joined}
 use Rattle.table_index_search.specs.Search.{searched}
@@ -10,7 +10,6 @@ use Rattle.table_index_search.specs.declared.Probe.{Probe}
 use Rattle.table_indexed.specs.Find.{probed}
 use Rattle.table_indexed.specs.Private.{in_slot}
 use Rattle.table_indexed.proofs.Calls.{find-table, find-index, find-owner, find-group, find_none, find-slot}
-use borrow.Author.Rules.{rules}
 use Rattle.table_indexed.proofs.find.Goals as goal
 
 pub returns-then-table-ne-TABLE_SIZE : goal.returns-then-table-ne-TABLE_SIZE

@@ -1,6 +1,6 @@
 -- `table_indexed::in_slot` meets its contract: each return is a case of the definition.
 -- Assumes nothing.
-use Prim.Native.Nat.{ℕ, ◌+◌, ◌*◌}
+use Prim.Native.Nat.{◌+◌, ◌*◌}
 use native.Mathlib.Omega.{arith}
 use mathlib.Core.Path.{◌≡◌, sym, ◌∙◌}
 use borrow.Author.Tests.{lt-ltb, le-ltb, eq-eqb, ne_eqb}
@@ -9,8 +9,6 @@ use Rattle.table_slots.specs.Inner.{mark}
 use Rattle.table_slots.proofs.Marks.{mark_of}
 use Rattle.table.proofs.Calls.{slot_read}
 use Rattle.table_indexed.specs.Private.{in_slot}
-use Rattle.table_indexed.specs.declared.Found.{Found}
-use borrow.Author.Rules.{rules}
 use Rattle.table_indexed.proofs.in_slot.Goals as goal
 
 pub returns-then-i-ge-SLOTS : goal.returns-then-i-ge-SLOTS

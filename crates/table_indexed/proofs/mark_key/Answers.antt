@@ -2,7 +2,6 @@
 -- Assumes nothing.
 use borrow.Author.Tests.{eq-eqb, ne_eqb}
 use Rattle.table_indexed.specs.Private.{mark_key}
-use borrow.Author.Rules.{rules}
 use Rattle.table_indexed.proofs.mark_key.Goals as goal
 
 pub returns-then-mark-eq0 : goal.returns-then-mark-eq0

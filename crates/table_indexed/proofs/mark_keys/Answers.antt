@@ -1,11 +1,8 @@
 -- `table_indexed::mark_keys` meets its contract: the places passed have the keys of their marks.
 -- Assumes nothing.
-use Prim.Native.Nat.{◌-◌, ◌≤◌}
 use native.Mathlib.Omega.{arith}
-use mathlib.Core.Path.{◌≡◌, refl}
-use mathlib.Core.List.{◌++◌}
-use lib.ListN.{length, drop, length-set}
-use Rattle.arith.specs.Lists.{up_to}
+use mathlib.Core.Path.{refl}
+use lib.ListN.{length-set}
 use Rattle.arith.proofs.Lists.{fill-turn, fill_done}
 use Rattle.table_slots.specs.Slots.{slots}
 use Rattle.table_index.specs.Change.{zeros}

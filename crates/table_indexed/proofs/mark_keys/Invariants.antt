@@ -1,12 +1,10 @@
 -- `table_indexed::mark_keys` meets its contract: the places passed have the keys of their marks.
 -- Assumes nothing.
 use Prim.Native.Nat.{◌-◌, ◌≤◌}
-use native.Mathlib.Omega.{arith}
-use mathlib.Core.Path.{◌≡◌, refl}
+use mathlib.Core.Path.{◌≡◌}
 use mathlib.Core.List.{◌++◌}
-use lib.ListN.{length, drop, length-set}
+use lib.ListN.{length, drop}
 use Rattle.arith.specs.Lists.{up_to}
-use Rattle.arith.proofs.Lists.{fill-turn, fill_done}
 use Rattle.table_slots.specs.Slots.{slots}
 use Rattle.table_index.specs.Change.{zeros}
 use Rattle.table_indexed.specs.Private.{mark_key_at}

@@ -5,7 +5,6 @@ use Rattle.table.specs.Table.{find_refusal}
 use Rattle.table.proofs.Calls.{remove-kept}
 use Rattle.table_index.specs.Change.{deleted}
 use Rattle.table_indexed.proofs.Calls.{remove-disagrees, remove-refused, remove-done}
-use borrow.Author.Rules.{rules}
 use Rattle.table_indexed.proofs.remove.Goals as goal
 
 pub returns-then-a-ne0 : goal.returns-then-a-ne0

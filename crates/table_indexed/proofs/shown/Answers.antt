@@ -6,7 +6,6 @@ use mathlib.Core.Path.{◌≡◌, refl, ap, ◌∙◌}
 use lib.ListN.{length, take, drop}
 use Rattle.table_indexed.specs.Find.{part_length, part}
 use Rattle.table_indexed.proofs.Calls.{says, part-fits}
-use borrow.Author.Rules.{rules}
 use Rattle.table_indexed.proofs.shown.Goals as goal
 
 pub overflow_add-e : goal.overflow_add-e

@@ -1,12 +1,11 @@
 -- `table_indexed::store` meets its contract: each return is a case of what store answers.
 -- Assumes nothing.
-use mathlib.Core.Path.{◌≡◌, sym, ap, ◌∙◌}
+use mathlib.Core.Path.{◌≡◌, sym, ◌∙◌}
 use Rattle.table.specs.Table.{store_refusal}
 use Rattle.table.specs.Inner.{Marked}
 use Rattle.table.proofs.Calls.{store_kept}
 use Rattle.table_indexed.proofs.Slots.{checked-well}
 use Rattle.table_indexed.proofs.Calls.{agrees-passed, store-passed, entry-added, store-disagrees, store-refused, store-done}
-use borrow.Author.Rules.{rules}
 use Rattle.table_indexed.proofs.store.Goals as goal
 
 pub returns-then-a-ne0 : goal.returns-then-a-ne0

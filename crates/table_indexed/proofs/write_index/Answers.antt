@@ -1,12 +1,11 @@
 -- `table_indexed::write_index` meets its contract: each return is a case of what the call answers.
 -- Assumes nothing.
 use Prim.Native.Nat.{ℕ}
-use mathlib.Core.Path.{◌≡◌, sym, ap, ◌∙◌}
+use mathlib.Core.Path.{sym, ap, ◌∙◌}
 use mathlib.Core.List.{List}
 use Rattle.table_index.specs.Change.{rebuilt}
 use Rattle.table_indexed.proofs.Slots.{row-keys, ill-table, well-table}
 use Rattle.table_indexed.proofs.Calls.{write-table, write-other, write_done}
-use borrow.Author.Rules.{rules}
 use Rattle.table_indexed.proofs.write_index.Goals as goal
 
 pub returns-then-row-eq-NO_TAG : goal.returns-then-row-eq-NO_TAG

@@ -2,7 +2,6 @@
 -- Assumes nothing.
 use borrow.Author.Tests.{eq-eqb, ne_eqb}
 use Rattle.table_slots.specs.Inner.{flawed_mark}
-use borrow.Author.Rules.{rules}
 use Rattle.table_slots.proofs.flawed_mark.Goals as goal
 
 pub returns-then-g-eq-NO_TAG : goal.returns-then-g-eq-NO_TAG

@@ -3,7 +3,6 @@
 use mathlib.Core.Path.{ap, ◌∙◌}
 use Rattle.table_slots.specs.Inner.{mark, mark_at}
 use Rattle.table_slots.proofs.Slot.{part-slot}
-use borrow.Author.Rules.{rules}
 use Rattle.table_slots.proofs.mark_at.Goals as goal
 
 pub returns : goal.returns

@@ -1,12 +1,9 @@
 -- `table_slots::mark_before` meets its contract: none of the places passed has the mark.
 -- Assumes nothing.
 use Prim.Native.Nat.{◌-◌, ◌≤◌}
-use native.Mathlib.Omega.{arith}
-use mathlib.Core.Path.{◌≡◌, sym, ◌∙◌}
-use borrow.Author.Tests.{eq-eqb, ne_eqb}
+use mathlib.Core.Path.{◌≡◌}
 use Rattle.arith.specs.Places.{first_of}
 use Rattle.table_slots.specs.Inner.{has_mark, mark_place}
-use Rattle.arith.proofs.Places.{round-hit, round-on, round-end}
 use Rattle.table_slots.proofs.mark_before.Given as goal
 
 abbrev pub invariant-loop-at : goal.invariant-loop-at

@@ -1,7 +1,6 @@
 -- `table_slots::mark_of` meets its contract: the mark of a slot of the table, none elsewhere.
 -- Assumes nothing.
 use mathlib.Core.Path.{sym, ◌∙◌}
-use borrow.Author.Rules.{rules}
 use Rattle.table_slots.specs.Inner.{mark_at}
 use Rattle.table_slots.proofs.Marks.{mark_of, mark-behind, mark-other}
 use Rattle.table_slots.proofs.mark_of.Goals as goal

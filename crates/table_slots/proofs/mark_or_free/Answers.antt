@@ -3,7 +3,6 @@
 use borrow.Author.Tests.{lt-ltb, le-ltb}
 use Rattle.table_slots.specs.Slots.{slots, most}
 use Rattle.table_slots.specs.Inner.{mark_or_free}
-use borrow.Author.Rules.{rules}
 use Rattle.table_slots.proofs.mark_or_free.Goals as goal
 
 pub returns-then-i-lt-SLOTS : goal.returns-then-i-lt-SLOTS

@@ -4,12 +4,10 @@ use Prim.Native.Nat.{suc, ◌+◌}
 use native.Mathlib.Omega.{arith}
 use mathlib.Core.Path.{sym, ap, ◌∙◌}
 use lib.ListN.{get_or}
-use borrow.Author.Tests.{not-true, not-false}
 use Rattle.message_rows.specs.Message.{refusal, header}
 use Rattle.table_slots.specs.Slots.{key, joined, all_zero, held}
 use Rattle.table_slots.proofs.Slot.{part_held, part-rest, tag_free, tag-used, well-free, ill-owner, ill-long, ill-rest, ill-refused, well-used}
 use Rattle.table_slots.proofs.Marks.{mark-well, mark-ill, header-refusal, header-tag}
-use borrow.Author.Rules.{rules}
 use Rattle.table_slots.proofs.slot_mark.Goals as goal
 
 pub overflow_cast-n : goal.overflow_cast-n

@@ -1,12 +1,9 @@
 -- `table_slots::table_marks` meets its contract: the places passed have the marks of their slots.
 -- Assumes nothing.
-use Prim.Native.Nat.{◌-◌, ◌≤◌}
 use native.Mathlib.Omega.{arith}
-use mathlib.Core.Path.{◌≡◌, refl, ◌∙◌}
-use mathlib.Core.List.{◌++◌}
-use lib.ListN.{length, drop, replicate, length-set}
+use mathlib.Core.Path.{refl, ◌∙◌}
+use lib.ListN.{length, replicate, length-set}
 use borrow.Author.Tests.{eq-eqb, ne_eqb}
-use Rattle.arith.specs.Lists.{up_to}
 use Rattle.arith.proofs.Lists.{fill-turn, fill_done}
 use Rattle.table_slots.specs.Slots.{slots, table_size}
 use Rattle.table_slots.specs.Inner.{no_tag, mark_at, marks}

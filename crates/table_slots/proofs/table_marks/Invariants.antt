@@ -1,15 +1,12 @@
 -- `table_slots::table_marks` meets its contract: the places passed have the marks of their slots.
 -- Assumes nothing.
 use Prim.Native.Nat.{◌-◌, ◌≤◌}
-use native.Mathlib.Omega.{arith}
-use mathlib.Core.Path.{◌≡◌, refl, ◌∙◌}
+use mathlib.Core.Path.{◌≡◌}
 use mathlib.Core.List.{◌++◌}
-use lib.ListN.{length, drop, replicate, length-set}
-use borrow.Author.Tests.{eq-eqb, ne_eqb}
+use lib.ListN.{length, drop, replicate}
 use Rattle.arith.specs.Lists.{up_to}
-use Rattle.arith.proofs.Lists.{fill-turn, fill_done}
 use Rattle.table_slots.specs.Slots.{slots, table_size}
-use Rattle.table_slots.specs.Inner.{no_tag, mark_at, marks}
+use Rattle.table_slots.specs.Inner.{no_tag, mark_at}
 use Rattle.table_slots.proofs.table_marks.Given as goal
 
 abbrev pub invariant-loop-i : goal.invariant-loop-i

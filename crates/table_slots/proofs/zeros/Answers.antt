@@ -1,12 +1,10 @@
 -- `table_slots::zeros` meets its contract: the greatest of the bytes passed, and what is left.
 -- Assumes nothing.
-use Prim.Native.Nat.{◌-◌, ◌≤◌}
 use native.Mathlib.Omega.{arith}
 use mathlib.Core.Path.{◌≡◌, refl, sym, ap, ◌∙◌}
 use mathlib.Core.Bool.{Bool, true, false, ◌&&◌, and_assoc}
 use lib.Dec.{eqb}
-use lib.ListN.{length, drop, get_or}
-use Rattle.table_slots.specs.Slots.{all_zero}
+use lib.ListN.{get_or}
 use Rattle.table_slots.proofs.Slot.{zero-on, zero-end}
 use Rattle.table_slots.proofs.zeros.Goals as goal
 
