@@ -2,13 +2,13 @@
 -- Assumes nothing.
 use Prim.Native.Nat.{ℕ, zero, suc, ◌+◌, ◌-◌, ◌*◌, ◌/◌, ◌^◌, ◌<◌}
 use native.Mathlib.Omega.{arith}
-use native.Mathlib.Nat.{le_of_suc-le-suc, not-suc-le-zero, le_refl}
+use native.Mathlib.Nat.{le_of_suc-le-suc, not-suc-le-zero}
 use mathlib.Core.Path.{◌≡◌, refl, sym, ap, subst, ◌∙◌}
 use mathlib.Core.Bool.{Bool, true, false, true≢false, not, cond, ◌&&◌, ◌||◌}
-use mathlib.Core.List.{List, [], ◌∷◌, ◌++◌}
+use mathlib.Core.List.{List, [], ◌∷◌}
 use mathlib.Core.Logic.{◌⊎◌, inl, inr}
 use borrow.Author.Tests.{eq-eqb, ne_eqb, eqb-true, le-ltb}
-use lib.Dec.{eqb, leb, ltb}
+use lib.Dec.{eqb, leb}
 use lib.IntN.{ℤ, pos, neg_ℤ, nat_abs}
 use lib.ListN.{length, get_or}
 use Rattle.arith.specs.First.{first}
@@ -18,7 +18,7 @@ use Rattle.arith.proofs.First.{passed, passes, or-false, not-false}
 use Rattle.field.specs.Field.{signed_of, twos}
 use Rattle.field.specs.declared.Reading.{Reading}
 use Rattle.field.specs.declared.Reading.TheVariants.{Value, Absent}
-use Rattle.layout.specs.Layout.{width, signed, limit, takes, value_in, present_in, available, reading_in, place_takes, row_takes, row_of, answered}
+use Rattle.layout.specs.Layout.{width, signed, value_in, present_in, available, place_takes, row_takes, row_of, answered}
 use Rattle.layout.specs.Inner.{encode_refusal}
 use Rattle.layout.proofs.Round.{row_in, unsigned-value}
 use Rattle.layout_writer.proofs.Answer.{write-range}
@@ -29,7 +29,7 @@ use Rattle.record_grids.specs.Grids.{origin_at, spacing_at, shifts_at, nodes_at,
 use Rattle.grid_refusals.specs.Refusals.{field_tests}
 use Rattle.record_projections.specs.Projections.{projection_of, projection_row, lambert_of, lambert_row, oblique_mercator_of, oblique_mercator_row}
 use Rattle.record_rows.specs.Numbers.{says, number_at, values_of, present_of, pair_at}
-use Rattle.message_rows.specs.Message.{tests, number_of, refusal, row, layout, kind_refusal, kind_row, row_layout, row_tests, write_refusal, of_kind, kind_write_refusal, write_kind}
+use Rattle.message_rows.specs.Message.{tests, number_of, row, layout, kind_refusal, kind_row, row_layout, row_tests, write_refusal, of_kind, kind_write_refusal, write_kind}
 use Rattle.message_rows.proofs.Trips.{row-taken, row-place}
 use Rattle.message_rows.proofs.Rows.{row-layout-most}
 use Rattle.message_records.specs.Kinds.{read_helmert, read_molodenski_badekas, read_grid, read_projection, read_lambert, read_oblique_mercator, good_names}

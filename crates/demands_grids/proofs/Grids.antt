@@ -1,6 +1,6 @@
 -- The demands on the shift hold: each statement of specs/Grids.antt, from the laws of grid_bilinear and grid_shifts.
 -- Assumes nothing.
-use Prim.Native.Nat.{ℕ, ◌+◌, ◌-◌, ◌*◌}
+use Prim.Native.Nat.{ℕ, ◌-◌, ◌*◌}
 use native.Mathlib.Nat.{mul-pos}
 use native.Mathlib.Omega.{arith}
 use mathlib.Core.Path.{◌≡◌, refl, sym, ap, subst, ◌∙◌}
@@ -38,7 +38,7 @@ use Rattle.message_rows.proofs.Trips.{row_number}
 use Rattle.grid_place.proofs.Antimeridian.{turns_of, turned_same, turned-low, turned-high, turned-only}
 use Rattle.grid_shifts.proofs.BothLongitudes.{plane, both-sides}
 use Rattle.grid_shifts.proofs.Calls.{shared-answer, calls-agree, count-lossless, sum-below-limit}
-use Rattle.demands_grids.specs.Grids.{grid_at, surface_at, north_steps, east_steps, with_nodes, AnsweredAt, exact_at, GridAnswer, SharedEdges, BothCalls, HeldIsWritten, SameWeighted, OnlyWeighted, Lossless, SumBound, AllPresent, steps_north, steps_east, Lipschitz, BoundBetween, ReadsAs, ThreeParts, ComponentNeverGiven, PlainSteps, plain_east, EastTurned, BothLongitudes}
+use Rattle.demands_grids.specs.Grids.{grid_at, surface_at, north_steps, east_steps, with_nodes, AnsweredAt, exact_at, GridAnswer, SharedEdges, BothCalls, HeldIsWritten, SameWeighted, OnlyWeighted, Lossless, SumBound, steps_north, steps_east, Lipschitz, BoundBetween, ReadsAs, ThreeParts, ComponentNeverGiven, PlainSteps, plain_east, EastTurned, BothLongitudes}
 
 -- the refusal answered is the one defined
 refusal_is : (s : List ℕ) (c : ℕ) (n e : ℤ) → AnsweredAt s c n e → shift_refusal s c n e ≡ 0

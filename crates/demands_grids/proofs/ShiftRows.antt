@@ -1,29 +1,29 @@
 -- The demands on rows of shifts hold: each statement of specs/ShiftRows.antt, from the laws of grid_row_refusals and grid_shifts.
 -- Assumes nothing.
-use Prim.Native.Nat.{ℕ, zero, suc, ◌+◌, ◌-◌, ◌≤◌, ◌<◌}
+use Prim.Native.Nat.{ℕ, ◌+◌, ◌-◌, ◌≤◌, ◌<◌}
 use native.Mathlib.Omega.{arith}
-use mathlib.Core.Path.{◌≡◌, refl, sym, ap, ◌∙◌, subst}
-use mathlib.Core.Bool.{Bool, true, false, not, cond, ◌||◌}
+use mathlib.Core.Path.{◌≡◌, refl, sym, ap, ◌∙◌}
+use mathlib.Core.Bool.{Bool, true, false, not, ◌||◌}
 use mathlib.Core.List.{List, [], ◌∷◌, ◌++◌}
 use borrow.Author.Tests.{lt-ltb, le-ltb, eq-eqb, ne_eqb}
-use lib.Dec.{eqb, ltb}
+use lib.Dec.{ltb}
 use lib.IntN.{ℤ, pos, negsuc, neg_ℤ, ◌+ℤ◌, ◌*ℤ◌}
 use lib.ListN.{length, drop, length-append, length-drop, get_or-append}
 use lib.Seq.{get_or-append-add, get_or-drop}
 use lib.Signed.{lt_z, ◌≤ℤ◌}
 use Rattle.arith.specs.First.{first}
-use Rattle.arith.specs.Lists.{up_to, at, all_below}
+use Rattle.arith.specs.Lists.{up_to, at}
 use Rattle.arith.proofs.Int.{not-less}
 use Rattle.arith.proofs.Lists.{length-up_to, get_d-up_to, all_true}
 use Rattle.arith.specs.Whole.{same_z}
 use Rattle.record_rows.specs.Numbers.{says}
 use Rattle.record_grids.specs.declared.Grid.{Grid}
 use Rattle.record_grids.specs.Grids.{grid_of, settings_of}
-use Rattle.message_rows.specs.Message.{number_of, row, kind_refusal}
+use Rattle.message_rows.specs.Message.{row, kind_refusal}
 use Rattle.grid_bilinear.specs.Bilinear.{outside, absent}
 use Rattle.grid_refusals.specs.Refusals.{side, origin_available, beyond}
 use Rattle.grid_place.specs.Position.{height_of, width_of, north_from, east_from}
-use Rattle.grid_shifts.specs.Shift.{surface, north_of, east_of, outcome, shift_with, shift_refusal, message_shift}
+use Rattle.grid_shifts.specs.Shift.{surface, north_of, east_of, outcome, shift_with, message_shift}
 use Rattle.grid_shifts.specs.declared.Shift.{Shift}
 use Rattle.grid_shifts.proofs.Accepted.{message-passed}
 use Rattle.grid_shifts.proofs.BothLongitudes.{both-sides}
@@ -31,7 +31,7 @@ use Rattle.grid_row_refusals.specs.ShiftRow.{any_beyond, misplaced, shift_row_re
 use Rattle.grid_row_refusals.specs.Private.{first_refused}
 use Rattle.grid_row_refusals.proofs.Refused.{refused, none-refused, first-refused, refused-same}
 use Rattle.grid_row_refusals.proofs.Order.{Fit, fit, Passed, row-passes, kind-refuses, limits-refuse, places-refuse, room-refuses, none-refuses}
-use Rattle.demands_grids.specs.ShiftRows.{part_at, Equals, RowEqualsCalls, RowRefusedKeeps, Placed, RowNumber, RowNumbers, WholeTurn}
+use Rattle.demands_grids.specs.ShiftRows.{part_at, Equals, RowEqualsCalls, RowRefusedKeeps, Placed, RowNumbers, WholeTurn}
 
 -- ---- the buffer
 

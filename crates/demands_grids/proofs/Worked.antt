@@ -7,7 +7,7 @@ use native.Mathlib.Omega.{arith}
 use Rattle.arith.specs.Whole.{same_z}
 use Rattle.field.specs.Field.{bit_at, field, twos, signed_of}
 use Rattle.layout.specs.Layout.{all_take, total, decode_all, zero_from}
-use Rattle.record_grids.specs.Grids.{grid_of, origin_at, spacing_at, settings_of, shifts_at, shifts_row, nodes_at, nodes_row}
+use Rattle.record_grids.specs.Grids.{grid_of, origin_at, spacing_at, shifts_at, shifts_row, nodes_at, nodes_row}
 use Rattle.record_rows.specs.Numbers.{pair_at}
 use Rattle.layout_tables.specs.Layouts.{layout_of, layout1021, tail1021, layout1023}
 use Rattle.message_rows.specs.Message.{layout, refusal, row}

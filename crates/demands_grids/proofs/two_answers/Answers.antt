@@ -1,10 +1,8 @@
 -- `demands_grids::two_answers` meets its contract: the answers are those of the call, and demand 3 holds of each of their parts.
 -- Assumes nothing.
-use mathlib.Core.Path.{◌≡◌, ap, ◌∙◌}
-use borrow.Author.Rules.{rules}
+use mathlib.Core.Path.{◌≡◌, ◌∙◌}
 use Rattle.arith.proofs.Machine.{is-back}
-use Rattle.grid_shifts.specs.Shift.{three_of, message_shift, message_shifts}
-use Rattle.grid_shifts.specs.declared.ThreeShifts.{ThreeShifts}
+use Rattle.grid_shifts.specs.Shift.{message_shifts}
 use Rattle.demands_grids.proofs.Grids.{lipschitz-answers, parts_are}
 use Rattle.demands_grids.proofs.two_answers.Goals as goal
 
