@@ -21,7 +21,7 @@ returns-then-layout-present c = let a = c.args in sym (uneven a.layout.now a.val
 pub loop-i-preserved : goal.loop-i-preserved
 loop-i-preserved c = let a = c.args in
     let l = c.loop-i in
-    let z = bits-z (get_or a.values.now l.i (pos 0)) (record { sfits = c.takes_place-arg-1.given }) in
+    let z = bits-z (get_or a.values.now l.i (pos 0)) (record { sfits = omega arith }) in
     let e = head-row a.layout.now a.values.now a.present.now l.i (omega arith) (omega arith) (omega arith) in
     let t : place_takes (get_or a.layout.now l.i 0) (get_or a.values.now l.i (pos 0)) (get_or a.present.now l.i 0) ≡ true =
     rw z at (sym c.takes_place-taken.ensures ∙ c.if-taken.true) in
@@ -30,7 +30,7 @@ loop-i-preserved c = let a = c.args in
 pub returns-else-taken : goal.returns-else-taken
 returns-else-taken c = let a = c.args in
     let l = c.loop-i in
-    let z = bits-z (get_or a.values.now l.i (pos 0)) (record { sfits = c.takes_place-arg-1.given }) in
+    let z = bits-z (get_or a.values.now l.i (pos 0)) (record { sfits = omega arith }) in
     let e = head-row a.layout.now a.values.now a.present.now l.i (omega arith) (omega arith) (omega arith) in
     let t : place_takes (get_or a.layout.now l.i 0) (get_or a.values.now l.i (pos 0)) (get_or a.present.now l.i 0) ≡ false =
     rw z at (sym c.takes_place-taken.ensures ∙ c.if-taken.false) in

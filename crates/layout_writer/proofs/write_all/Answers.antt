@@ -25,7 +25,7 @@ write_entry-requires c = let a = c.args in
     let f = at-fits a.layout.now 0 l.at l.i l.invariant.0.place (omega arith) in
     let n = l.invariant.0.sized in
     let t = entry-taken a.s.now a.layout.now a.values.now a.present.now l.s l.at l.i l.invariant.0 (omega arith) (omega arith) (omega arith) in
-    (omega arith, (omega arith, rw (bits-z (get_or a.values.now l.i (pos 0)) (record { sfits = c.write_entry-arg-in-loop-i-1.given })) (of-true t)))
+    (omega arith, (omega arith, rw (bits-z (get_or a.values.now l.i (pos 0)) (record { sfits = omega arith })) (of-true t)))
 
 pub overflow_add-at : goal.overflow_add-at
 overflow_add-at c = let es = c.args.layout.now in
@@ -35,7 +35,7 @@ overflow_add-at c = let es = c.args.layout.now in
 pub loop-i-preserved : goal.loop-i-preserved
 loop-i-preserved c = let a = c.args in
     let l = c.loop-i in
-    let z = bits-z (get_or a.values.now l.i (pos 0)) (record { sfits = c.write_entry-arg-in-loop-i-1.given }) in
+    let z = bits-z (get_or a.values.now l.i (pos 0)) (record { sfits = omega arith }) in
     (writing-goes-on a.s.now a.layout.now a.values.now a.present.now l.s l.at l.i l.invariant.0 c.write_entry.new.s (omega arith) (omega arith) (omega arith) (c.write_entry.ensures ∙ rw z), l.invariant.1)
 
 pub returns : goal.returns
