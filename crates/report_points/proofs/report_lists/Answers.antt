@@ -6,7 +6,6 @@ use mathlib.Core.List.{List}
 use Prim.Native.Nat.{ℕ}
 use lib.IntN.{ℤ}
 use lib.ListN.{length}
-use borrow.Author.Rules.{rules}
 use Rattle.report_update.specs.declared.Report.{Report}
 use Rattle.report_points.specs.Reports.{lists_report, points_of}
 use Rattle.report_points.specs.Private.{start_of, report_from}

@@ -1,11 +1,7 @@
 -- `report_points::start` meets its contract: the code's tests are the definition's.
 -- Assumes nothing.
-use mathlib.Core.Path.{sym, ap, ◌∙◌}
-use mathlib.Core.List.{[]}
-use Prim.Native.Nat.{ℕ}
-use borrow.Author.Rules.{rules}
+use mathlib.Core.Path.{◌∙◌}
 use borrow.Author.Tests.{lt-ltb, le-ltb}
-use Rattle.report_update.specs.Numbers.{report_with}
 use Rattle.report_points.specs.Private.{start_of}
 use Rattle.report_points.proofs.start.Goals as goal
 

@@ -1,7 +1,7 @@
 -- `report_points::step` meets its contract: the code's test is the definition's.
 -- Assumes nothing.
+use native.Mathlib.Omega.{arith}
 use mathlib.Core.Path.{◌∙◌}
-use borrow.Author.Rules.{rules}
 use borrow.Author.Tests.{ne_eqb}
 use Rattle.arith.proofs.Back.{held}
 use Rattle.grid_component.specs.Inner.{counted_by}
@@ -17,8 +17,8 @@ returns-then-r-ne0 c = rw (ne_eqb _ 0 c.if-r-ne0.true)
 pub returns : goal.returns
 returns c = let a = c.args in
     let o = c.count_at-o.result in
-    (λ i. record { refusal = 0; tally = (c.with_outcome.ensures ∙ (λ j. grown_by a.r.tally o.refusal (held o.count c.type_inv.o.1.0.1 j) a.before)) i })
+    (λ i. record { refusal = 0; tally = (c.with_outcome.ensures ∙ (λ j. grown_by a.r.tally o.refusal (held o.count (omega arith) j) a.before)) i })
     ∙ stepped a.r a.message.now a.kept a.component a.p a.before
     (c.count_at-o.ensures
-    ∙ (λ i. counted_by a.message.now a.kept a.component (held a.p.north c.type_inv.p.0.1 i) (held a.p.east c.type_inv.p.1.0.1 i)))
+    ∙ (λ i. counted_by a.message.now a.kept a.component (held a.p.north (omega arith) i) (held a.p.east (omega arith) i)))
     c.if-r-ne0.false

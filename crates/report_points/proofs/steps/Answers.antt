@@ -1,13 +1,12 @@
 -- `report_points::steps` meets its contract. The loop's invariant: the report so far, with the points that are left, comes to the report of all of them.
 -- Assumes nothing.
-use mathlib.Core.Path.{◌≡◌, refl, sym, ap, ◌∙◌}
-use Prim.Native.Nat.{◌≤◌, ◌-◌}
+use mathlib.Core.Path.{refl, sym, ap, ◌∙◌}
 use native.Mathlib.Omega.{arith}
 use lib.IntN.{pos}
-use lib.ListN.{length, get_or, drop}
+use lib.ListN.{get_or}
 use Rattle.report_points.specs.declared.Point.{Point}
 use Rattle.report_points.specs.Reports.{points_of}
-use Rattle.report_points.specs.Private.{step_of, report_from}
+use Rattle.report_points.specs.Private.{step_of}
 use Rattle.report_points.proofs.Walk.{all_done, one_more}
 use Rattle.report_points.proofs.Lists.{points-length, points-at}
 use Rattle.arith.proofs.Back.{held}
@@ -41,7 +40,7 @@ loop-i-preserved c = let a = c.args in
       omega arith,
       one_more a.message.now a.kept a.component ps l.i l.x c.prepared_step-x.result (omega (arith, points-length a.north.now a.east.now c.requires.0))
           (c.prepared_step-x.ensures ∙ ap (λ (p : Point). step_of l.x a.message.now a.kept a.component p l.i)
-          ((λ j. record { north = held (get_or a.north.now l.i (pos 0)) c.prepared_step-arg-1.given j; east = held (get_or a.east.now l.i (pos 0)) c.prepared_step-arg-in-loop-i-1.given j })
+          ((λ j. record { north = held (get_or a.north.now l.i (pos 0)) (omega arith) j; east = held (get_or a.east.now l.i (pos 0)) (omega arith) j })
           ∙ sym (points-at a.north.now a.east.now l.i c.requires.0 (omega arith)))) ∙ l.invariant.1,
     )
 

@@ -1,16 +1,10 @@
 -- `report_points::steps` meets its contract. The loop's invariant: the report so far, with the points that are left, comes to the report of all of them.
 -- Assumes nothing.
-use mathlib.Core.Path.{◌≡◌, refl, sym, ap, ◌∙◌}
+use mathlib.Core.Path.{◌≡◌}
 use Prim.Native.Nat.{◌≤◌, ◌-◌}
-use native.Mathlib.Omega.{arith}
-use lib.IntN.{pos}
-use lib.ListN.{length, get_or, drop}
-use Rattle.report_points.specs.declared.Point.{Point}
+use lib.ListN.{length, drop}
 use Rattle.report_points.specs.Reports.{points_of}
-use Rattle.report_points.specs.Private.{step_of, report_from}
-use Rattle.report_points.proofs.Walk.{all_done, one_more}
-use Rattle.report_points.proofs.Lists.{points-length, points-at}
-use Rattle.arith.proofs.Back.{held}
+use Rattle.report_points.specs.Private.{report_from}
 use Rattle.report_points.proofs.steps.Given as goal
 
 abbrev pub invariant-loop-i : goal.invariant-loop-i

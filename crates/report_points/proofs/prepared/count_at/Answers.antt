@@ -1,10 +1,8 @@
 -- `report_points::prepared::count_at` meets its contract: the numbers serve between their edges, and elsewhere the message does.
 -- Assumes nothing.
-use mathlib.Core.Path.{◌≡◌, sym, ap, ◌∙◌, subst}
+use mathlib.Core.Path.{◌≡◌, sym, ◌∙◌, subst}
 use mathlib.Core.Bool.{false}
-use Prim.Native.Nat.{ℕ, ◌≤◌}
 use native.Mathlib.Omega.{arith}
-use borrow.Author.Rules.{rules}
 use borrow.Author.Tests.{le-ltb}
 use lib.IntN.{ℤ, pos, nat_abs, ◌-ℤ◌}
 use lib.Signed.{lt_z, ◌≤ℤ◌}
@@ -40,15 +38,16 @@ pub overflow_cast-y : goal.overflow_cast-y
 overflow_cast-y c = let p : Prepared = c.args.p in
     let north : Num = any c.args.north c.ranges.north in
     let east : Num = any c.args.east c.ranges.east in
-    let south : Num = any p c.south (record { sfits = c.type_inv.p.0.1 }) in
-    let west : Num = any p c.west (record { sfits = c.type_inv.p.1.1.0.1 }) in
+    let south : Num = any p.south (record { sfits = omega arith }) in
+    let west : Num = any p.west (record { sfits = omega arith }) in
     let between : Between p c.args.north c.args.east = record {
-      south = not-less north south c.if-north-p.left;
-      north = not-less (any p c.north (record { sfits = c.type_inv.p.1.0.1 })) north c.if-p-north.left;
-      west = not-less east west c.if-east-p.left;
-      east = not-less (any p c.east (record { sfits = c.type_inv.p.1.1.1.0.1 })) east c.if-p-east.left;
+      south = not-less north south c.if-north-p.false;
+      north = not-less (any p.north (record { sfits = omega arith })) north c.if-p-north.false;
+      west = not-less east west c.if-east-p.false;
+      east = not-less (any p.east (record { sfits = omega arith })) east c.if-p-east.false;
     } in
-    let y : Num = sub_within north south 122850000 (omega (arith, between_is c.rows, between_is c.high.1)) tt in
+    let between_is : CountBetween c.args.message.now c.args.kept c.args.component p c.args.nodes.now c.args.north c.args.east = c.requires c.args.north c.args.east between in
+    let y : Num = sub_within north south 122850000 (omega (arith, between_is.rows, between_is.high.1)) tt in
     let e = cast-natural y.z y.fit.sfits (from_zero p.south c.args.north between.south) in
     rw y.held (e.0, record { fits = e.1 })
 
@@ -56,15 +55,16 @@ pub overflow_cast-x : goal.overflow_cast-x
 overflow_cast-x c = let p : Prepared = c.args.p in
     let north : Num = any c.args.north c.ranges.north in
     let east : Num = any c.args.east c.ranges.east in
-    let south : Num = any p c.south (record { sfits = c.type_inv.p.0.1 }) in
-    let west : Num = any p c.west (record { sfits = c.type_inv.p.1.1.0.1 }) in
+    let south : Num = any p.south (record { sfits = omega arith }) in
+    let west : Num = any p.west (record { sfits = omega arith }) in
     let between : Between p c.args.north c.args.east = record {
-      south = not-less north south c.if-north-p.left;
-      north = not-less (any p c.north (record { sfits = c.type_inv.p.1.0.1 })) north c.if-p-north.left;
-      west = not-less east west c.if-east-p.left;
-      east = not-less (any p c.east (record { sfits = c.type_inv.p.1.1.1.0.1 })) east c.if-p-east.left;
+      south = not-less north south c.if-north-p.false;
+      north = not-less (any p.north (record { sfits = omega arith })) north c.if-p-north.false;
+      west = not-less east west c.if-east-p.false;
+      east = not-less (any p.east (record { sfits = omega arith })) east c.if-p-east.false;
     } in
-    let x : Num = sub_within east west 122850000 (omega (arith, between_is c.columns, between_is c.wide.1)) tt in
+    let between_is : CountBetween c.args.message.now c.args.kept c.args.component p c.args.nodes.now c.args.north c.args.east = c.requires c.args.north c.args.east between in
+    let x : Num = sub_within east west 122850000 (omega (arith, between_is.columns, between_is.wide.1)) tt in
     let e = cast-natural x.z x.fit.sfits (from_zero p.west c.args.east between.west) in
     rw x.held (e.0, record { fits = e.1 })
 
@@ -72,13 +72,13 @@ pub count_in-requires : goal.count_in-requires
 count_in-requires c = let p : Prepared = c.args.p in
     let north : Num = any c.args.north c.ranges.north in
     let east : Num = any c.args.east c.ranges.east in
-    let south : Num = any p c.south (record { sfits = c.type_inv.p.0.1 }) in
-    let west : Num = any p c.west (record { sfits = c.type_inv.p.1.1.0.1 }) in
+    let south : Num = any p.south (record { sfits = omega arith }) in
+    let west : Num = any p.west (record { sfits = omega arith }) in
     let between : Between p c.args.north c.args.east = record {
-      south = not-less north south c.if-north-p.left;
-      north = not-less (any p c.north (record { sfits = c.type_inv.p.1.0.1 })) north c.if-p-north.left;
-      west = not-less east west c.if-east-p.left;
-      east = not-less (any p c.east (record { sfits = c.type_inv.p.1.1.1.0.1 })) east c.if-p-east.left;
+      south = not-less north south c.if-north-p.false;
+      north = not-less (any p.north (record { sfits = omega arith })) north c.if-p-north.false;
+      west = not-less east west c.if-east-p.false;
+      east = not-less (any p.east (record { sfits = omega arith })) east c.if-p-east.false;
     } in
     let between_is : CountBetween c.args.message.now c.args.kept c.args.component p c.args.nodes.now c.args.north c.args.east = c.requires c.args.north c.args.east between in
     let d = between_is in (d.high.0, d.high.1, d.wide.0, d.wide.1)
@@ -87,30 +87,50 @@ pub returns : goal.returns
 returns c = let p : Prepared = c.args.p in
     let north : Num = any c.args.north c.ranges.north in
     let east : Num = any c.args.east c.ranges.east in
-    let south : Num = any p c.south (record { sfits = c.type_inv.p.0.1 }) in
-    let west : Num = any p c.west (record { sfits = c.type_inv.p.1.1.0.1 }) in
+    let south : Num = any p.south (record { sfits = omega arith }) in
+    let west : Num = any p.west (record { sfits = omega arith }) in
     let between : Between p c.args.north c.args.east = record {
-      south = not-less north south c.if-north-p.left;
-      north = not-less (any p c.north (record { sfits = c.type_inv.p.1.0.1 })) north c.if-p-north.left;
-      west = not-less east west c.if-east-p.left;
-      east = not-less (any p c.east (record { sfits = c.type_inv.p.1.1.1.0.1 })) east c.if-p-east.left;
+      south = not-less north south c.if-north-p.false;
+      north = not-less (any p.north (record { sfits = omega arith })) north c.if-p-north.false;
+      west = not-less east west c.if-east-p.false;
+      east = not-less (any p.east (record { sfits = omega arith })) east c.if-p-east.false;
     } in
     let between_is : CountBetween c.args.message.now c.args.kept c.args.component p c.args.nodes.now c.args.north c.args.east = c.requires c.args.north c.args.east between in
-    let y : Num = sub_within north south 122850000 (omega (arith, between_is c.rows, between_is c.high.1)) tt in
-    let x : Num = sub_within east west 122850000 (omega (arith, between_is c.columns, between_is c.wide.1)) tt in
+    let y : Num = sub_within north south 122850000 (omega (arith, between_is.rows, between_is.high.1)) tt in
+    let x : Num = sub_within east west 122850000 (omega (arith, between_is.columns, between_is.wide.1)) tt in
     (λ i. record { refusal = 0; count = (held c.count_in.result c.count_in.type_inv ∙ c.count_in.ensures ∙ (λ j. count_in p c.args.nodes.now (nat_abs (y.held j)) (nat_abs (x.held j)))) i })
     ∙ sym between_is.count
 
 pub overflow_sub-y : goal.overflow_sub-y
 overflow_sub-y c =
+    let p : Prepared = c.args.p in
     let north : Num = any c.args.north c.ranges.north in
-    let south : Num = any p c.south (record { sfits = c.type_inv.p.0.1 }) in
-    let y : Num = sub_within north south 122850000 (omega (arith, between_is c.rows, between_is c.high.1)) tt in
+    let east : Num = any c.args.east c.ranges.east in
+    let south : Num = any p.south (record { sfits = omega arith }) in
+    let west : Num = any p.west (record { sfits = omega arith }) in
+    let between : Between p c.args.north c.args.east = record {
+      south = not-less north south c.if-north-p.false;
+      north = not-less (any p.north (record { sfits = omega arith })) north c.if-p-north.false;
+      west = not-less east west c.if-east-p.false;
+      east = not-less (any p.east (record { sfits = omega arith })) east c.if-p-east.false;
+    } in
+    let between_is : CountBetween c.args.message.now c.args.kept c.args.component p c.args.nodes.now c.args.north c.args.east = c.requires c.args.north c.args.east between in
+    let y : Num = sub_within north south 122850000 (omega (arith, between_is.rows, between_is.high.1)) tt in
     fits y
 
 pub overflow_sub-x : goal.overflow_sub-x
 overflow_sub-x c =
+    let p : Prepared = c.args.p in
+    let north : Num = any c.args.north c.ranges.north in
     let east : Num = any c.args.east c.ranges.east in
-    let west : Num = any p c.west (record { sfits = c.type_inv.p.1.1.0.1 }) in
-    let x : Num = sub_within east west 122850000 (omega (arith, between_is c.columns, between_is c.wide.1)) tt in
+    let south : Num = any p.south (record { sfits = omega arith }) in
+    let west : Num = any p.west (record { sfits = omega arith }) in
+    let between : Between p c.args.north c.args.east = record {
+      south = not-less north south c.if-north-p.false;
+      north = not-less (any p.north (record { sfits = omega arith })) north c.if-p-north.false;
+      west = not-less east west c.if-east-p.false;
+      east = not-less (any p.east (record { sfits = omega arith })) east c.if-p-east.false;
+    } in
+    let between_is : CountBetween c.args.message.now c.args.kept c.args.component p c.args.nodes.now c.args.north c.args.east = c.requires c.args.north c.args.east between in
+    let x : Num = sub_within east west 122850000 (omega (arith, between_is.columns, between_is.wide.1)) tt in
     fits x
