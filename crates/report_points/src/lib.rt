@@ -20,6 +20,7 @@ pub struct Point {
 }
 
 // The report before the first of so many points.
+#[tactic(auto, unfolding(crate::specs::Private::start_of))]
 fn start(component: u8, points: usize) -> Report
     ensures { result ≡ start_of component points }
 {

