@@ -69,6 +69,7 @@ pub struct Shifts {
 }
 
 // The unit of a second answer: 0 refused, 1 arc seconds, 2 metres.
+#[tactic(auto, unfolding(crate::specs::Exported::unit_of))]
 fn unit_of(a: Answer) -> u8
     ensures { result ≡ unit_of a }
 {
@@ -81,6 +82,7 @@ fn unit_of(a: Answer) -> u8
 
 // The three shifts at a position.
 #[unsafe(no_mangle)]
+#[tactic(auto, unfolding(crate::specs::Exported::exported_shifts))]
 pub extern "C" fn tarnoklej_shifts_at(s: &[u8], north: i64, east: i64) -> Shifts
     ensures { result ≡ exported_shifts s.now north east }
 {
