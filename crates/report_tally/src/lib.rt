@@ -29,6 +29,7 @@ fn points_in(answered: u64, refused: [u64; 15]) -> u64
 }
 
 // The tally after one point more; COMPONENT or LENGTH with the tally as it was.
+#[tactic(auto, unfolding(crate::specs::Next::next_of, crate::specs::Next::next_refusal))]
 pub fn tally_next(t: Tally, message: &[u8], component: u8, north: i64, east: i64) -> Report
     ensures { result ≡ next_of t message.now component north east }
 {

@@ -1,10 +1,10 @@
 -- `report_tally::points_in` meets its contract. The loop's invariant: n is the points answered and those refused under the numbers passed, fewer than 10,000.
 -- Assumes nothing.
-use mathlib.Core.Path.{◌≡◌, sym, ap, ◌∙◌}
-use Prim.Native.Nat.{ℕ, ◌+◌, ◌-◌, ◌≤◌, ◌<◌}
+use mathlib.Core.Path.{◌≡◌, ap, ◌∙◌}
+use Prim.Native.Nat.{ℕ, ◌+◌, ◌≤◌}
 use native.Mathlib.Omega.{arith}
 use native.Mathlib.Numerals.{add-one}
-use lib.ListN.{length, get_or, take}
+use lib.ListN.{length, take}
 use Rattle.report_update.specs.Numbers.{total}
 use Rattle.report_tally.proofs.Totals.{over, capped, total-one, total-part, total-all}
 use Rattle.report_tally.proofs.points_in.Goals as goal
