@@ -40,6 +40,9 @@ def clashes(texts):
 
 
 def main():
+    if any(word in ("-h", "--help") for word in sys.argv[1:]):
+        print(__doc__)
+        return 0
     check = "--check" in sys.argv[1:]
     texts = {f: open(f, encoding="utf-8").read() for f in files()}
     names = {t for text in texts.values() for t in CAMEL.findall(text)} - STANDARD

@@ -28,6 +28,9 @@ def respelled(text):
 
 
 def main():
+    if any(word in ("-h", "--help") for word in sys.argv[1:]):
+        print(__doc__)
+        return 0
     left = 0
     for path in sorted(glob.glob("crates/*/must-fail/*.edit")):
         with open(path, encoding="utf-8") as f:

@@ -9,6 +9,7 @@ use std::io;
 use std::io::Read;
 
 // Reads until the buffer is full or the stream ends, and answers how many bytes were read: they stand at the buffer's front.
+// Not determined: what stands behind them, and the whole buffer after an error, which are as the reader left them.
 pub fn read_full<R: Read>(reader: &mut R, bytes: &mut [u8]) -> io::Result<usize>
     ensures in_bounds { ReadsAtMost result bytes.new }
     ensures taken { IfOk result (λ n. Consumes (R.remaining reader.old) (R.remaining reader.new) (take n bytes.new)) }
