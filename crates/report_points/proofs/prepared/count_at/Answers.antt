@@ -2,17 +2,22 @@
 -- Assumes nothing.
 use mathlib.Core.Path.{◌≡◌, sym, ◌∙◌, subst}
 use mathlib.Core.Bool.{false}
+use mathlib.Core.List.{List}
+use Prim.Native.Nat.{ℕ, ◌<◌, ◌^◌}
 use native.Mathlib.Omega.{arith}
 use borrow.Author.Tests.{le-ltb}
 use lib.IntN.{ℤ, pos, nat_abs, ◌-ℤ◌}
-use lib.Signed.{lt_z, ◌≤ℤ◌}
+use lib.Signed.{mag, lt_z, ◌≤ℤ◌}
+use mir.Syntax.{w64}
+use mir.Val.{SFits, of_z, to_z}
 use Rattle.arith.proofs.Back.{held}
 use Rattle.arith.proofs.Int.{at, nat, ◌⊟◌, order, known, abs-above}
 use Rattle.arith.proofs.Machine.{Num, any, sub_within, fits, not-less, is-back}
 use Rattle.arith.proofs.Whole.{cast-natural}
 use Rattle.grid_component.specs.Inner.{counted_by}
+use Rattle.grid_component.specs.declared.Kept.{Kept}
 use Rattle.report_prepared.specs.declared.Prepared.{Prepared}
-use Rattle.report_prepared.specs.Private.{Between, CountBetween, count_in}
+use Rattle.report_prepared.specs.Private.{Between, CountBetween, Serves, count_in}
 use Rattle.report_points.proofs.prepared.count_at.Goals as goal
 
 -- by the message
@@ -34,103 +39,70 @@ from_zero a b h =
     subst (λ (z : ℤ). lt_z z (pos 0) ≡ false) (sym (abs-above (order (nat 0) (at b ⊟ at a) (omega (arith, known (at a) (at b) h)))))
     (le-ltb (nat_abs (b -ℤ a)) 0 (omega arith))
 
-pub overflow_cast-y : goal.overflow_cast-y
-overflow_cast-y c = let p : Prepared = c.args.p in
-    let north : Num = any c.args.north c.ranges.north in
-    let east : Num = any c.args.east c.ranges.east in
-    let south : Num = any p.south (record { sfits = omega arith }) in
-    let west : Num = any p.west (record { sfits = omega arith }) in
-    let between : Between p c.args.north c.args.east = record {
-      south = not-less north south c.if-north-p.false;
-      north = not-less (any p.north (record { sfits = omega arith })) north c.if-p-north.false;
-      west = not-less east west c.if-east-p.false;
-      east = not-less (any p.east (record { sfits = omega arith })) east c.if-p-east.false;
+-- a test in the code that was false
+abbrev Fails : ℤ → ℤ → Type 0
+Fails a b = lt_z (to_z w64 (of_z w64 a)) (to_z w64 (of_z w64 b)) ≡ false
+
+-- the edges are numbers of 64 bits
+abbrev Edges : Prepared → Type 0
+Edges p = (mag p.south < 2 ^ 63) × (mag p.north < 2 ^ 63) × (mag p.west < 2 ^ 63) × (mag p.east < 2 ^ 63)
+
+-- what is known once the four tests were false
+record Served (s : List ℕ) (kept : Kept) (k : ℕ) (p : Prepared) (nodes : List ℤ) (n e : ℤ) : Type 0 where
+  north : SFits w64 n
+  east : SFits w64 e
+  south : SFits w64 p.south
+  west : SFits w64 p.west
+  between : Between p n e
+  is : CountBetween s kept k p nodes n e
+
+served : {s : List ℕ} {kept : Kept} {k : ℕ} {nodes : List ℤ} {n e : ℤ} (p : Prepared) → Edges p → SFits w64 n → SFits w64 e
+    → Fails n p.south → Fails p.north n → Fails e p.west → Fails p.east e → Serves s kept k p nodes → Served s kept k p nodes n e
+served {n = n} {e = e} p edges north east not-south not-north not-west not-east serves =
+    let fs : SFits w64 p.south = record { sfits = edges.0 } in
+    let fw : SFits w64 p.west = record { sfits = edges.2 } in
+    let between : Between p n e = record {
+      south = not-less (any n north) (any p.south fs) not-south;
+      north = not-less (any p.north (record { sfits = edges.1 })) (any n north) not-north;
+      west = not-less (any e east) (any p.west fw) not-west;
+      east = not-less (any p.east (record { sfits = edges.3 })) (any e east) not-east;
     } in
-    let between_is : CountBetween c.args.message.now c.args.kept c.args.component p c.args.nodes.now c.args.north c.args.east = c.requires c.args.north c.args.east between in
-    let y : Num = sub_within north south 122850000 (omega (arith, between_is.rows, between_is.high.1)) tt in
-    let e = cast-natural y.z y.fit.sfits (from_zero p.south c.args.north between.south) in
-    rw y.held (e.0, record { fits = e.1 })
+    record { north = north; east = east; south = fs; west = fw; between = between; is = serves n e between }
+
+-- the steps from the southern and from the western edge
+module _ {s : List ℕ} {kept : Kept} {k : ℕ} {p : Prepared} {nodes : List ℤ} {n e : ℤ} (d : Served s kept k p nodes n e) where
+  abbrev y-of : Num
+  y-of = sub_within (any n d.north) (any p.south d.south) 122850000 (omega (arith, d.is.rows, d.is.high.1)) tt
+
+  abbrev x-of : Num
+  x-of = sub_within (any e d.east) (any p.west d.west) 122850000 (omega (arith, d.is.columns, d.is.wide.1)) tt
+
+pub overflow_cast-y : goal.overflow_cast-y
+overflow_cast-y c =
+    let d = served c.args.p (omega arith) c.ranges.north c.ranges.east c.if-north-p.false c.if-p-north.false c.if-east-p.false c.if-p-east.false c.requires in
+    let e = cast-natural (y-of d).z (y-of d).fit.sfits (from_zero c.args.p.south c.args.north d.between.south) in
+    rw (y-of d).held (e.0, record { fits = e.1 })
 
 pub overflow_cast-x : goal.overflow_cast-x
-overflow_cast-x c = let p : Prepared = c.args.p in
-    let north : Num = any c.args.north c.ranges.north in
-    let east : Num = any c.args.east c.ranges.east in
-    let south : Num = any p.south (record { sfits = omega arith }) in
-    let west : Num = any p.west (record { sfits = omega arith }) in
-    let between : Between p c.args.north c.args.east = record {
-      south = not-less north south c.if-north-p.false;
-      north = not-less (any p.north (record { sfits = omega arith })) north c.if-p-north.false;
-      west = not-less east west c.if-east-p.false;
-      east = not-less (any p.east (record { sfits = omega arith })) east c.if-p-east.false;
-    } in
-    let between_is : CountBetween c.args.message.now c.args.kept c.args.component p c.args.nodes.now c.args.north c.args.east = c.requires c.args.north c.args.east between in
-    let x : Num = sub_within east west 122850000 (omega (arith, between_is.columns, between_is.wide.1)) tt in
-    let e = cast-natural x.z x.fit.sfits (from_zero p.west c.args.east between.west) in
-    rw x.held (e.0, record { fits = e.1 })
+overflow_cast-x c =
+    let d = served c.args.p (omega arith) c.ranges.north c.ranges.east c.if-north-p.false c.if-p-north.false c.if-east-p.false c.if-p-east.false c.requires in
+    let e = cast-natural (x-of d).z (x-of d).fit.sfits (from_zero c.args.p.west c.args.east d.between.west) in
+    rw (x-of d).held (e.0, record { fits = e.1 })
 
 pub count_in-requires : goal.count_in-requires
-count_in-requires c = let p : Prepared = c.args.p in
-    let north : Num = any c.args.north c.ranges.north in
-    let east : Num = any c.args.east c.ranges.east in
-    let south : Num = any p.south (record { sfits = omega arith }) in
-    let west : Num = any p.west (record { sfits = omega arith }) in
-    let between : Between p c.args.north c.args.east = record {
-      south = not-less north south c.if-north-p.false;
-      north = not-less (any p.north (record { sfits = omega arith })) north c.if-p-north.false;
-      west = not-less east west c.if-east-p.false;
-      east = not-less (any p.east (record { sfits = omega arith })) east c.if-p-east.false;
-    } in
-    let between_is : CountBetween c.args.message.now c.args.kept c.args.component p c.args.nodes.now c.args.north c.args.east = c.requires c.args.north c.args.east between in
-    let d = between_is in (d.high.0, d.high.1, d.wide.0, d.wide.1)
+count_in-requires c =
+    let d = served c.args.p (omega arith) c.ranges.north c.ranges.east c.if-north-p.false c.if-p-north.false c.if-east-p.false c.if-p-east.false c.requires in
+    (d.is.high.0, d.is.high.1, d.is.wide.0, d.is.wide.1)
 
 pub returns : goal.returns
-returns c = let p : Prepared = c.args.p in
-    let north : Num = any c.args.north c.ranges.north in
-    let east : Num = any c.args.east c.ranges.east in
-    let south : Num = any p.south (record { sfits = omega arith }) in
-    let west : Num = any p.west (record { sfits = omega arith }) in
-    let between : Between p c.args.north c.args.east = record {
-      south = not-less north south c.if-north-p.false;
-      north = not-less (any p.north (record { sfits = omega arith })) north c.if-p-north.false;
-      west = not-less east west c.if-east-p.false;
-      east = not-less (any p.east (record { sfits = omega arith })) east c.if-p-east.false;
-    } in
-    let between_is : CountBetween c.args.message.now c.args.kept c.args.component p c.args.nodes.now c.args.north c.args.east = c.requires c.args.north c.args.east between in
-    let y : Num = sub_within north south 122850000 (omega (arith, between_is.rows, between_is.high.1)) tt in
-    let x : Num = sub_within east west 122850000 (omega (arith, between_is.columns, between_is.wide.1)) tt in
-    (λ i. record { refusal = 0; count = (held c.count_in.result c.count_in.type_inv ∙ c.count_in.ensures ∙ (λ j. count_in p c.args.nodes.now (nat_abs (y.held j)) (nat_abs (x.held j)))) i })
-    ∙ sym between_is.count
+returns c =
+    let p : Prepared = c.args.p in
+    let d = served c.args.p (omega arith) c.ranges.north c.ranges.east c.if-north-p.false c.if-p-north.false c.if-east-p.false c.if-p-east.false c.requires in
+    (λ i. record { refusal = 0; count = (held c.count_in.result c.count_in.type_inv ∙ c.count_in.ensures ∙ (λ j. count_in p c.args.nodes.now (nat_abs ((y-of d).held j)) (nat_abs ((x-of d).held j)))) i })
+    ∙ sym d.is.count
 
 pub overflow_sub-y : goal.overflow_sub-y
-overflow_sub-y c =
-    let p : Prepared = c.args.p in
-    let north : Num = any c.args.north c.ranges.north in
-    let east : Num = any c.args.east c.ranges.east in
-    let south : Num = any p.south (record { sfits = omega arith }) in
-    let west : Num = any p.west (record { sfits = omega arith }) in
-    let between : Between p c.args.north c.args.east = record {
-      south = not-less north south c.if-north-p.false;
-      north = not-less (any p.north (record { sfits = omega arith })) north c.if-p-north.false;
-      west = not-less east west c.if-east-p.false;
-      east = not-less (any p.east (record { sfits = omega arith })) east c.if-p-east.false;
-    } in
-    let between_is : CountBetween c.args.message.now c.args.kept c.args.component p c.args.nodes.now c.args.north c.args.east = c.requires c.args.north c.args.east between in
-    let y : Num = sub_within north south 122850000 (omega (arith, between_is.rows, between_is.high.1)) tt in
-    fits y
+overflow_sub-y c = fits (y-of (served c.args.p (omega arith) c.ranges.north c.ranges.east c.if-north-p.false c.if-p-north.false c.if-east-p.false c.if-p-east.false c.requires))
 
 pub overflow_sub-x : goal.overflow_sub-x
-overflow_sub-x c =
-    let p : Prepared = c.args.p in
-    let north : Num = any c.args.north c.ranges.north in
-    let east : Num = any c.args.east c.ranges.east in
-    let south : Num = any p.south (record { sfits = omega arith }) in
-    let west : Num = any p.west (record { sfits = omega arith }) in
-    let between : Between p c.args.north c.args.east = record {
-      south = not-less north south c.if-north-p.false;
-      north = not-less (any p.north (record { sfits = omega arith })) north c.if-p-north.false;
-      west = not-less east west c.if-east-p.false;
-      east = not-less (any p.east (record { sfits = omega arith })) east c.if-p-east.false;
-    } in
-    let between_is : CountBetween c.args.message.now c.args.kept c.args.component p c.args.nodes.now c.args.north c.args.east = c.requires c.args.north c.args.east between in
-    let x : Num = sub_within east west 122850000 (omega (arith, between_is.columns, between_is.wide.1)) tt in
-    fits x
+overflow_sub-x c = fits (x-of (served c.args.p (omega arith) c.ranges.north c.ranges.east c.if-north-p.false c.if-p-north.false c.if-east-p.false c.if-p-east.false c.requires))

@@ -38,166 +38,69 @@ returns c = let p : Prepared = c.args.p in
     ∙ (λ i. count_by g.mean g.factor (corners_of v (row i) (column i))
     (weights_in g.height g.width (a.y - row i * g.height) (a.x - column i * g.width)))
 
+-- along one direction, a cell by what the call says of it
+most : {k : ℕ} (d t : ℕ) → k ≡ cell d t → k ≤ 2
+most d t e = subst (λ (n : ℕ). n ≤ 2) (sym e) (cell-le d t)
+
+from-edge : {k : ℕ} (d t : ℕ) → k ≡ cell d t → k * d ≤ t
+from-edge d t e = subst (λ (n : ℕ). n * d ≤ t) (sym e) (cell-from d t)
+
 pub overflow_sub-south : goal.overflow_sub-south
-overflow_sub-south c =
-    let p : Prepared = c.args.p in
-    let row : c.cell_of-row.result ≡ cell p.height c.args.y = c.cell_of-row.ensures in
-    let rows : c.cell_of-row.result ≤ 2 = subst (λ (k : ℕ). k ≤ 2) (sym row) (cell-le p.height c.args.y) in
-    omega (arith, rows)
+overflow_sub-south c = omega (arith, most _ _ c.cell_of-row.ensures)
 
 pub overflow_sub-north : goal.overflow_sub-north
-overflow_sub-north c =
-    let p : Prepared = c.args.p in
-    let row : c.cell_of-row.result ≡ cell p.height c.args.y = c.cell_of-row.ensures in
-    let rows : c.cell_of-row.result ≤ 2 = subst (λ (k : ℕ). k ≤ 2) (sym row) (cell-le p.height c.args.y) in
-    rows
+overflow_sub-north c = most _ _ c.cell_of-row.ensures
 
 pub overflow_add-n : goal.overflow_add-n
-overflow_add-n c =
-    let p : Prepared = c.args.p in
-    let row : c.cell_of-row.result ≡ cell p.height c.args.y = c.cell_of-row.ensures in
-    let column : c.cell_of-column.result ≡ cell p.width c.args.x = c.cell_of-column.ensures in
-    let rows : c.cell_of-row.result ≤ 2 = subst (λ (k : ℕ). k ≤ 2) (sym row) (cell-le p.height c.args.y) in
-    let columns : c.cell_of-column.result ≤ 2 = subst (λ (k : ℕ). k ≤ 2) (sym column) (cell-le p.width c.args.x) in
-    record { fits = omega (arith, rows, columns) }
+overflow_add-n c = record { fits = omega (arith, most _ _ c.cell_of-row.ensures, most _ _ c.cell_of-column.ensures) }
 
 pub offset_bounds-nodes-south : goal.offset_bounds-nodes-south
-offset_bounds-nodes-south c =
-    let p : Prepared = c.args.p in
-    let row : c.cell_of-row.result ≡ cell p.height c.args.y = c.cell_of-row.ensures in
-    let column : c.cell_of-column.result ≡ cell p.width c.args.x = c.cell_of-column.ensures in
-    let rows : c.cell_of-row.result ≤ 2 = subst (λ (k : ℕ). k ≤ 2) (sym row) (cell-le p.height c.args.y) in
-    let columns : c.cell_of-column.result ≤ 2 = subst (λ (k : ℕ). k ≤ 2) (sym column) (cell-le p.width c.args.x) in
-    record { fits = omega (arith, rows, columns) }
+offset_bounds-nodes-south c = record { fits = omega (arith, most _ _ c.cell_of-row.ensures, most _ _ c.cell_of-column.ensures) }
 
 pub bounds-nodes-south : goal.bounds-nodes-south
-bounds-nodes-south c =
-    let p : Prepared = c.args.p in
-    let row : c.cell_of-row.result ≡ cell p.height c.args.y = c.cell_of-row.ensures in
-    let column : c.cell_of-column.result ≡ cell p.width c.args.x = c.cell_of-column.ensures in
-    let rows : c.cell_of-row.result ≤ 2 = subst (λ (k : ℕ). k ≤ 2) (sym row) (cell-le p.height c.args.y) in
-    let columns : c.cell_of-column.result ≤ 2 = subst (λ (k : ℕ). k ≤ 2) (sym column) (cell-le p.width c.args.x) in
-    omega (arith, rows, columns)
+bounds-nodes-south c = omega (arith, most _ _ c.cell_of-row.ensures, most _ _ c.cell_of-column.ensures)
 
 pub overflow_add-n-2 : goal.overflow_add-n-2
-overflow_add-n-2 c =
-    let p : Prepared = c.args.p in
-    let column : c.cell_of-column.result ≡ cell p.width c.args.x = c.cell_of-column.ensures in
-    let columns : c.cell_of-column.result ≤ 2 = subst (λ (k : ℕ). k ≤ 2) (sym column) (cell-le p.width c.args.x) in
-    record { fits = omega (arith, columns) }
+overflow_add-n-2 c = record { fits = omega (arith, most _ _ c.cell_of-column.ensures) }
 
 pub overflow_add-n-3 : goal.overflow_add-n-3
-overflow_add-n-3 c =
-    let p : Prepared = c.args.p in
-    let row : c.cell_of-row.result ≡ cell p.height c.args.y = c.cell_of-row.ensures in
-    let column : c.cell_of-column.result ≡ cell p.width c.args.x = c.cell_of-column.ensures in
-    let rows : c.cell_of-row.result ≤ 2 = subst (λ (k : ℕ). k ≤ 2) (sym row) (cell-le p.height c.args.y) in
-    let columns : c.cell_of-column.result ≤ 2 = subst (λ (k : ℕ). k ≤ 2) (sym column) (cell-le p.width c.args.x) in
-    record { fits = omega (arith, rows, columns) }
+overflow_add-n-3 c = record { fits = omega (arith, most _ _ c.cell_of-row.ensures, most _ _ c.cell_of-column.ensures) }
 
 pub offset_bounds-nodes-south-2 : goal.offset_bounds-nodes-south-2
-offset_bounds-nodes-south-2 c =
-    let p : Prepared = c.args.p in
-    let row : c.cell_of-row.result ≡ cell p.height c.args.y = c.cell_of-row.ensures in
-    let column : c.cell_of-column.result ≡ cell p.width c.args.x = c.cell_of-column.ensures in
-    let rows : c.cell_of-row.result ≤ 2 = subst (λ (k : ℕ). k ≤ 2) (sym row) (cell-le p.height c.args.y) in
-    let columns : c.cell_of-column.result ≤ 2 = subst (λ (k : ℕ). k ≤ 2) (sym column) (cell-le p.width c.args.x) in
-    record { fits = omega (arith, rows, columns) }
+offset_bounds-nodes-south-2 c = record { fits = omega (arith, most _ _ c.cell_of-row.ensures, most _ _ c.cell_of-column.ensures) }
 
 pub bounds-nodes-south-2 : goal.bounds-nodes-south-2
-bounds-nodes-south-2 c =
-    let p : Prepared = c.args.p in
-    let row : c.cell_of-row.result ≡ cell p.height c.args.y = c.cell_of-row.ensures in
-    let column : c.cell_of-column.result ≡ cell p.width c.args.x = c.cell_of-column.ensures in
-    let rows : c.cell_of-row.result ≤ 2 = subst (λ (k : ℕ). k ≤ 2) (sym row) (cell-le p.height c.args.y) in
-    let columns : c.cell_of-column.result ≤ 2 = subst (λ (k : ℕ). k ≤ 2) (sym column) (cell-le p.width c.args.x) in
-    omega (arith, rows, columns)
+bounds-nodes-south-2 c = omega (arith, most _ _ c.cell_of-row.ensures, most _ _ c.cell_of-column.ensures)
 
 pub overflow_add-n-4 : goal.overflow_add-n-4
-overflow_add-n-4 c =
-    let p : Prepared = c.args.p in
-    let row : c.cell_of-row.result ≡ cell p.height c.args.y = c.cell_of-row.ensures in
-    let column : c.cell_of-column.result ≡ cell p.width c.args.x = c.cell_of-column.ensures in
-    let rows : c.cell_of-row.result ≤ 2 = subst (λ (k : ℕ). k ≤ 2) (sym row) (cell-le p.height c.args.y) in
-    let columns : c.cell_of-column.result ≤ 2 = subst (λ (k : ℕ). k ≤ 2) (sym column) (cell-le p.width c.args.x) in
-    record { fits = omega (arith, rows, columns) }
+overflow_add-n-4 c = record { fits = omega (arith, most _ _ c.cell_of-row.ensures, most _ _ c.cell_of-column.ensures) }
 
 pub offset_bounds-nodes-north : goal.offset_bounds-nodes-north
-offset_bounds-nodes-north c =
-    let p : Prepared = c.args.p in
-    let row : c.cell_of-row.result ≡ cell p.height c.args.y = c.cell_of-row.ensures in
-    let column : c.cell_of-column.result ≡ cell p.width c.args.x = c.cell_of-column.ensures in
-    let rows : c.cell_of-row.result ≤ 2 = subst (λ (k : ℕ). k ≤ 2) (sym row) (cell-le p.height c.args.y) in
-    let columns : c.cell_of-column.result ≤ 2 = subst (λ (k : ℕ). k ≤ 2) (sym column) (cell-le p.width c.args.x) in
-    record { fits = omega (arith, rows, columns) }
+offset_bounds-nodes-north c = record { fits = omega (arith, most _ _ c.cell_of-row.ensures, most _ _ c.cell_of-column.ensures) }
 
 pub bounds-nodes-north : goal.bounds-nodes-north
-bounds-nodes-north c =
-    let p : Prepared = c.args.p in
-    let row : c.cell_of-row.result ≡ cell p.height c.args.y = c.cell_of-row.ensures in
-    let column : c.cell_of-column.result ≡ cell p.width c.args.x = c.cell_of-column.ensures in
-    let rows : c.cell_of-row.result ≤ 2 = subst (λ (k : ℕ). k ≤ 2) (sym row) (cell-le p.height c.args.y) in
-    let columns : c.cell_of-column.result ≤ 2 = subst (λ (k : ℕ). k ≤ 2) (sym column) (cell-le p.width c.args.x) in
-    omega (arith, rows, columns)
+bounds-nodes-north c = omega (arith, most _ _ c.cell_of-row.ensures, most _ _ c.cell_of-column.ensures)
 
 pub overflow_add-n-5 : goal.overflow_add-n-5
-overflow_add-n-5 c =
-    let p : Prepared = c.args.p in
-    let column : c.cell_of-column.result ≡ cell p.width c.args.x = c.cell_of-column.ensures in
-    let columns : c.cell_of-column.result ≤ 2 = subst (λ (k : ℕ). k ≤ 2) (sym column) (cell-le p.width c.args.x) in
-    record { fits = omega (arith, columns) }
+overflow_add-n-5 c = record { fits = omega (arith, most _ _ c.cell_of-column.ensures) }
 
 pub overflow_add-n-6 : goal.overflow_add-n-6
-overflow_add-n-6 c =
-    let p : Prepared = c.args.p in
-    let row : c.cell_of-row.result ≡ cell p.height c.args.y = c.cell_of-row.ensures in
-    let column : c.cell_of-column.result ≡ cell p.width c.args.x = c.cell_of-column.ensures in
-    let rows : c.cell_of-row.result ≤ 2 = subst (λ (k : ℕ). k ≤ 2) (sym row) (cell-le p.height c.args.y) in
-    let columns : c.cell_of-column.result ≤ 2 = subst (λ (k : ℕ). k ≤ 2) (sym column) (cell-le p.width c.args.x) in
-    record { fits = omega (arith, rows, columns) }
+overflow_add-n-6 c = record { fits = omega (arith, most _ _ c.cell_of-row.ensures, most _ _ c.cell_of-column.ensures) }
 
 pub offset_bounds-nodes-north-2 : goal.offset_bounds-nodes-north-2
-offset_bounds-nodes-north-2 c =
-    let p : Prepared = c.args.p in
-    let row : c.cell_of-row.result ≡ cell p.height c.args.y = c.cell_of-row.ensures in
-    let column : c.cell_of-column.result ≡ cell p.width c.args.x = c.cell_of-column.ensures in
-    let rows : c.cell_of-row.result ≤ 2 = subst (λ (k : ℕ). k ≤ 2) (sym row) (cell-le p.height c.args.y) in
-    let columns : c.cell_of-column.result ≤ 2 = subst (λ (k : ℕ). k ≤ 2) (sym column) (cell-le p.width c.args.x) in
-    record { fits = omega (arith, rows, columns) }
+offset_bounds-nodes-north-2 c = record { fits = omega (arith, most _ _ c.cell_of-row.ensures, most _ _ c.cell_of-column.ensures) }
 
 pub bounds-nodes-north-2 : goal.bounds-nodes-north-2
-bounds-nodes-north-2 c =
-    let p : Prepared = c.args.p in
-    let row : c.cell_of-row.result ≡ cell p.height c.args.y = c.cell_of-row.ensures in
-    let column : c.cell_of-column.result ≡ cell p.width c.args.x = c.cell_of-column.ensures in
-    let rows : c.cell_of-row.result ≤ 2 = subst (λ (k : ℕ). k ≤ 2) (sym row) (cell-le p.height c.args.y) in
-    let columns : c.cell_of-column.result ≤ 2 = subst (λ (k : ℕ). k ≤ 2) (sym column) (cell-le p.width c.args.x) in
-    omega (arith, rows, columns)
+bounds-nodes-north-2 c = omega (arith, most _ _ c.cell_of-row.ensures, most _ _ c.cell_of-column.ensures)
 
 pub overflow_mul-row : goal.overflow_mul-row
-overflow_mul-row c =
-    let p : Prepared = c.args.p in
-    let row : c.cell_of-row.result ≡ cell p.height c.args.y = c.cell_of-row.ensures in
-    let rows : c.cell_of-row.result ≤ 2 = subst (λ (k : ℕ). k ≤ 2) (sym row) (cell-le p.height c.args.y) in
-    record { fits = omega (arith, mul-le-mul rows c.requires.1) }
+overflow_mul-row c = record { fits = omega (arith, mul-le-mul (most _ _ c.cell_of-row.ensures) c.requires.1) }
 
 pub overflow_sub-y : goal.overflow_sub-y
-overflow_sub-y c =
-    let p : Prepared = c.args.p in
-    let row : c.cell_of-row.result ≡ cell p.height c.args.y = c.cell_of-row.ensures in
-    let below : c.cell_of-row.result * p.height ≤ c.args.y = subst (λ (k : ℕ). k * p.height ≤ c.args.y) (sym row) (cell-from p.height c.args.y) in
-    below
+overflow_sub-y c = from-edge _ _ c.cell_of-row.ensures
 
 pub overflow_mul-column : goal.overflow_mul-column
-overflow_mul-column c =
-    let p : Prepared = c.args.p in
-    let column : c.cell_of-column.result ≡ cell p.width c.args.x = c.cell_of-column.ensures in
-    let columns : c.cell_of-column.result ≤ 2 = subst (λ (k : ℕ). k ≤ 2) (sym column) (cell-le p.width c.args.x) in
-    record { fits = omega (arith, mul-le-mul columns c.requires.3) }
+overflow_mul-column c = record { fits = omega (arith, mul-le-mul (most _ _ c.cell_of-column.ensures) c.requires.3) }
 
 pub overflow_sub-x : goal.overflow_sub-x
-overflow_sub-x c =
-    let p : Prepared = c.args.p in
-    let column : c.cell_of-column.result ≡ cell p.width c.args.x = c.cell_of-column.ensures in
-    let before-it : c.cell_of-column.result * p.width ≤ c.args.x = subst (λ (k : ℕ). k * p.width ≤ c.args.x) (sym column) (cell-from p.width c.args.x) in
-    before-it
+overflow_sub-x c = from-edge _ _ c.cell_of-column.ensures
