@@ -8,3 +8,4 @@ pub mod First
 pub mod Int
 pub mod Machine
 pub mod Places
+pub mod Numbers

@@ -3,3 +3,4 @@ pub mod Whole
 pub mod First
 pub mod Places
 pub mod Inner
+pub mod Refusals

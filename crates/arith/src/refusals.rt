@@ -1,50 +1,50 @@
-// The refusal numbers: document 01, "Refusal numbers", and document 02 from 19 on. What each means stands in include/tarnoklej.h.
-pub const SHORT: u8 = 1;
+// Why a call is refused: document 01, "Refusal numbers", and document 02 from 19 on. What each means stands in include/tarnoklej.h.
+ghost use Rattle.std.specs.Prelude.{◌≡◌};
+ghost use Rattle.arith.specs.Refusals.{number, outcome_number};
 
-pub const NUMBER: u8 = 2;
+// The numbers stand in the papers' order, from 1.
+#[derive(Clone, Copy, PartialEq, Eq)]
+pub enum Refusal {
+    Short = 1,
+    Number = 2,
+    Length = 3,
+    Fill = 4,
+    Range = 5,
+    Room = 6,
+    Kind = 7,
+    Component = 8,
+    Position = 9,
+    Off = 10,
+    Method = 11,
+    Origin = 12,
+    Spacing = 13,
+    Outside = 14,
+    Absent = 15,
+    Full = 16,
+    None = 17,
+    Table = 18,
+    Need = 19,
+    Noframe = 20,
+    Owner = 21,
+    Index = 22,
+    Nomean = 23,
+    Layout = 24,
+    Claim = 25,
+}
 
-pub const LENGTH: u8 = 3;
+// The number of a refusal.
+pub fn number_of(refusal: Refusal) -> u8
+    ensures { result ≡ number refusal }
+{
+    refusal as u8
+}
 
-pub const FILL: u8 = 4;
-
-pub const RANGE: u8 = 5;
-
-pub const ROOM: u8 = 6;
-
-pub const KIND: u8 = 7;
-
-pub const COMPONENT: u8 = 8;
-
-pub const POSITION: u8 = 9;
-
-pub const OFF: u8 = 10;
-
-pub const METHOD: u8 = 11;
-
-pub const ORIGIN: u8 = 12;
-
-pub const SPACING: u8 = 13;
-
-pub const OUTSIDE: u8 = 14;
-
-pub const ABSENT: u8 = 15;
-
-pub const FULL: u8 = 16;
-
-pub const NONE: u8 = 17;
-
-pub const TABLE: u8 = 18;
-
-pub const NEED: u8 = 19;
-
-pub const NOFRAME: u8 = 20;
-
-pub const OWNER: u8 = 21;
-
-pub const INDEX: u8 = 22;
-
-pub const NOMEAN: u8 = 23;
-
-pub const LAYOUT: u8 = 24;
-
-pub const CLAIM: u8 = 25;
+// The number of an answer: 0 where it is not refused.
+pub fn outcome_number(outcome: Result<(), Refusal>) -> u8
+    ensures { result ≡ outcome_number outcome }
+{
+    match outcome {
+        Ok(()) => 0,
+        Err(refusal) => number_of(refusal),
+    }
+}

@@ -17,6 +17,7 @@ ghost use Rattle.sample_checks.specs.Check.{checked};
 ghost use Rattle.sample_writer.specs.Refusals.{asked_of};
 ghost use Rattle.sample_writer.specs.Write as samples;
 
+use arith::refusals::outcome_number;
 use grid_shifts::Answer;
 
 // The number, the length and the system identification number of a message.
@@ -34,7 +35,7 @@ pub extern "C" fn tarnoklej_read_fields(s: &[u8], values: &mut [i64], present: &
     ensures values { values.new ≡ values_read (row_refusal s.now (length values.old) (length present.old)) s.now values.old }
     ensures present { present.new ≡ present_read (row_refusal s.now (length values.old) (length present.old)) s.now present.old }
 {
-    message_rows::read_row(s, values, present)
+    outcome_number(message_rows::read_row(s, values, present))
 }
 
 // The message of a row, values and presence bytes, in the first bytes of out.
@@ -47,7 +48,7 @@ pub extern "C" fn tarnoklej_write_fields(
     ensures answer { result ≡ (write_row values.now present.now out.old).answer }
     ensures output { out.new ≡ (write_row values.now present.now out.old).output }
 {
-    message_rows::write_row(values, present, out)
+    layout::Written::from(message_rows::write_row(values, present, out))
 }
 
 // The three shifts in arc seconds or metres, with their counts, refusal numbers and units.
@@ -192,7 +193,7 @@ pub extern "C" fn tarnoklej_write_frame(message: &[u8], out: &mut [u8]) -> layou
     ensures answer { result ≡ answered (frame_refusal message.now (length out.old)) (frame message.now) }
     ensures output { out.new ≡ stored (frame_refusal message.now (length out.old)) (frame message.now) out.old }
 {
-    frame_writer::write_frame(message, out)
+    layout::Written::from(frame_writer::write_frame(message, out))
 }
 
 // The datum step of a message 1021 from a position in 0.1 mm.
@@ -219,7 +220,7 @@ pub extern "C" fn tarnoklej_write_heights(
     ensures answer { result ≡ (write_heights values.now present.now wanted.now out.old).answer }
     ensures output { out.new ≡ (write_heights values.now present.now wanted.now out.old).output }
 {
-    heights::write_heights(values, present, wanted, out)
+    layout::Written::from(heights::write_heights(values, present, wanted, out))
 }
 
 // The report of the points whose coordinates stand in two lists, for a message and a component.

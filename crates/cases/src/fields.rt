@@ -1,7 +1,6 @@
 // One field behind its DF number: a space, the number in three digits, `=` and the value.
 use super::output;
 use super::output::Out;
-use field::Reading;
 use record_rows::Pair;
 
 fn put_df(df: u64, out: &mut Out, at: usize) -> usize {
@@ -25,10 +24,10 @@ pub(crate) fn put_number(df: u64, n: i64, out: &mut Out, at: usize) -> usize {
     output::put_whole(out, to, n)
 }
 
-pub(crate) fn put_reading(df: u64, r: Reading, out: &mut Out, at: usize) -> usize {
+pub(crate) fn put_reading(df: u64, r: Option<i64>, out: &mut Out, at: usize) -> usize {
     match r {
-        Reading::Value(n) => put_number(df, n, out, at),
-        Reading::Absent => put_none(df, out, at),
+        Some(n) => put_number(df, n, out, at),
+        None => put_none(df, out, at),
     }
 }
 
@@ -64,9 +63,9 @@ pub(crate) fn put_numbers(
 // Two readings that follow one another.
 pub(crate) fn put_readings(
     first: u64,
-    r: Reading,
+    r: Option<i64>,
     second: u64,
-    q: Reading,
+    q: Option<i64>,
     out: &mut Out,
     at: usize,
 ) -> usize {

@@ -31,10 +31,8 @@ fn put_nodes(
     at: usize,
 ) -> usize {
     let mut to = at;
-    let mut k: usize = 0;
-    while k < 16 {
-        to = put_shifts(north, east, height, nodes[k], out, to);
-        k += 1;
+    for node in nodes {
+        to = put_shifts(north, east, height, node, out, to);
     }
     to
 }
@@ -89,7 +87,7 @@ fn put_grid_fields(r: Grid, out: &mut Out, at: usize) -> usize {
 
 // REFUSAL : FIELDS of the record that the reader of 1023 and 1024 gives.
 pub(crate) fn put_grid(s: &[u8], out: &mut Out, at: usize) -> usize {
-    let r = message_records::read_grid(s);
-    let to = super::fields::put_refusal(r.refusal, out, at);
-    put_grid_fields(r.value, out, to)
+    let (refusal, r) = super::records::given::<Grid>(s);
+    let to = super::fields::put_refusal(refusal, out, at);
+    put_grid_fields(r, out, to)
 }

@@ -4,7 +4,6 @@
 
 mod fields;
 mod grids;
-mod input;
 mod kinds;
 mod lent;
 mod numbers;
@@ -18,7 +17,7 @@ mod shifts;
 mod tallies;
 mod transformations;
 
-use input::Held;
+use line_reads::Lines;
 use output::Out;
 use std::io;
 use std::io::{Read, Write};
@@ -26,43 +25,30 @@ use std::io::{Read, Write};
 const LINES: usize = 40000;
 
 fn main(rt: HostRuntime) -> io::Result<()> {
-    let mut window = [0u8; 4096];
+    let mut lines = Lines::new();
     let mut out = [0u8; 16384];
-    answer_all(&mut rt.stdin(), &mut rt.stdout(), &mut window, &mut out)
+    answer_all(&mut rt.stdin(), &mut rt.stdout(), &mut lines, &mut out)
 }
 
 // Every line of the input, and what is left of the output at the end.
 fn answer_all(
     reader: &mut impl Read,
     writer: &mut impl Write,
-    window: &mut [u8; 4096],
+    lines: &mut Lines,
     out: &mut Out,
 ) -> io::Result<()> {
-    let mut held = Held { from: 0, end: 0 };
     let mut at: usize = 0;
-    let mut rounds: usize = LINES;
-    while rounds > 0 {
-        let got = input::next(reader, window, held)?;
-        if got.ended {
-            return output::write(writer, out, at);
-        }
-        held = got.held;
-        at = answer(writer, window, got.from, got.length, out, at)?;
-        rounds -= 1;
+    for _ in 0..LINES {
+        let Some(line) = lines.next_line(reader)? else {
+            break;
+        };
+        at = answer(writer, lines.text(line), out, at)?;
     }
     output::write(writer, out, at)
 }
 
-// The answer to the line at a place of the window, with its newline.
-fn answer(
-    writer: &mut impl Write,
-    window: &[u8],
-    from: usize,
-    length: usize,
-    out: &mut Out,
-    at: usize,
-) -> io::Result<usize> {
-    let line = text_words::before(text_words::behind(window, from), length);
+// The answer to a line, with its newline.
+fn answer(writer: &mut impl Write, line: &[u8], out: &mut Out, at: usize) -> io::Result<usize> {
     let to = answer_line(line, out, at);
     let to = output::put(out, to, b"\n");
     output::written(writer, out, to)

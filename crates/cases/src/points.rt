@@ -3,16 +3,15 @@ use super::numbers::Values;
 use super::output::Out;
 use report_points::Point;
 use report_update::Report;
-use text_numerals::{Byte, Count};
 
 type Points = [Point; 10001];
 
 pub(crate) fn answer(given: &[u8], out: &mut Out, at: usize) -> usize {
-    let Byte::Is(component) = text_numerals::small(text_words::word(given)) else {
+    let Some(component) = text_numerals::small(text_words::word(given)) else {
         return super::output::bad(out, at);
     };
     let rest = text_words::rest(given);
-    let Count::Is(count) = text_numerals::natural(text_words::word(rest)) else {
+    let Some(count) = text_numerals::natural(text_words::word(rest)) else {
         return super::output::bad(out, at);
     };
     if 10001 < count {
@@ -24,11 +23,11 @@ pub(crate) fn answer(given: &[u8], out: &mut Out, at: usize) -> usize {
 // The message and the points that are given.
 fn answer_list(component: u8, count: usize, given: &[u8], out: &mut Out, at: usize) -> usize {
     let mut bytes = [0u8; 400];
-    let Count::Is(n) = text_numerals::hex(text_words::word(given), &mut bytes) else {
+    let Some(n) = text_numerals::hex(text_words::word(given), &mut bytes) else {
         return super::output::bad(out, at);
     };
     let mut numbers = [0i64; 96];
-    let Count::Is(k) = super::numbers::row(text_words::rest(given), &mut numbers) else {
+    let Some(k) = super::numbers::row(text_words::rest(given), &mut numbers) else {
         return super::output::bad(out, at);
     };
     let points = listed(&numbers, k / 2);
@@ -55,12 +54,10 @@ fn put_report(
 // Points that go through the first `k` of those given over and over.
 fn listed(numbers: &Values, k: usize) -> Points {
     let mut points = [Point { north: 0, east: 0 }; 10001];
-    let mut i: usize = 0;
     let mut j: usize = 0;
-    while i < 10001 {
-        points[i] = point_at(numbers, j);
+    for point in points.iter_mut() {
+        *point = point_at(numbers, j);
         j = following(j, k);
-        i += 1;
     }
     points
 }

@@ -1,13 +1,22 @@
 // `NAME record KIND HEX`: each field of the record that a kind's reader gives, by its DF number.
 use super::output::Out;
-use text_numerals::Count;
+use arith::refusals::number_of;
+use message_records::Record;
+
+// What a kind's reader gives: the refusal number, 0 for none, and the record, which is all zero with a refusal.
+pub(crate) fn given<R: Record>(s: &[u8]) -> (u8, R) {
+    match message_records::read_record::<R>(s) {
+        Ok(r) => (0, r),
+        Err(refusal) => (number_of(refusal), R::of_row(&[0; 96], &[1; 96])),
+    }
+}
 
 pub(crate) fn answer(given: &[u8], out: &mut Out, at: usize) -> usize {
-    let Count::Is(kind) = text_numerals::natural(text_words::word(given)) else {
+    let Some(kind) = text_numerals::natural(text_words::word(given)) else {
         return super::output::bad(out, at);
     };
     let mut bytes = [0u8; 400];
-    let Count::Is(n) = text_numerals::hex(text_words::rest(given), &mut bytes) else {
+    let Some(n) = text_numerals::hex(text_words::rest(given), &mut bytes) else {
         return super::output::bad(out, at);
     };
     put_message(kind, &bytes, n, out, at)

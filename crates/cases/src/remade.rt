@@ -2,10 +2,13 @@
 use super::numbers::{Present, Values};
 use super::output::Out;
 use layout::Written;
-use text_numerals::Count;
+use message_records::Record;
+use record_grids::Grid;
+use record_projections::{Lambert, ObliqueMercator, Projection};
+use record_transformations::{Helmert, MolodenskiBadekas};
 
 pub(crate) fn answer(given: &[u8], out: &mut Out, at: usize) -> usize {
-    let Count::Is(kind) = text_numerals::natural(text_words::word(given)) else {
+    let Some(kind) = text_numerals::natural(text_words::word(given)) else {
         return super::output::bad(out, at);
     };
     if 6 < kind {
@@ -19,13 +22,12 @@ pub(crate) fn answer(given: &[u8], out: &mut Out, at: usize) -> usize {
 
 // A record of the kind from the row that is given behind the room.
 fn put_record(kind: usize, given: &[u8], out: &mut Out, at: usize) -> usize {
-    let Count::Is(room) = text_numerals::natural(text_words::word(given)) else {
+    let Some(room) = text_numerals::natural(text_words::word(given)) else {
         return super::output::bad(out, at);
     };
     let mut values = [0i64; 96];
     let mut present = [1u8; 96];
-    let Count::Is(_) = super::numbers::places(text_words::rest(given), &mut values, &mut present)
-    else {
+    let Some(_) = super::numbers::places(text_words::rest(given), &mut values, &mut present) else {
         return super::output::bad(out, at);
     };
     put_made(kind, room, &values, &present, out, at)
@@ -61,47 +63,16 @@ fn put_written(
 
 fn write(kind: usize, values: &Values, present: &Present, buffer: &mut [u8]) -> Written {
     match kind {
-        1 => write_helmert(values, present, buffer),
-        2 => write_molodenski_badekas(values, present, buffer),
-        3 => write_grid(values, present, buffer),
-        _ => write_projected(kind, values, present, buffer),
+        1 => write_made::<Helmert>(values, present, buffer),
+        2 => write_made::<MolodenskiBadekas>(values, present, buffer),
+        3 => write_made::<Grid>(values, present, buffer),
+        4 => write_made::<Projection>(values, present, buffer),
+        5 => write_made::<Lambert>(values, present, buffer),
+        _ => write_made::<ObliqueMercator>(values, present, buffer),
     }
 }
 
-fn write_projected(kind: usize, values: &Values, present: &Present, buffer: &mut [u8]) -> Written {
-    match kind {
-        4 => write_projection(values, present, buffer),
-        5 => write_lambert(values, present, buffer),
-        _ => write_oblique_mercator(values, present, buffer),
-    }
-}
-
-fn write_helmert(values: &Values, present: &Present, buffer: &mut [u8]) -> Written {
-    message_records::write_helmert(record_transformations::helmert_of(values, present), buffer)
-}
-
-fn write_molodenski_badekas(values: &Values, present: &Present, buffer: &mut [u8]) -> Written {
-    message_records::write_molodenski_badekas(
-        record_transformations::molodenski_badekas_of(values, present),
-        buffer,
-    )
-}
-
-fn write_grid(values: &Values, present: &Present, buffer: &mut [u8]) -> Written {
-    message_records::write_grid(record_grids::grid_of(values, present), buffer)
-}
-
-fn write_projection(values: &Values, present: &Present, buffer: &mut [u8]) -> Written {
-    message_records::write_projection(record_projections::projection_of(values, present), buffer)
-}
-
-fn write_lambert(values: &Values, present: &Present, buffer: &mut [u8]) -> Written {
-    message_records::write_lambert(record_projections::lambert_of(values, present), buffer)
-}
-
-fn write_oblique_mercator(values: &Values, present: &Present, buffer: &mut [u8]) -> Written {
-    message_records::write_oblique_mercator(
-        record_projections::oblique_mercator_of(values, present),
-        buffer,
-    )
+// The record of the row, written.
+fn write_made<R: Record>(values: &Values, present: &Present, buffer: &mut [u8]) -> Written {
+    Written::from(message_records::write_record(R::of_row(values, present), buffer))
 }

@@ -2,7 +2,6 @@
 use super::output::Out;
 use layout::Written;
 use record_transformations::{Helmert, MolodenskiBadekas, Name};
-use text_numerals::{Byte, Count};
 
 // What a name gets: a length, and a character at a place where the name has that place.
 #[derive(Clone, Copy)]
@@ -46,14 +45,8 @@ fn name_with(r: Name, c: Change) -> Name {
     }
 }
 
-#[derive(Clone, Copy)]
-enum Asked {
-    Is(Change),
-    Bad,
-}
-
 pub(crate) fn answer(given: &[u8], out: &mut Out, at: usize) -> usize {
-    let Count::Is(kind) = text_numerals::natural(text_words::word(given)) else {
+    let Some(kind) = text_numerals::natural(text_words::word(given)) else {
         return super::output::bad(out, at);
     };
     if 2 < kind {
@@ -67,11 +60,11 @@ pub(crate) fn answer(given: &[u8], out: &mut Out, at: usize) -> usize {
 
 // The record of the kind, by what is given behind it.
 fn put_record(kind: usize, given: &[u8], out: &mut Out, at: usize) -> usize {
-    let Count::Is(room) = text_numerals::natural(text_words::word(given)) else {
+    let Some(room) = text_numerals::natural(text_words::word(given)) else {
         return super::output::bad(out, at);
     };
     let rest = text_words::rest(given);
-    let Count::Is(side) = text_numerals::natural(text_words::word(rest)) else {
+    let Some(side) = text_numerals::natural(text_words::word(rest)) else {
         return super::output::bad(out, at);
     };
     if 1 < side {
@@ -91,7 +84,7 @@ fn put_change(
 ) -> usize {
     let rest = text_words::rest(given);
     let behind = text_words::rest(rest);
-    let Asked::Is(c) = change_of(
+    let Some(c) = change_of(
         text_words::word(given),
         text_words::word(rest),
         text_words::word(behind),
@@ -99,26 +92,17 @@ fn put_change(
         return super::output::bad(out, at);
     };
     let mut bytes = [0u8; 400];
-    let Count::Is(n) = text_numerals::hex(text_words::rest(behind), &mut bytes) else {
+    let Some(n) = text_numerals::hex(text_words::rest(behind), &mut bytes) else {
         return super::output::bad(out, at);
     };
     put_message(kind, room, side, c, &bytes, n, out, at)
 }
 
-fn change_of(length: &[u8], place: &[u8], character: &[u8]) -> Asked {
-    let Count::Is(n) = text_numerals::natural(length) else {
-        return Asked::Bad;
-    };
-    let Count::Is(k) = text_numerals::natural(place) else {
-        return Asked::Bad;
-    };
-    let Byte::Is(b) = text_numerals::small(character) else {
-        return Asked::Bad;
-    };
-    Asked::Is(Change {
-        length: n,
-        place: k,
-        character: b,
+fn change_of(length: &[u8], place: &[u8], character: &[u8]) -> Option<Change> {
+    Some(Change {
+        length: text_numerals::natural(length)?,
+        place: text_numerals::natural(place)?,
+        character: text_numerals::small(character)?,
     })
 }
 
@@ -170,13 +154,11 @@ fn write(kind: usize, side: usize, c: Change, s: &[u8], buffer: &mut [u8]) -> Wr
 }
 
 fn write_helmert(side: usize, c: Change, s: &[u8], buffer: &mut [u8]) -> Written {
-    let r = message_records::read_helmert(s);
-    let value = r.value;
-    message_records::write_helmert(helmert_with(value, side, c), buffer)
+    let (_, r) = super::records::given::<Helmert>(s);
+    Written::from(message_records::write_record(helmert_with(r, side, c), buffer))
 }
 
 fn write_molodenski_badekas(side: usize, c: Change, s: &[u8], buffer: &mut [u8]) -> Written {
-    let r = message_records::read_molodenski_badekas(s);
-    let value = r.value;
-    message_records::write_molodenski_badekas(molodenski_badekas_with(value, side, c), buffer)
+    let (_, r) = super::records::given::<MolodenskiBadekas>(s);
+    Written::from(message_records::write_record(molodenski_badekas_with(r, side, c), buffer))
 }

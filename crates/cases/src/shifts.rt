@@ -1,13 +1,13 @@
 // `NAME answer HEX NORTH EAST`: the kind and value of each of the three answers from a grid message, and whether the shifts from its record are the same.
 // `NAME shiftof NORTH EAST PRESENT V1 .. Vn`: the three shifts from a record that is made from a row.
-use super::numbers::{Asked, Present, Values};
+use super::numbers::{Present, Values};
 use super::output::Out;
 use grid_shifts::{Answer, Shift, ThreeShifts};
-use text_numerals::Count;
+use record_grids::Grid;
 
 pub(crate) fn answer(given: &[u8], out: &mut Out, at: usize) -> usize {
     let mut bytes = [0u8; 400];
-    let Count::Is(n) = text_numerals::hex(text_words::word(given), &mut bytes) else {
+    let Some(n) = text_numerals::hex(text_words::word(given), &mut bytes) else {
         return super::output::bad(out, at);
     };
     put_case(&bytes, n, text_words::rest(given), out, at)
@@ -15,8 +15,7 @@ pub(crate) fn answer(given: &[u8], out: &mut Out, at: usize) -> usize {
 
 // All that is printed of the message in the first `n` bytes and of the position that is given.
 fn put_case(bytes: &[u8], n: usize, given: &[u8], out: &mut Out, at: usize) -> usize {
-    let Asked::Is(p) = super::numbers::place_of(text_words::word(given), text_words::rest(given))
-    else {
+    let Some(p) = super::numbers::place_of(text_words::word(given), text_words::rest(given)) else {
         return super::output::bad(out, at);
     };
     put_answers(text_words::before(bytes, n), p.north, p.east, out, at)
@@ -25,14 +24,12 @@ fn put_case(bytes: &[u8], n: usize, given: &[u8], out: &mut Out, at: usize) -> u
 // `NAME shiftof NORTH EAST PRESENT V1 .. Vn`
 pub(crate) fn answer_of(given: &[u8], out: &mut Out, at: usize) -> usize {
     let rest = text_words::rest(given);
-    let Asked::Is(p) = super::numbers::place_of(text_words::word(given), text_words::word(rest))
-    else {
+    let Some(p) = super::numbers::place_of(text_words::word(given), text_words::word(rest)) else {
         return super::output::bad(out, at);
     };
     let mut values = [0i64; 96];
     let mut present = [1u8; 96];
-    let Count::Is(_) = super::numbers::places(text_words::rest(rest), &mut values, &mut present)
-    else {
+    let Some(_) = super::numbers::places(text_words::rest(rest), &mut values, &mut present) else {
         return super::output::bad(out, at);
     };
     put_record_shifts(&values, &present, p.north, p.east, out, at)
@@ -121,13 +118,11 @@ fn put_float(before: &[u8], x: f64, out: &mut Out, at: usize) -> usize {
 
 // Whether the message has a record whose shifts have another refusal or count.
 fn record_differs(s: &[u8], north: i64, east: i64) -> bool {
-    let g = message_records::read_grid(s);
-    if g.refusal != 0 {
+    let Ok(g) = message_records::read_record::<Grid>(s) else {
         return false;
-    }
-    let value = g.value;
+    };
     differ(
-        grid_shifts::shifts_of(value, north, east),
+        grid_shifts::shifts_of(g, north, east),
         grid_shifts::shifts_at(s, north, east),
     )
 }

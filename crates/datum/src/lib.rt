@@ -7,42 +7,41 @@ ghost use Rattle.datum_formula.specs.Formula.{formula_tests, Answered};
 ghost use Rattle.datum.specs.Step.{absent, values_in, Stepped};
 ghost use Rattle.datum.specs.Private.{step_by};
 
-use arith::refusals::{ABSENT, METHOD, POSITION};
+use arith::refusals::{Refusal, number_of};
 use datum_formula::{Position, Values};
-use field::Reading;
-use record_transformations::Parameters;
+use record_transformations::{Helmert, Parameters};
 
 // ABSENT where one of the seven parameters has no value, or what the formula answers for their values.
 fn by_values(p: Parameters, x: i64, y: i64, z: i64) -> Position
     ensures { Answered (521 * 10 ^ 32) (cond (absent p) 15 (first (formula_tests (values_in p) x y z))) (values_in p) x y z result }
 {
     let dx = p.dx;
-    let Reading::Value(dx) = dx else {
-        return datum_formula::refused(ABSENT);
+    let Some(dx) = dx else {
+        return datum_formula::refused(Refusal::Absent as u8);
     };
     let dy = p.dy;
-    let Reading::Value(dy) = dy else {
-        return datum_formula::refused(ABSENT);
+    let Some(dy) = dy else {
+        return datum_formula::refused(Refusal::Absent as u8);
     };
     let dz = p.dz;
-    let Reading::Value(dz) = dz else {
-        return datum_formula::refused(ABSENT);
+    let Some(dz) = dz else {
+        return datum_formula::refused(Refusal::Absent as u8);
     };
     let rx = p.rx;
-    let Reading::Value(rx) = rx else {
-        return datum_formula::refused(ABSENT);
+    let Some(rx) = rx else {
+        return datum_formula::refused(Refusal::Absent as u8);
     };
     let ry = p.ry;
-    let Reading::Value(ry) = ry else {
-        return datum_formula::refused(ABSENT);
+    let Some(ry) = ry else {
+        return datum_formula::refused(Refusal::Absent as u8);
     };
     let rz = p.rz;
-    let Reading::Value(rz) = rz else {
-        return datum_formula::refused(ABSENT);
+    let Some(rz) = rz else {
+        return datum_formula::refused(Refusal::Absent as u8);
     };
     let ds = p.ds;
-    let Reading::Value(ds) = ds else {
-        return datum_formula::refused(ABSENT);
+    let Some(ds) = ds else {
+        return datum_formula::refused(Refusal::Absent as u8);
     };
     let v = Values {
         dx,
@@ -61,10 +60,10 @@ fn step_by(computation: i64, p: Parameters, x: i64, y: i64, z: i64) -> Position
     ensures { Answered (521 * 10 ^ 32) (step_by computation p x y z) (values_in p) x y z result }
 {
     if datum_formula::beyond(100000000000, x, y, z) {
-        return datum_formula::refused(POSITION);
+        return datum_formula::refused(Refusal::Position as u8);
     }
     if computation != 0 {
-        return datum_formula::refused(METHOD);
+        return datum_formula::refused(Refusal::Method as u8);
     }
     by_values(p, x, y, z)
 }
@@ -73,11 +72,8 @@ fn step_by(computation: i64, p: Parameters, x: i64, y: i64, z: i64) -> Position
 pub fn datum_step(message: &[u8], x: i64, y: i64, z: i64) -> Position
     ensures { Stepped message.now x y z result }
 {
-    let r = message_records::read_helmert(message);
-    let refusal = r.refusal;
-    if refusal != 0 {
-        return datum_formula::refused(refusal);
+    match message_records::read_record::<Helmert>(message) {
+        Ok(h) => step_by(h.system.computation, h.parameters, x, y, z),
+        Err(refusal) => datum_formula::refused(number_of(refusal)),
     }
-    let h = r.value;
-    step_by(h.system.computation, h.parameters, x, y, z)
 }

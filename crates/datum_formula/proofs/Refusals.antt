@@ -1,12 +1,15 @@
 -- From the tests of the formula to its answer: what none of them holding says, and the answer of each way out.
 -- Assumes nothing.
 use mathlib.Core.Path.{◌≡◌, sym, ap, ◌∙◌, subst}
-use mathlib.Core.Bool.{false, ◌||◌}
+use mathlib.Core.Bool.{Bool, false, ◌||◌}
 use Prim.Native.Nat.{ℕ, ◌≤◌}
 use native.Mathlib.Nat.{le_trans}
 use borrow.Author.Tests.{ltb-false, le-ltb}
 use lib.Dec.{T, leb, ltb, leb→le}
 use lib.IntN.{ℤ, nat_abs}
+use mir.Syntax.{w64}
+use mir.Val.{SFits, to_z, of_z}
+use mir.ValLaws.{to_z-of_z}
 use Rattle.arith.proofs.First.{or-false}
 use Rattle.datum_formula.specs.declared.Values.{Values}
 use Rattle.datum_formula.specs.declared.Position.{Position}
@@ -21,6 +24,11 @@ none-beyond limit a b c h =
 
 pub all-within : (limit : ℕ) (a b c : ℤ) → nat_abs a ≤ limit → nat_abs b ≤ limit → nat_abs c ≤ limit → beyond_any limit a b c ≡ false
 all-within limit a b c p q r = rw (le-ltb limit (nat_abs a) p, le-ltb limit (nat_abs b) q, le-ltb limit (nat_abs c) r)
+
+-- a test of three numbers that were passed by their bits
+pub read-back : {r : Bool} (limit : ℕ) (a b c : ℤ) → SFits w64 a → SFits w64 b → SFits w64 c
+    → r ≡ beyond_any limit (to_z w64 (of_z w64 a)) (to_z w64 (of_z w64 b)) (to_z w64 (of_z w64 c)) → r ≡ beyond_any limit a b c
+read-back limit a b c p q r e = e ∙ λ i. beyond_any limit (to_z-of_z w64 a p i) (to_z-of_z w64 b q i) (to_z-of_z w64 c r i)
 
 -- a refusal r, which is the number n that is called for
 pub refuses : {e r n : ℕ} {v : Values} {x y z : ℤ} {t : Position} → t ≡ zeros r → (r ≡ 0 → ⊥) → r ≡ n → Answered e n v x y z t

@@ -6,7 +6,7 @@ ghost use Rattle.std.specs.Prelude.{◌≡◌, ◌+◌, ◌*◌, ◌^◌, ◌≤
 ghost use Rattle.datum_formula.specs.Formula.{rotation, moved, About, Near, Answered, beyond_any, formula_tests, zeros};
 ghost use Rattle.datum_formula.specs.Private.{Held, Inputs, rotated};
 
-use arith::refusals::{POSITION, RANGE};
+use arith::refusals::Refusal;
 
 // The raw values of the seven parameters.
 #[derive(Clone, Copy)]
@@ -20,7 +20,7 @@ pub struct Values {
     pub ds: i64, // DF162
 }
 
-// A refusal number, or 0 with a position in 0.1 mm.
+// A refusal number, or 0 with a position in 0.1 mm. The C interface hands it out as it is.
 #[repr(C)]
 #[derive(Clone, Copy)]
 pub struct Position {
@@ -46,13 +46,7 @@ pub fn refused(refusal: u8) -> Position
 pub fn beyond(limit: u64, a: i64, b: i64, c: i64) -> bool
     ensures { result ≡ beyond_any limit a b c }
 {
-    if limit < field::magnitude(a) {
-        return true;
-    }
-    if limit < field::magnitude(b) {
-        return true;
-    }
-    limit < field::magnitude(c)
+    limit < a.unsigned_abs() || limit < b.unsigned_abs() || limit < c.unsigned_abs()
 }
 
 // A raw rotation as radians, counted in 1 over 10^13.
@@ -101,33 +95,39 @@ fn target_of(v: Values, x: i64, y: i64, z: i64) -> Position
     requires { Held v × (nat_abs x ≤ 10 ^ 11) × (nat_abs y ≤ 10 ^ 11) × (nat_abs z ≤ 10 ^ 11) }
     ensures { (result.refusal ≡ 0) × Near (521 * 10 ^ 32) v x y z result }
 {
-    let rx = v.rx;
-    let ry = v.ry;
-    let rz = v.rz;
-    let ds = v.ds;
+    let Values {
+        dx,
+        dy,
+        dz,
+        rx,
+        ry,
+        rz,
+        ds,
+    } = v;
     Position {
         refusal: 0,
-        x: coordinate(x, y, z, rz, ry, ds, v.dx),
-        y: coordinate(y, z, x, rx, rz, ds, v.dy),
-        z: coordinate(z, x, y, ry, rx, ds, v.dz),
+        x: coordinate(x, y, z, rz, ry, ds, dx),
+        y: coordinate(y, z, x, rx, rz, ds, dy),
+        z: coordinate(z, x, y, ry, rx, ds, dz),
     }
 }
 
 // POSITION, RANGE where a value is wider than its field, or the target.
+// x, y and z are three numbers, as the C interface lends them to the datum step.
 pub fn transformed(v: Values, x: i64, y: i64, z: i64) -> Position
     ensures { Answered (521 * 10 ^ 32) (first (formula_tests v x y z)) v x y z result }
 {
     if beyond(100000000000, x, y, z) {
-        return refused(POSITION);
+        return refused(Refusal::Position as u8);
     }
     if beyond(4194303, v.dx, v.dy, v.dz) {
-        return refused(RANGE);
+        return refused(Refusal::Range as u8);
     }
     if beyond(2147483647, v.rx, v.ry, v.rz) {
-        return refused(RANGE);
+        return refused(Refusal::Range as u8);
     }
-    if 16777215 < field::magnitude(v.ds) {
-        return refused(RANGE);
+    if 16777215 < v.ds.unsigned_abs() {
+        return refused(Refusal::Range as u8);
     }
     target_of(v, x, y, z)
 }

@@ -1,5 +1,6 @@
 -- The demands of request A12 hold: by the promises of `datum_step` and `transformed`.
 -- Assumes nothing.
+use Rattle.std.proofs.Common.{Option, Some, None}
 use mathlib.Core.Path.{◌≡◌, refl, sym, ap, ◌∙◌, subst}
 use mathlib.Core.Bool.{true, false, not, cond, ◌||◌}
 use mathlib.Core.List.{List}
@@ -12,8 +13,6 @@ use Rattle.arith.specs.Whole.{same_z}
 use Rattle.arith.proofs.First.{first-append, passed, not-false, or-false, passes}
 use Rattle.arith.proofs.Tests.{false-ne-true}
 use Rattle.arith.proofs.Whole.{eq_z-true}
-use Rattle.field.specs.declared.Reading.{Reading}
-use Rattle.field.specs.declared.Reading.TheVariants.{Value, Absent}
 use Rattle.layout.specs.Layout.{value_in, is_absent}
 use Rattle.record_transformations.specs.declared.Parameters.{Parameters}
 use Rattle.message_rows.specs.Message.{kind_tests}
@@ -39,9 +38,9 @@ module _ (s : List ℕ) (x y z : ℤ) where
 -- ---- an answer of 0
 
 -- a parameter that has a value says it
-has : (r : Reading) → is_absent r ≡ false → r ≡ Value (value_in r)
-has (Value z) e = refl
-has Absent e = absurd (false-ne-true (sym e))
+has : (r : Option ℤ) → is_absent r ≡ false → r ≡ Some (value_in r)
+has (Some z) e = refl
+has None e = absurd (false-ne-true (sym e))
 
 all_say : (p : Parameters) → absent p ≡ false → p ≡ sayings (values_in p)
 all_say p e =

@@ -1,9 +1,8 @@
 -- The demands of request A12, as statements. The proofs are in proofs/Steps.antt.
 -- Assumes nothing.
-use Rattle.std.specs.Prelude.{ℕ, ◌-◌, ◌^◌, ◌≤◌, ◌≡◌, not, ◌||◌, List, [], ◌∷◌, ◌++◌, ltb, ℤ, pos, nat_abs}
+use Rattle.std.specs.Prelude.{ℕ, ◌-◌, ◌^◌, ◌≤◌, ◌≡◌, not, ◌||◌, List, [], ◌∷◌, ◌++◌, ltb, ℤ, pos, nat_abs, Some}
 use Rattle.arith.specs.First.{Test}
 use Rattle.arith.specs.Whole.{same_z}
-use Rattle.field.specs.declared.Reading.TheVariants.{Value}
 use Rattle.record_transformations.specs.declared.Parameters.{Parameters}
 use Rattle.record_transformations.specs.declared.Helmert.{Helmert}
 use Rattle.message_rows.specs.Message.{kind_tests}
@@ -34,7 +33,7 @@ Inside limit a b c = (nat_abs a ≤ limit) × (nat_abs b ≤ limit) × (nat_abs 
 -- the parameters say these values
 abbrev pub sayings : Values → Parameters
 sayings v =
-    record { dx = Value v.dx; dy = Value v.dy; dz = Value v.dz; rx = Value v.rx; ry = Value v.ry; rz = Value v.rz; ds = Value v.ds }
+    record { dx = Some v.dx; dy = Some v.dy; dz = Some v.dz; rx = Some v.rx; ry = Some v.ry; rz = Some v.rz; ds = Some v.ds }
 
 -- none of the refusals applies: all seven parameters have a value
 pub record Ready (s : List ℕ) (x y z : ℤ) : Type 0 where

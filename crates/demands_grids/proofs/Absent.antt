@@ -1,5 +1,6 @@
--- "Not available is not a number" holds: each statement of specs/Absent.antt, from the laws of layouts, of message rows and of the orders of refusals.
+-- "Not available is not a number" holds: each statement of specs/None.antt, from the laws of layouts, of message rows and of the orders of refusals.
 -- Assumes nothing.
+use Rattle.std.proofs.Common.{Option, Some, None}
 use Prim.Native.Nat.{ℕ, zero, suc, ◌+◌, ◌-◌, ◌*◌, ◌/◌, ◌^◌, ◌<◌}
 use native.Mathlib.Omega.{arith}
 use native.Mathlib.Nat.{le_of_suc-le-suc, not-suc-le-zero}
@@ -16,8 +17,6 @@ use Rattle.arith.specs.Lists.{at}
 use Rattle.arith.specs.Whole.{natural}
 use Rattle.arith.proofs.First.{passed, passes, or-false, not-false}
 use Rattle.field.specs.Field.{signed_of, twos}
-use Rattle.field.specs.declared.Reading.{Reading}
-use Rattle.field.specs.declared.Reading.TheVariants.{Value, Absent}
 use Rattle.layout.specs.Layout.{width, signed, value_in, present_in, available, place_takes, row_takes, row_of, answered}
 use Rattle.layout.specs.Inner.{encode_refusal}
 use Rattle.layout.proofs.Round.{row_in, unsigned-value}
@@ -44,14 +43,14 @@ unfolding signed_of
 none-is-the-pattern w u =
     record { none = λ e. rw (eq-eqb u (2 ^ w / 2) e); pattern = λ e. by (eqb u (2 ^ w / 2)) refl e }
   where
-    by : (b : Bool) → eqb u (2 ^ w / 2) ≡ b → cond b Absent (Value (twos w u)) ≡ Absent → u ≡ 2 ^ w / 2
+    by : (b : Bool) → eqb u (2 ^ w / 2) ≡ b → cond b None (Some (twos w u)) ≡ None → u ≡ 2 ^ w / 2
     by true q e = eqb-true u (2 ^ w / 2) q
     by false q e = let z : ◌≡◌ {A = ℕ} 0 1 = cc in absurd (omega arith)
 
 pub accepted-none : AcceptedNone
 accepted-none s k e h g =
     let w : ℕ = width (get_or (layout s) k 0) in
-    let says-it : says (row s) k ≡ signed_of w (bits_at s k) = row-place s e k h ∙ ap (λ (b : Bool). cond b (signed_of w (bits_at s k)) (Value (pos (bits_at s k)))) g in
+    let says-it : says (row s) k ≡ signed_of w (bits_at s k) = row-place s e k h ∙ ap (λ (b : Bool). cond b (signed_of w (bits_at s k)) (Some (pos (bits_at s k)))) g in
     let n = none-is-the-pattern w (bits_at s k) in
     record { none = λ q. says-it ∙ n.none q; pattern = λ q. n.pattern (sym says-it ∙ q) }
 
@@ -92,7 +91,7 @@ row-range : (z : List ℤ) (b : List ℕ) (n k : ℕ) → k < length (row_layout
     → at z k ≡ neg_ℤ (pos (2 ^ width (get_or (row_layout (row_of z b)) k 0) / 2)) → first (row_tests z b n) ≡ 5
 unfolding encode_refusal
 row-range z b n k h g p q =
-    let v : List Reading = row_of z b in
+    let v : List (Option ℤ) = row_of z b in
     let f = one-not-taken (row_layout v) z b k h (pattern-not-taken (get_or (row_layout v) k 0) (at z k) (get_or b k 0) g p q) in
     range-either-way (not (known (natural (number_at (says v) 0)))) _
     (write-range (row_layout v) z b n (omega (arith, row-layout-most v)) f)
@@ -102,7 +101,7 @@ unfolding write_refusal answered
 pattern-refused z b out k h g p q = row-range z b (length out) k h g p q
 
 -- the buffers of a row at a place with a value
-value_of : (v : List Reading) (k : ℕ) (z : ℤ) → k < length v → says v k ≡ Value z → (at (values_of v) k ≡ z) × (get_or (present_of v) k 0 ≡ 1)
+value_of : (v : List (Option ℤ)) (k : ℕ) (z : ℤ) → k < length v → says v k ≡ Some z → (at (values_of v) k ≡ z) × (get_or (present_of v) k 0 ≡ 1)
 value_of [] k z h e = absurd (not-suc-le-zero h)
 value_of (r ∷ v) zero z h e = (ap value_in e, ap present_in e)
 value_of (r ∷ v) (suc k) z h e = value_of v k z (le_of_suc-le-suc h) e
@@ -114,24 +113,24 @@ signed_below (x ∷ es) zero e = omega arith
 signed_below (x ∷ es) (suc k) e = let h = signed_below es k e in omega arith
 
 -- a row whose field has a value equal to its pattern
-pattern-row : (v : List Reading) (n : ℕ) → PatternPresent v → first (row_tests (values_of v) (present_of v) n) ≡ 5
+pattern-row : (v : List (Option ℤ)) (n : ℕ) → PatternPresent v → first (row_tests (values_of v) (present_of v) n) ≡ 5
 pattern-row v n p = by (row_of (values_of v) (present_of v)) (row_in v) (row-range (values_of v) (present_of v) n p.place)
   where
-    by : (u : List Reading) → u ≡ v
+    by : (u : List (Option ℤ)) → u ≡ v
         → (p.place < length (row_layout u) → signed (get_or (row_layout u) p.place 0) ≡ true → get_or (present_of v) p.place 0 ≡ 1
         → at (values_of v) p.place ≡ neg_ℤ (pos (2 ^ width (get_or (row_layout u) p.place 0) / 2)) → first (row_tests (values_of v) (present_of v) n) ≡ 5)
         → first (row_tests (values_of v) (present_of v) n) ≡ 5
     by u e f =
         let k : ℕ = p.place in
         let b = value_of v k _ p.below p.value in
-        let g : signed (get_or (row_layout u) k 0) ≡ true = subst (λ (t : List Reading). signed (get_or (row_layout t) k 0) ≡ true) (sym e) p.signed in
+        let g : signed (get_or (row_layout u) k 0) ≡ true = subst (λ (t : List (Option ℤ)). signed (get_or (row_layout t) k 0) ≡ true) (sym e) p.signed in
         f (signed_below (row_layout u) k g)
         g
         b.1
-        (subst (λ (t : List Reading). at (values_of v) k ≡ neg_ℤ (pos (2 ^ width (get_or (row_layout t) k 0) / 2))) (sym e) b.0)
+        (subst (λ (t : List (Option ℤ)). at (values_of v) k ≡ neg_ℤ (pos (2 ^ width (get_or (row_layout t) k 0) / 2))) (sym e) b.0)
 
 -- a record whose kind has the numbers lo to hi
-kind-range : (lo hi : ℕ) (good : Bool) (v : List Reading) (out : List ℕ) → PatternPresent v → (write_kind lo hi good (values_of v) (present_of v) out).answer.refusal ≡ 5
+kind-range : (lo hi : ℕ) (good : Bool) (v : List (Option ℤ)) (out : List ℕ) → PatternPresent v → (write_kind lo hi good (values_of v) (present_of v) out).answer.refusal ≡ 5
 unfolding kind_write_refusal answered
 kind-range lo hi good v out p =
     let f = pattern-row v (length out) p in
@@ -182,27 +181,27 @@ oblique-mercator-zero = refl
 pub refused-is-zero : (s : List ℕ) → RefusedIsZero s
 refused-is-zero s =
     record {
-      helmert = λ h. unfold read_helmert in ap (λ (v : List Reading). helmert_of (says v)) (none_row 1021 1021 s h) ∙ helmert-zero;
-      molodenski_badekas = λ h. unfold read_molodenski_badekas in ap (λ (v : List Reading). molodenski_badekas_of (says v)) (none_row 1022 1022 s h) ∙ molodenski-badekas-zero;
-      grid = λ h. unfold read_grid in ap (λ (v : List Reading). grid_of (says v)) (none_row 1023 1024 s h) ∙ grid-zero;
-      projection = λ h. unfold read_projection in ap (λ (v : List Reading). projection_of (says v)) (none_row 1025 1025 s h) ∙ projection-zero;
-      lambert = λ h. unfold read_lambert in ap (λ (v : List Reading). lambert_of (says v)) (none_row 1026 1026 s h) ∙ lambert-zero;
-      oblique_mercator = λ h. unfold read_oblique_mercator in ap (λ (v : List Reading). oblique_mercator_of (says v)) (none_row 1027 1027 s h) ∙ oblique-mercator-zero;
+      helmert = λ h. unfold read_helmert in ap (λ (v : List (Option ℤ)). helmert_of (says v)) (none_row 1021 1021 s h) ∙ helmert-zero;
+      molodenski_badekas = λ h. unfold read_molodenski_badekas in ap (λ (v : List (Option ℤ)). molodenski_badekas_of (says v)) (none_row 1022 1022 s h) ∙ molodenski-badekas-zero;
+      grid = λ h. unfold read_grid in ap (λ (v : List (Option ℤ)). grid_of (says v)) (none_row 1023 1024 s h) ∙ grid-zero;
+      projection = λ h. unfold read_projection in ap (λ (v : List (Option ℤ)). projection_of (says v)) (none_row 1025 1025 s h) ∙ projection-zero;
+      lambert = λ h. unfold read_lambert in ap (λ (v : List (Option ℤ)). lambert_of (says v)) (none_row 1026 1026 s h) ∙ lambert-zero;
+      oblique_mercator = λ h. unfold read_oblique_mercator in ap (λ (v : List (Option ℤ)). oblique_mercator_of (says v)) (none_row 1027 1027 s h) ∙ oblique-mercator-zero;
     }
 
 -- ---- the mean
 
-value-has : (r : Reading) → available r ≡ true → HasValue r
-value-has (Value z) e = record { value = z; is = refl }
-value-has Absent e = absurd (true≢false (sym e))
+value-has : (r : Option ℤ) → available r ≡ true → HasValue r
+value-has (Some z) e = record { value = z; is = refl }
+value-has None e = absurd (true≢false (sym e))
 
 -- a node that does not lack has no weight or a value
-corner : (weight : ℕ) (r : Reading) → lacks weight (available r) ≡ false → (weight ≡ 0) ⊎ HasValue r
+corner : (weight : ℕ) (r : Option ℤ) → lacks weight (available r) ≡ false → (weight ≡ 0) ⊎ HasValue r
 unfolding lacks
-corner weight (Value z) e = inr (record { value = z; is = refl })
-corner weight Absent e = by (eqb weight 0) refl e
+corner weight (Some z) e = inr (record { value = z; is = refl })
+corner weight None e = by (eqb weight 0) refl e
   where
-    by : (b : Bool) → eqb weight 0 ≡ b → (not b && true) ≡ false → (weight ≡ 0) ⊎ HasValue Absent
+    by : (b : Bool) → eqb weight 0 ≡ b → (not b && true) ≡ false → (weight ≡ 0) ⊎ HasValue None
     by true q e = inl (eqb-true weight 0 q)
     by false q e = absurd (true≢false e)
 

@@ -1,5 +1,6 @@
 -- The demands on the shift hold: each statement of specs/Grids.antt, from the laws of grid_bilinear and grid_shifts.
 -- Assumes nothing.
+use Rattle.std.proofs.Common.{Option}
 use Prim.Native.Nat.{ℕ, ◌-◌, ◌*◌}
 use native.Mathlib.Nat.{mul-pos}
 use native.Mathlib.Omega.{arith}
@@ -17,7 +18,6 @@ use Rattle.arith.specs.First.{Test, first}
 use Rattle.record_grids.specs.declared.Grid.{Grid}
 use Rattle.record_grids.specs.declared.Shifts.{Shifts}
 use Rattle.record_grids.specs.Grids.{grid_of, grid_row, settings_of}
-use Rattle.field.specs.declared.Reading.{Reading}
 use Rattle.layout.specs.Layout.{value_in, available}
 use Rattle.record_rows.specs.Numbers.{values_of, present_of}
 use Rattle.message_rows.specs.Message.{kind_tests, kind_refusal}
@@ -76,9 +76,9 @@ pub held-written : HeldIsWritten
 held-written g m h = held-is-written (values_of (grid_row g)) (present_of (grid_row g)) m h
 
 -- nodes that say the same agree in counts and in being present
-says_same : (f : ℕ) {w : ℕ} {a b : Reading} → (w ≡ 0) ⊎ (a ≡ b) → (w ≡ 0) ⊎ ((pos f *ℤ value_in a ≡ pos f *ℤ value_in b) × (available a ≡ available b))
+says_same : (f : ℕ) {w : ℕ} {a b : Option ℤ} → (w ≡ 0) ⊎ (a ≡ b) → (w ≡ 0) ⊎ ((pos f *ℤ value_in a ≡ pos f *ℤ value_in b) × (available a ≡ available b))
 says_same f (inl e) = inl e
-says_same f (inr e) = inr (ap (λ (r : Reading). pos f *ℤ value_in r) e, ap available e)
+says_same f (inr e) = inr (ap (λ (r : Option ℤ). pos f *ℤ value_in r) e, ap available e)
 
 module _ (g : Grid) (ns : List Shifts) (c : ℕ) (n e : ℤ) where
   abbrev y : ℕ

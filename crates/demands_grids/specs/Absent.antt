@@ -1,10 +1,8 @@
 -- "Not available is not a number" (request A5), as statements.
 -- Assumes nothing.
-use Rattle.std.specs.Prelude.{ℕ, ◌+◌, ◌*◌, ◌-◌, ◌/◌, ◌^◌, ◌<◌, ◌≡◌, true, false, List, ◌⊎◌, ℤ, pos, neg_ℤ, length, get_or, take, replicate}
+use Rattle.std.specs.Prelude.{ℕ, ◌+◌, ◌*◌, ◌-◌, ◌/◌, ◌^◌, ◌<◌, ◌≡◌, true, false, List, ◌⊎◌, ℤ, pos, neg_ℤ, length, get_or, take, replicate, Option, Some, None}
 use Rattle.arith.specs.Lists.{at}
 use Rattle.field.specs.Field.{field, signed_of}
-use Rattle.field.specs.declared.Reading.{Reading}
-use Rattle.field.specs.declared.Reading.TheVariants.{Value, Absent}
 use Rattle.layout.specs.Layout.{width, signed, total, row_of}
 use Rattle.record_rows.specs.Numbers.{says}
 use Rattle.record_rows.specs.declared.Pair.{Pair}
@@ -31,8 +29,8 @@ use Rattle.demands_grids.specs.Grids.{AnsweredAt, grid_at, north_steps, east_ste
 
 -- "Reading a signed field shall say either a value or that there is none": none exactly where its bits are the most negative pattern
 pub record NoneExactly (w u : ℕ) : Type 0 where
-  pub none : u ≡ 2 ^ w / 2 → signed_of w u ≡ Absent
-  pub pattern : signed_of w u ≡ Absent → u ≡ 2 ^ w / 2
+  pub none : u ≡ 2 ^ w / 2 → signed_of w u ≡ None
+  pub pattern : signed_of w u ≡ None → u ≡ 2 ^ w / 2
 
 abbrev pub NoneIsThePattern : Type 0
 NoneIsThePattern = (w u : ℕ) → NoneExactly w u
@@ -43,15 +41,15 @@ bits_at s k = field s (total (take k (layout s))) (width (get_or (layout s) k 0)
 
 -- the same of field k of a message, which is signed
 pub record FieldNone (s : List ℕ) (k : ℕ) : Type 0 where
-  pub none : bits_at s k ≡ 2 ^ width (get_or (layout s) k 0) / 2 → says (row s) k ≡ Absent
-  pub pattern : says (row s) k ≡ Absent → bits_at s k ≡ 2 ^ width (get_or (layout s) k 0) / 2
+  pub none : bits_at s k ≡ 2 ^ width (get_or (layout s) k 0) / 2 → says (row s) k ≡ None
+  pub pattern : says (row s) k ≡ None → bits_at s k ≡ 2 ^ width (get_or (layout s) k 0) / 2
 
 abbrev pub AcceptedNone : Type 0
 AcceptedNone = (s : List ℕ) (k : ℕ) → refusal s ≡ 0 → k < length (layout s) → signed (get_or (layout s) k 0) ≡ true → FieldNone s k
 
 -- an unsigned field of an accepted message has a value
 abbrev pub UnsignedHasValue : Type 0
-UnsignedHasValue = (s : List ℕ) (k : ℕ) → refusal s ≡ 0 → signed (get_or (layout s) k 0) ≡ false → says (row s) k ≡ Absent → ⊥
+UnsignedHasValue = (s : List ℕ) (k : ℕ) → refusal s ≡ 0 → signed (get_or (layout s) k 0) ≡ false → says (row s) k ≡ None → ⊥
 
 -- "a present value equal to the pattern is RANGE when written": z and b are the values and the presence bytes of a row
 abbrev pub PatternRefused : Type 0
@@ -60,11 +58,11 @@ PatternRefused =
     → at z k ≡ neg_ℤ (pos (2 ^ width (get_or (row_layout (row_of z b)) k 0) / 2)) → (write_row z b out).answer.refusal ≡ 5
 
 -- the row of a record has a present value equal to the pattern
-pub record PatternPresent (v : List Reading) : Type 0 where
+pub record PatternPresent (v : List (Option ℤ)) : Type 0 where
   pub place : ℕ
   pub below : place < length v
   pub signed : signed (get_or (row_layout v) place 0) ≡ true
-  pub value : says v place ≡ Value (neg_ℤ (pos (2 ^ width (get_or (row_layout v) place 0) / 2)))
+  pub value : says v place ≡ Some (neg_ℤ (pos (2 ^ width (get_or (row_layout v) place 0) / 2)))
 
 pub record RecordPatternRefused (out : List ℕ) : Type 0 where
   pub helmert : (r : Helmert) → PatternPresent (helmert_row r) → (write_helmert r out).answer.refusal ≡ 5
@@ -77,8 +75,8 @@ pub record RecordPatternRefused (out : List ℕ) : Type 0 where
 -- ---- "a refused record holds values 0"
 
 -- a signed field
-abbrev pub value0 : Reading
-value0 = Value (pos 0)
+abbrev pub value0 : Option ℤ
+value0 = Some (pos 0)
 
 abbrev pub pair0 : Pair
 pair0 = record { horizontal = pos 0; vertical = pos 0 }
@@ -107,75 +105,23 @@ helmert0 =
 
 abbrev pub molodenski_badekas0 : MolodenskiBadekas
 molodenski_badekas0 =
-    record {
-      number = pos 0;
-      source = name0;
-      target = name0;
-      system = system0;
-      area = area0;
-      parameters = parameters0;
-      point = record { x = value0; y = value0; z = value0 };
-      ellipsoids = ellipsoids0;
-      quality = pair0;
-    }
+    record { number = pos 0; source = name0; target = name0; system = system0; area = area0; parameters = parameters0; point = record { x = value0; y = value0; z = value0 }; ellipsoids = ellipsoids0; quality = pair0 }
 
 abbrev pub grid0 : Grid
 grid0 =
-    record {
-      number = pos 0;
-      sin = pos 0;
-      indicators = pair0;
-      origin = record { north = value0; east = value0 };
-      spacing = record { north = pos 0; east = pos 0 };
-      mean = shifts0;
-      nodes = replicate 16 shifts0;
-      methods = pair0;
-      quality = pair0;
-      day = pos 0;
-    }
+    record { number = pos 0; sin = pos 0; indicators = pair0; origin = record { north = value0; east = value0 }; spacing = record { north = pos 0; east = pos 0 }; mean = shifts0; nodes = replicate 16 shifts0; methods = pair0; quality = pair0; day = pos 0 }
 
 abbrev pub projection0 : Projection
 projection0 =
-    record {
-      number = pos 0;
-      sin = pos 0;
-      projection = pos 0;
-      latitude = value0;
-      longitude = value0;
-      scale = pos 0;
-      easting = pos 0;
-      northing = value0;
-    }
+    record { number = pos 0; sin = pos 0; projection = pos 0; latitude = value0; longitude = value0; scale = pos 0; easting = pos 0; northing = value0 }
 
 abbrev pub lambert0 : Lambert
 lambert0 =
-    record {
-      number = pos 0;
-      sin = pos 0;
-      projection = pos 0;
-      latitude = value0;
-      longitude = value0;
-      parallel1 = value0;
-      parallel2 = value0;
-      easting = pos 0;
-      northing = value0;
-    }
+    record { number = pos 0; sin = pos 0; projection = pos 0; latitude = value0; longitude = value0; parallel1 = value0; parallel2 = value0; easting = pos 0; northing = value0 }
 
 abbrev pub oblique_mercator0 : ObliqueMercator
 oblique_mercator0 =
-    record {
-      number = pos 0;
-      sin = pos 0;
-      projection = pos 0;
-      rectified = pos 0;
-      latitude = value0;
-      longitude = value0;
-      azimuth = pos 0;
-      difference = value0;
-      scale = pos 0;
-      easting = pos 0;
-      northing = value0;
-    }
+    record { number = pos 0; sin = pos 0; projection = pos 0; rectified = pos 0; latitude = value0; longitude = value0; azimuth = pos 0; difference = value0; scale = pos 0; easting = pos 0; northing = value0 }
 
 pub record RefusedIsZero (s : List ℕ) : Type 0 where
   pub helmert : ((read_helmert s).refusal ≡ 0 → ⊥) → (read_helmert s).value ≡ helmert0
@@ -187,9 +133,9 @@ pub record RefusedIsZero (s : List ℕ) : Type 0 where
 
 -- ---- "A mean is formed only when every node with weight has a value"
 
-pub record HasValue (r : Reading) : Type 0 where
+pub record HasValue (r : Option ℤ) : Type 0 where
   pub value : ℤ
-  pub is : r ≡ Value value
+  pub is : r ≡ Some value
 
 -- so do the mean shift and, b steps north and a steps east of the corner of the cell k from the south and l from the west, each node whose weight is not 0
 pub record Formed (g : Grid) (c k l b a : ℕ) : Type 0 where

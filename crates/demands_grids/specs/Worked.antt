@@ -1,10 +1,8 @@
 -- Document 01, "Numbers worked out": one table of rows, each a message, what is asked of it, and the number and count that must be answered.
 -- `GridsRead` says what the bytes of the grids hold.
 -- Assumes nothing.
-use Rattle.std.specs.Prelude.{ℕ, ◌+◌, ◌≡◌, cond, List, [], ◌∷◌, ◌++◌, map, eqb, ℤ, pos, neg_ℤ, set}
+use Rattle.std.specs.Prelude.{ℕ, ◌+◌, ◌≡◌, cond, List, [], ◌∷◌, ◌++◌, map, eqb, ℤ, pos, neg_ℤ, set, Option, Some, None}
 use Rattle.arith.specs.Lists.{up_to}
-use Rattle.field.specs.declared.Reading.{Reading}
-use Rattle.field.specs.declared.Reading.TheVariants.{Value, Absent}
 use Rattle.layout.specs.Layout.{blank}
 use Rattle.record_grids.specs.Grids.{nodes_row}
 use Rattle.message_rows.specs.Message.{refusal, row}
@@ -95,20 +93,20 @@ abbrev pub WorkedMetres : Type 0
 WorkedMetres = (message_shift grid_k 2 (pos 1764000000) (pos 396000000)).answer ≡ Metres (units_of 10000 (pos 469285))
 
 -- the row of a grid like Grid K: its raw spacings, and what its height nodes 1 to 16 say
-abbrev pub row_k : ℤ → ℤ → (ℕ → Reading) → List Reading
+abbrev pub row_k : ℤ → ℤ → (ℕ → Option ℤ) → List (Option ℤ)
 row_k rows columns node =
-    map Value (pos 1023 ∷ pos 7 ∷ pos 0 ∷ pos 1 ∷ pos 352800 ∷ pos 79200 ∷ rows ∷ columns ∷ pos 0 ∷ pos 0 ∷ pos 4692 ∷ [])
-    ++ nodes_row (up_to (λ i. record { north = Value (pos 0); east = Value (pos 0); height = node (i + 1) }) 16)
-    ++ map Value (pos 0 ∷ pos 0 ∷ pos 0 ∷ pos 0 ∷ pos 0 ∷ [])
+    map Some (pos 1023 ∷ pos 7 ∷ pos 0 ∷ pos 1 ∷ pos 352800 ∷ pos 79200 ∷ rows ∷ columns ∷ pos 0 ∷ pos 0 ∷ pos 4692 ∷ [])
+    ++ nodes_row (up_to (λ i. record { north = Some (pos 0); east = Some (pos 0); height = node (i + 1) }) 16)
+    ++ map Some (pos 0 ∷ pos 0 ∷ pos 0 ∷ pos 0 ∷ pos 0 ∷ [])
 
 -- the bytes read as document 01 gives Grid K and the grids made from it
 pub record GridsRead : Type 0 where
-  pub grid : row grid_k ≡ row_k (pos 720) (pos 720) (λ i. Value (pos i))
-  pub negated : row grid_k_negated ≡ row_k (pos 720) (pos 720) (λ i. Value (neg_ℤ (pos i)))
-  pub node7 : row grid_k_node7 ≡ row_k (pos 720) (pos 720) (λ i. cond (eqb i 7) Absent (Value (pos i)))
-  pub north0 : row grid_k_north0 ≡ row_k (pos 0) (pos 720) (λ i. Value (pos i))
-  pub east0 : row grid_k_east0 ≡ row_k (pos 720) (pos 0) (λ i. Value (pos i))
-  pub both0 : row grid_k_both0 ≡ row_k (pos 0) (pos 0) (λ i. Value (pos i))
+  pub grid : row grid_k ≡ row_k (pos 720) (pos 720) (λ i. Some (pos i))
+  pub negated : row grid_k_negated ≡ row_k (pos 720) (pos 720) (λ i. Some (neg_ℤ (pos i)))
+  pub node7 : row grid_k_node7 ≡ row_k (pos 720) (pos 720) (λ i. cond (eqb i 7) None (Some (pos i)))
+  pub north0 : row grid_k_north0 ≡ row_k (pos 0) (pos 720) (λ i. Some (pos i))
+  pub east0 : row grid_k_east0 ≡ row_k (pos 720) (pos 0) (λ i. Some (pos i))
+  pub both0 : row grid_k_both0 ≡ row_k (pos 0) (pos 0) (λ i. Some (pos i))
 
 -- Grid K's heights have all sixteen nodes present, as demand 3 asks
 abbrev pub GridKPresent : Type 0

@@ -1,5 +1,6 @@
 -- The refusals of a height grid: NOMEAN exactly if no mean fits, RANGE never for a height field, and the row's own height fields not looked at.
 -- Assumes nothing.
+use Rattle.std.proofs.Common.{Option}
 use mathlib.Core.Path.{◌≡◌, refl, sym, ap, ◌∙◌}
 use mathlib.Core.Bool.{Bool, true, false, not, cond, ◌&&◌, ◌||◌}
 use mathlib.Core.List.{List, [], ◌∷◌, ◌++◌}
@@ -15,15 +16,13 @@ use Rattle.arith.specs.Lists.{at}
 use Rattle.arith.specs.Whole.{natural, same_z}
 use Rattle.arith.proofs.First.{passed, not-false, stops, goes_on, passes}
 use Rattle.arith.proofs.Lists.{up_to-same}
-use Rattle.field.specs.declared.Reading.{Reading}
 use Rattle.layout.specs.Layout.{row_of, place_takes, row_takes, value_in, size, answered, stored}
 use Rattle.layout_tables.specs.Layouts.{layout_of, layout1023}
 use Rattle.layout_tables.proofs.Length.{length-1023}
 use Rattle.record_rows.specs.Numbers.{says, number_at}
 use Rattle.message_rows.specs.Message.{row_layout, of_kind, row_tests, message}
 use Rattle.heights_mean.specs.Means.{smallest_mean}
-use Rattle.heights_mean.specs.declared.Mean.{Mean}
-use Rattle.heights_mean.specs.declared.Mean.TheVariants.{Is, Missing}
+use Rattle.std.specs.Prelude.{Option, Some, None}
 use Rattle.heights_mean.proofs.Choice.{Smallest, smallest, smallest-missing, found-or-none}
 use Rattle.heights.specs.Heights.{of_height, value_with, present_with, height_values, height_present, count_tests, zero_beside, says_zero, says_other, says_none, record_tests, mean_tests, heights_refusal, heights_message, message_with}
 use Rattle.heights.proofs.Calls.{record-out, behind, mean-out}
@@ -92,11 +91,11 @@ module _ (z : List ℤ) (b : List ℕ) (wanted : List ℤ) where
     none_of_lem : heights_refusal z b wanted n ≡ 23 → NoneFits wanted
     none_of_lem e = ⊎_elim with-mean (λ h. h) (found-or-none wanted)
       where
-        with-mean : (m : ℤ) × (smallest_mean wanted ≡ Is m) → NoneFits wanted
+        with-mean : (m : ℤ) × (smallest_mean wanted ≡ Some m) → NoneFits wanted
         with-mean p =
-            let f : first (mean_tests z b wanted n (Is p.0)) ≡ 23 =
-            ap (λ (k : Mean). first (mean_tests z b wanted n k)) (sym p.1) ∙ late_is (early-passed e) ∙ e in
-            absurd (omega (arith, f, first-most 6 (mean_tests z b wanted n (Is p.0)) tt))
+            let f : first (mean_tests z b wanted n (Some p.0)) ≡ 23 =
+            ap (λ (k : Option ℤ). first (mean_tests z b wanted n k)) (sym p.1) ∙ late_is (early-passed e) ∙ e in
+            absurd (omega (arith, f, first-most 6 (mean_tests z b wanted n (Some p.0)) tt))
 
 pub no-mean-exactly : NoMeanExactly
 no-mean-exactly z b wanted n =
@@ -131,7 +130,7 @@ module _ (z : List ℤ) (b : List ℕ) (wanted : List ℤ) (m : ℤ) where
   layout_is e = rw e
 
   mean-tests : (n : ℕ) → natural (number_at (says (row_of zs bs)) 0) ≡ 1023 → row_takes layout1023 zs bs ≡ true
-      → first (mean_tests z b wanted n (Is m)) ≡ first ((6, ltb n (size layout1023)) ∷ [])
+      → first (mean_tests z b wanted n (Some m)) ≡ first ((6, ltb n (size layout1023)) ∷ [])
   mean-tests n e t = rw (e, layout_is e, length-1023, t)
 
   module _ (others : OthersTaken z b) where
@@ -140,7 +139,7 @@ module _ (z : List ℤ) (b : List ℕ) (wanted : List ℤ) (m : ℤ) where
     number-said e =
         let y = get_or b 0 0 in
         let t = said 12 (at z 0) y refl (others 0 (omega arith) refl) in
-        ap (λ (r : Reading). natural (value_in r)) (says_other_lem z b wanted m 0 (omega arith) refl) ∙ rw (t, e)
+        ap (λ (r : Option ℤ). natural (value_in r)) (says_other_lem z b wanted m 0 (omega arith) refl) ∙ rw (t, e)
 
     place : Smallest wanted m → (k : ℕ) → k < 64 → (o : Bool) → of_height k ≡ o → place_takes (get_or layout1023 k 0) (at zs k) (get_or bs k 0) ≡ true
     place s k l true o = height-taken z b wanted m s k l o
@@ -157,10 +156,10 @@ only-others z b wanted n c number others e = by (first (record_tests z b)) refl
     by : (k : ℕ) → k ≡ first (record_tests z b) → ⊥
     by zero p =
         ⊎_elim
-        (λ (f : (m : ℤ) × (smallest_mean wanted ≡ Is m)).
+        (λ (f : (m : ℤ) × (smallest_mean wanted ≡ Some m)).
         room-only (ltb n (size layout1023))
         (sym (mean-tests z b wanted f.0 n (number-said z b wanted f.0 others number) (taken z b wanted f.0 others (smallest wanted f.0 f.1)))
-        ∙ behind z b wanted n c.values c.present c.heights (sym p) (Is f.0) f.1 ∙ e))
+        ∙ behind z b wanted n c.values c.present c.heights (sym p) (Some f.0) f.1 ∙ e))
         (λ (h : NoneFits wanted).
         let q = mean-out z b wanted n c.values c.present c.heights (sym p) (smallest-missing wanted h) in
         absurd (omega (arith, q, e)))
@@ -211,18 +210,18 @@ module _ (z y : List ℤ) (b a : List ℕ) (s : SameOthers z y b a) where
     unfolding height_values
     same-values m = up_to-same (value_with z wanted m) (value_with y wanted m) 64 (λ k l. same-value m k (of_height k) refl)
 
-    same_tests : (n : ℕ) (k : Mean) → mean_tests z b wanted n k ≡ mean_tests y a wanted n k
-    same_tests n (Is m) =
+    same_tests : (n : ℕ) (k : Option ℤ) → mean_tests z b wanted n k ≡ mean_tests y a wanted n k
+    same_tests n (Some m) =
         λ i. (5, not (of_kind 1023 1023 (row_of (same-values m i) (same-present i)))) ∷ row_tests (same-values m i) (same-present i) n
-    same_tests n Missing = refl
+    same_tests n None = refl
 
     same-refusal : (n : ℕ) → heights_refusal z b wanted n ≡ heights_refusal y a wanted n
     unfolding heights_refusal
     same-refusal n = λ i. first ((same-counts i ++ same-record i) ++ same_tests n (smallest_mean wanted) i)
 
-    same-with : (k : Mean) → message_with z b wanted k ≡ message_with y a wanted k
-    same-with (Is m) = λ i. message (row_of (same-values m i) (same-present i))
-    same-with Missing = refl
+    same-with : (k : Option ℤ) → message_with z b wanted k ≡ message_with y a wanted k
+    same-with (Some m) = λ i. message (row_of (same-values m i) (same-present i))
+    same-with None = refl
 
     same-message : heights_message z b wanted ≡ heights_message y a wanted
     unfolding heights_message

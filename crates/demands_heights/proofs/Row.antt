@@ -1,5 +1,6 @@
 -- What the row of a height grid says at each place: the mean, the heights less the mean, and the other fields as they were given.
 -- Assumes nothing.
+use Rattle.std.proofs.Common.{Option, Some}
 use mathlib.Core.Path.{◌≡◌, refl, sym, ◌∙◌}
 use mathlib.Core.Bool.{Bool, true, false, not, cond, ◌&&◌, ◌||◌}
 use mathlib.Core.List.{List, [], ◌∷◌}
@@ -14,8 +15,6 @@ use Rattle.arith.specs.Lists.{at, all_below}
 use Rattle.arith.specs.Whole.{same_z}
 use Rattle.arith.proofs.Lists.{length-up_to, get_d-up_to}
 use Rattle.arith.proofs.Tests.{false-ne-true, both_first, both-second, all-at}
-use Rattle.field.specs.declared.Reading.{Reading}
-use Rattle.field.specs.declared.Reading.TheVariants.{Value}
 use Rattle.layout.specs.Layout.{int, signed, takes, row_of, reading_in, place_takes, row_takes}
 use Rattle.layout.proofs.Says.{place-taken}
 use Rattle.layout_tables.specs.Layouts.{layout1023}
@@ -78,7 +77,7 @@ module _ (z : List ℤ) (b : List ℕ) (wanted : List ℤ) (m : ℤ) where
   unfolding height_present
   length-present = length-up_to (present_with b) 64
 
-  abbrev v : List Reading
+  abbrev v : List (Option ℤ)
   v = row_of (height_values z wanted m) (height_present b)
 
   module _ (k : ℕ) (l : k < 64) where
@@ -109,7 +108,7 @@ module _ (z : List ℤ) (b : List ℕ) (wanted : List ℤ) (m : ℤ) where
       unfolding value_with present_with
       says_other_lem = says-place ∙ rw o
 
-  pub says-mean : says v 10 ≡ Value m
+  pub says-mean : says v 10 ≡ Some m
   unfolding value_with present_with
   says-mean = says-place 10 (omega arith)
 
@@ -120,7 +119,7 @@ module _ (z : List ℤ) (b : List ℕ) (wanted : List ℤ) (m : ℤ) where
         let r : (13 + 3 * i) % 3 ≡ 1 = omega arith in
         rw (le-leb 10 (13 + 3 * i) (omega arith), le-leb (13 + 3 * i) 58 (omega arith), eq-eqb ((13 + 3 * i) % 3) 1 r)
 
-    pub says-node : says v (13 + 3 * i) ≡ Value (less (at wanted i) m)
+    pub says-node : says v (13 + 3 * i) ≡ Some (less (at wanted i) m)
     unfolding value_with present_with
     says-node =
         let e : (13 + 3 * i - 13) / 3 ≡ i = omega arith in

@@ -1,5 +1,6 @@
 -- The shift at a node of a written message is the wanted height: the row written reads back as itself, and the answer at a node is the node's own.
 -- Assumes nothing.
+use Rattle.std.proofs.Common.{Option, Some}
 use mathlib.Core.Path.{◌≡◌, refl, sym, ap, subst, ◌∙◌}
 use mathlib.Core.Bool.{Bool, true, false, not, cond, ◌&&◌, ◌||◌}
 use mathlib.Core.List.{List, [], ◌∷◌, ◌++◌}
@@ -19,8 +20,6 @@ use Rattle.arith.proofs.First.{passed, not-false, or-false, passes, goes_on}
 use Rattle.arith.proofs.Int.{at, nat, minus, ◌⊞◌, ◌⊟◌, ◌⊠◌, ring, order, order_lt, abs-mul, abs-within, within-abs}
 use Rattle.arith.proofs.Lists.{length-up_to, get_d-up_to}
 use Rattle.arith.proofs.Tests.{both_first, both-second, all-at}
-use Rattle.field.specs.declared.Reading.{Reading}
-use Rattle.field.specs.declared.Reading.TheVariants.{Value}
 use Rattle.layout.specs.Layout.{row_of, row_takes, place_takes, value_in, size, available}
 use Rattle.layout_tables.specs.Layouts.{layout1023, known}
 use Rattle.layout_tables.proofs.Length.{length-1023}
@@ -43,8 +42,7 @@ use Rattle.grid_shifts.specs.Shift.{surface, north_of, east_of, grid_tests, answ
 use Rattle.grid_shifts.proofs.Accepted.{message-passed, message-fields}
 use Rattle.heights_mean.specs.Means.{less, near_at, fits, smallest_mean}
 use Rattle.heights_mean.proofs.Near.{less-most}
-use Rattle.heights_mean.specs.declared.Mean.{Mean}
-use Rattle.heights_mean.specs.declared.Mean.TheVariants.{Is}
+use Rattle.std.specs.Prelude.{Option, Some, None}
 use Rattle.heights_mean.proofs.Choice.{NoneFits, Smallest, smallest, found-or-none}
 use Rattle.heights.specs.Heights.{of_height, height_values, height_present, count_tests, zero_beside, says_zero, says_other, says_none, record_tests, mean_tests, heights_refusal, heights_message}
 use Rattle.heights.proofs.Calls.{message-is}
@@ -57,20 +55,20 @@ use Rattle.demands_heights.proofs.Refusals.{counted_of, layout_is, no-mean-exact
 -- ---- the grid of a written message
 
 abbrev zeros : Shifts
-zeros = record { north = Value (pos 0); east = Value (pos 0); height = Value (pos 0) }
+zeros = record { north = Some (pos 0); east = Some (pos 0); height = Some (pos 0) }
 
 record Facts (z wanted : List ℤ) (m : ℤ) (g : Grid) : Type 0 where
   pub number : g.number ≡ pos 1023
   pub shown : same_z g.indicators.vertical (pos 0) ≡ false
   pub method : same_z g.methods.vertical (pos 0) ≡ true
-  pub north : g.origin.north ≡ Value (Lists.at z 4)
-  pub east : g.origin.east ≡ Value (Lists.at z 5)
+  pub north : g.origin.north ≡ Some (Lists.at z 4)
+  pub east : g.origin.east ≡ Some (Lists.at z 5)
   pub rows : g.spacing.north ≡ Lists.at z 6
   pub columns : g.spacing.east ≡ Lists.at z 7
   pub spaced : (same_z g.spacing.north (pos 0) || same_z g.spacing.east (pos 0)) ≡ false
-  pub mean : g.mean.height ≡ Value m
+  pub mean : g.mean.height ≡ Some m
   pub sixteen : length g.nodes ≡ 16
-  pub node : (k : ℕ) → k < 16 → (get_or g.nodes k zeros).height ≡ Value (less (Lists.at wanted k) m)
+  pub node : (k : ℕ) → k < 16 → (get_or g.nodes k zeros).height ≡ Some (less (Lists.at wanted k) m)
 
 natural-is : (y : ℤ) (k : ℕ) → natural y ≡ suc k → y ≡ pos (suc k)
 natural-is (pos n) k e = ap pos e
@@ -245,19 +243,19 @@ module _ (z : List ℤ) (b : List ℕ) (wanted : List ℤ) (n : ℕ) (e : height
         spaced = or-false _ _ (passed 12 _ _ w.1).0;
       }
 
-  module _ (m : ℤ) (f : smallest_mean wanted ≡ Is m) where
+  module _ (m : ℤ) (f : smallest_mean wanted ≡ Some m) where
     abbrev zs : List ℤ
     zs = height_values z wanted m
 
     abbrev bs : List ℕ
     bs = height_present b
 
-    abbrev v : List Reading
+    abbrev v : List (Option ℤ)
     v = row_of zs bs
 
     later : (of_kind 1023 1023 v ≡ true) × (first (row_tests zs bs n) ≡ 0)
     later =
-        let h : first (mean_tests z b wanted n (Is m)) ≡ 0 = ap (λ (k : Mean). first (mean_tests z b wanted n k)) (sym f) ∙ tests.1 in
+        let h : first (mean_tests z b wanted n (Some m)) ≡ 0 = ap (λ (k : Option ℤ). first (mean_tests z b wanted n k)) (sym f) ∙ tests.1 in
         let x = passed 4 (not (of_kind 1023 1023 v)) _ h in
         (not-false _ x.0, x.1)
 
@@ -287,10 +285,10 @@ module _ (z : List ℤ) (b : List ℕ) (wanted : List ℤ) (n : ℕ) (e : height
         rw (other-value z b wanted m k l o, other_byte z b wanted m k l o) at h
 
     -- a field that has a value says it
-    says-value : (k : ℕ) → k < 64 → of_height k ≡ false → eqb (get_or b k 0) 1 ≡ true → says v k ≡ Value (Lists.at z k)
+    says-value : (k : ℕ) → k < 64 → of_height k ≡ false → eqb (get_or b k 0) 1 ≡ true → says v k ≡ Some (Lists.at z k)
     says-value k l o t = says_other_lem z b wanted m k l o ∙ rw t
 
-    node_of : (k : ℕ) → k < 16 → (get_or (nodes_at (says v) 11) k zeros).height ≡ Value (less (Lists.at wanted k) m)
+    node_of : (k : ℕ) → k < 16 → (get_or (nodes_at (says v) 11) k zeros).height ≡ Some (less (Lists.at wanted k) m)
     unfolding nodes_at shifts_at
     node_of k l =
         let e : 11 + 3 * k + 2 ≡ 13 + 3 * k = omega arith in
@@ -340,7 +338,7 @@ module _ (z : List ℤ) (b : List ℕ) (wanted : List ℤ) (n : ℕ) (e : height
       g = grid_of (says (row s))
 
       facts-of : Facts z wanted m g
-      facts-of = subst (λ (w : List Reading). Facts z wanted m (grid_of (says w))) (sym (row-of-message zs bs n written)) facts
+      facts-of = subst (λ (w : List (Option ℤ)). Facts z wanted m (grid_of (says w))) (sym (row-of-message zs bs n written)) facts
 
       answer : message_shift s 2 north east ≡ outcome (pos 1023) 2 0 (pos 10 *ℤ Lists.at wanted (4 * i + j))
       unfolding message_shift shift_with
@@ -371,6 +369,6 @@ module _ (z : List ℤ) (b : List ℕ) (wanted : List ℤ) (n : ℕ) (e : height
 pub gives-wanted : GivesWanted
 gives-wanted z b wanted n e i j row column turns north east q r bound =
     ⊎_elim
-    (λ (p : (m : ℤ) × (smallest_mean wanted ≡ Is m)). with-mean z b wanted n e p.0 p.1 i j row column turns north east q r bound)
+    (λ (p : (m : ℤ) × (smallest_mean wanted ≡ Some m)). with-mean z b wanted n e p.0 p.1 i j row column turns north east q r bound)
     (λ (h : NoneFits wanted). absurd (some-mean z b wanted n e h))
     (found-or-none wanted)

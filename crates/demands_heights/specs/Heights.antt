@@ -7,7 +7,7 @@ use Rattle.arith.specs.Whole.{natural}
 use Rattle.layout.specs.Layout.{place_takes}
 use Rattle.layout_tables.specs.Layouts.{layout1023}
 use Rattle.heights_mean.specs.Means.{fits, smallest_mean}
-use Rattle.heights_mean.specs.declared.Mean.TheVariants.{Is}
+use Rattle.std.specs.Prelude.{Some}
 use Rattle.heights.specs.Heights.{of_height, record_tests, heights_refusal, heights_message, write_heights}
 use Rattle.grid_refusals.specs.Refusals.{beyond}
 use Rattle.grid_place.specs.Position.{turn}
@@ -27,7 +27,7 @@ pub record Smallest (wanted : List ℤ) (m : ℤ) : Type 0 where
   pub least : (k : ℤ) → nat_abs k ≤ 16383 → k <ℤ m → fits wanted k ≡ false
 
 abbrev pub ChoosesSmallest : Type 0
-ChoosesSmallest = (wanted : List ℤ) (m : ℤ) → smallest_mean wanted ≡ Is m → Smallest wanted m
+ChoosesSmallest = (wanted : List ℤ) (m : ℤ) → smallest_mean wanted ≡ Some m → Smallest wanted m
 
 -- ---- refusals
 

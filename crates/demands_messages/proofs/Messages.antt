@@ -1,5 +1,6 @@
 -- The demands on messages hold: each statement of specs/Messages.antt, from the laws of layouts, of rows, of the records and of messages.
 -- Assumes nothing.
+use Rattle.std.proofs.Common.{ℤ, Option, Some}
 use Prim.Native.Nat.{ℕ, ◌+◌, ◌*◌, ◌≤◌, ◌<◌}
 use native.Mathlib.Omega.{arith}
 use native.Mathlib.Nat.{lt_irrefl}
@@ -11,8 +12,6 @@ use lib.Dec.{ltb}
 use lib.IntN.{pos}
 use lib.ListN.{length, length-append, length-replicate}
 use borrow.Author.Tests.{lt-ltb, le-ltb, lt-leb, le-leb, ne_eqb}
-use Rattle.field.specs.declared.Reading.{Reading}
-use Rattle.field.specs.declared.Reading.TheVariants.{Value}
 use Rattle.record_rows.specs.Numbers.{says, values_of, present_of}
 use Rattle.field.specs.Field.{field}
 use Rattle.layout.specs.Layout.{uint, total, size, zero_from, all_take, decode_all, answered}
@@ -121,11 +120,11 @@ accepted-lengths s e =
     }
 
 -- the field behind the names
-behind : (n m : ℕ) (b s : List ℕ) → says (decode_all (names n m ++ (uint 8 ∷ b)) 0 s) (3 + n + m) ≡ Value (pos (field s (22 + 8 * (n + m)) 8))
+behind : (n m : ℕ) (b s : List ℕ) → says (decode_all (names n m ++ (uint 8 ∷ b)) 0 s) (3 + n + m) ≡ Some (pos (field s (22 + 8 * (n + m)) 8))
 behind n m b s =
     let l : length (names n m) ≡ 3 + n + m = simp (length-append, length-replicate) (omega arith) in
     let t : 0 + total (names n m) ≡ 22 + 8 * (n + m) = omega (arith, total-names n m) in
-    ap (says (decode_all (names n m ++ (uint 8 ∷ b)) 0 s)) (sym l) ∙ value-at (names n m) (uint 8) b 0 s ∙ ap (λ (p : ℕ). Value (pos (field s p 8))) t
+    ap (says (decode_all (names n m ++ (uint 8 ∷ b)) 0 s)) (sym l) ∙ value-at (names n m) (uint 8) b 0 s ∙ ap (λ (p : ℕ). Some (pos (field s p 8))) t
 
 pub sin-found : SinFound
 sin-found s e =
@@ -136,8 +135,8 @@ sin-found s e =
       named =
           λ l.
           rw (le-leb (number_of s) 1022 l)
-          (ap (λ (v : List Reading). says v (3 + n + m)) (row_of_lem s e ∙ ap (λ (l : List ℕ). decode_all l 0 s) (layout-at s (number_of s) refl))
-          ∙ by_number (λ k. k ≤ 1022 → says (decode_all (layout_of k n m) 0 s) (3 + n + m) ≡ Value (pos (field s (22 + 8 * (n + m)) 8))) (number_of s) h.low h.high
+          (ap (λ (v : List (Option ℤ)). says v (3 + n + m)) (row_of_lem s e ∙ ap (λ (l : List ℕ). decode_all l 0 s) (layout-at s (number_of s) refl))
+          ∙ by_number (λ k. k ≤ 1022 → says (decode_all (layout_of k n m) 0 s) (3 + n + m) ≡ Some (pos (field s (22 + 8 * (n + m)) 8))) (number_of s) h.low h.high
           (λ _. unfold layout_of layout1021 tail1021 in behind n m _ s)
           (λ _. unfold layout_of layout1022 tail1022 in behind n m _ s)
           (λ g. absurd (lt_irrefl 0 (omega arith))) (λ g. absurd (lt_irrefl 0 (omega arith))) (λ g. absurd (lt_irrefl 0 (omega arith)))
@@ -146,8 +145,8 @@ sin-found s e =
       fixed =
           λ l.
           rw (lt-leb (number_of s) 1022 l)
-          (ap (λ (v : List Reading). says v 1) (row_of_lem s e ∙ ap (λ (l : List ℕ). decode_all l 0 s) (layout-at s (number_of s) refl))
-          ∙ by_number (λ k. 1023 ≤ k → says (decode_all (layout_of k n m) 0 s) 1 ≡ Value (pos (field s 12 8))) (number_of s) h.low h.high
+          (ap (λ (v : List (Option ℤ)). says v 1) (row_of_lem s e ∙ ap (λ (l : List ℕ). decode_all l 0 s) (layout-at s (number_of s) refl))
+          ∙ by_number (λ k. 1023 ≤ k → says (decode_all (layout_of k n m) 0 s) 1 ≡ Some (pos (field s 12 8))) (number_of s) h.low h.high
           (λ g. absurd (lt_irrefl 0 (omega arith)))
           (λ g. absurd (lt_irrefl 0 (omega arith)))
           (λ _. unfold layout_of layout1023 decode_all in refl)

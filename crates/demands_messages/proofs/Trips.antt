@@ -1,5 +1,6 @@
 -- Both round trips hold of rows and of each kind of record, and the writers' refusals are 5 and 6 in this order. Rests on the laws of rows and of records.
 -- Assumes nothing.
+use Rattle.std.proofs.Common.{Option}
 use Prim.Native.Nat.{ℕ, suc, ◌≤◌, ◌<◌}
 use native.Mathlib.Omega.{arith}
 use native.Mathlib.Decide.{ℕ_discrete}
@@ -13,7 +14,6 @@ use borrow.Author.Tests.{ne_eqb, ltb-false}
 use Rattle.arith.specs.First.{first}
 use Rattle.arith.proofs.First.{passed, not-false}
 use Rattle.arith.specs.Whole.{natural}
-use Rattle.field.specs.declared.Reading.{Reading}
 use Rattle.record_rows.specs.Numbers.{says, number_at, values_of, present_of}
 use Rattle.layout.specs.Layout.{size, row_of, row_takes, answered, stored}
 use Rattle.layout.proofs.Round.{row_in}
@@ -131,12 +131,12 @@ row-trips = record { again = row-again; back = λ b out w e. row_back b out e; o
 -- ---- a kind whose messages have the numbers lo to hi
 
 -- an accepted message of the kind, whose row is v
-kind-again : (lo hi : ℕ) (good : Bool) (s out : List ℕ) (v : List Reading) → message v ≡ s → ((n : ℕ) → length s ≤ n → kind_write_refusal lo hi good (values_of v) (present_of v) n ≡ 0)
+kind-again : (lo hi : ℕ) (good : Bool) (s out : List ℕ) (v : List (Option ℤ)) → message v ≡ s → ((n : ℕ) → length s ≤ n → kind_write_refusal lo hi good (values_of v) (present_of v) n ≡ 0)
     → length s ≤ length out → write_kind lo hi good (values_of v) (present_of v) out ≡ written s out
 kind-again lo hi good s out v m w h = done _ _ out (w (length out) h) ∙ ap (λ (k : List ℕ). written k out) (ap message (row_in v) ∙ m)
 
 -- a record r with the row v, which its message reads back
-kind-back : {R : Type 0} (refused : List ℕ → ℕ) (value : List ℕ → R) (r : R) (lo hi : ℕ) (good : Bool) (v : List Reading) (out : List ℕ)
+kind-back : {R : Type 0} (refused : List ℕ → ℕ) (value : List ℕ → R) (r : R) (lo hi : ℕ) (good : Bool) (v : List (Option ℤ)) (out : List ℕ)
     → kind_write_refusal lo hi good (values_of v) (present_of v) (length out) ≡ 0 → refused (message v) ≡ 0 → value (message v) ≡ r
     → Back refused value r out (write_kind lo hi good (values_of v) (present_of v) out)
 kind-back refused value r lo hi good v out e a q =
@@ -156,7 +156,7 @@ kind-back refused value r lo hi good v out e a q =
     }
 
 -- with both names good the writer answers as for a kind without names
-named-too : (a b : Name) (lo hi n : ℕ) (v : List Reading) → (good_name a ≡ true) × (good_name b ≡ true)
+named-too : (a b : Name) (lo hi n : ℕ) (v : List (Option ℤ)) → (good_name a ≡ true) × (good_name b ≡ true)
     → kind_write_refusal lo hi true (values_of v) (present_of v) n ≡ 0 → kind_write_refusal lo hi (good_name a && good_name b) (values_of v) (present_of v) n ≡ 0
 named-too a b lo hi n v g e = rw (g.0, g.1) e
 

@@ -1,8 +1,7 @@
 -- The demands on messages, in document 01's words, as statements. The proofs are in proofs/Messages.antt and proofs/Trips.antt.
 -- Assumes nothing.
-use Rattle.std.specs.Prelude.{ℕ, ◌+◌, ◌*◌, ◌≤◌, ◌<◌, ◌≡◌, ◌⊎◌, Bool, true, false, List, [], ◌∷◌, ◌++◌, ltb, ℤ, pos, length, get_or, drop}
+use Rattle.std.specs.Prelude.{ℕ, ◌+◌, ◌*◌, ◌≤◌, ◌<◌, ◌≡◌, ◌⊎◌, Bool, true, false, List, [], ◌∷◌, ◌++◌, ltb, ℤ, pos, length, get_or, drop, Some}
 use Rattle.arith.specs.First.{first}
-use Rattle.field.specs.declared.Reading.TheVariants.{Value}
 use Rattle.record_rows.specs.Numbers.{says, values_of, present_of}
 use Rattle.layout.specs.Layout.{size, total, zero_from, all_take, decode_all}
 use Rattle.record_transformations.specs.declared.Name.{Name}
@@ -54,8 +53,8 @@ AcceptedLengths = (s : List ℕ) → refusal s ≡ 0 → Lengths s
 
 -- DF147 stands behind both names of 1021 and 1022, and at place 1 of the other rows
 pub record SinPlace (s : List ℕ) : Type 0 where
-  pub named : number_of s ≤ 1022 → says (row s) (3 + source_count s + target_count s) ≡ Value (pos (sin_of s))
-  pub fixed : 1023 ≤ number_of s → says (row s) 1 ≡ Value (pos (sin_of s))
+  pub named : number_of s ≤ 1022 → says (row s) (3 + source_count s + target_count s) ≡ Some (pos (sin_of s))
+  pub fixed : 1023 ≤ number_of s → says (row s) 1 ≡ Some (pos (sin_of s))
 
 abbrev pub SinFound : Type 0
 SinFound = (s : List ℕ) → refusal s ≡ 0 → SinPlace s

@@ -5,7 +5,7 @@ use Rattle.table_slots.specs.Slots.{slots, slot}
 use Rattle.table.specs.Table.{well_formed, found_of}
 use Rattle.table_history.specs.History.{Call, after_all}
 use Rattle.table_index_search.specs.Index.{key_at, slot_at}
-use Rattle.table_index_search.specs.Search.{named, searched, entries_at}
+use Rattle.table_index_search.specs.Search.{named, is_found, slot_found, searched, entries_at}
 use Rattle.table_index_search.specs.Means.{mark_in, Agrees}
 use Rattle.table_indexed.specs.Indexed.{entry_key, slot_key, slot_keys, agrees_refusal, write_refusal, write_index}
 use Rattle.table_indexed.specs.Find.{found_by}
@@ -55,5 +55,5 @@ abbrev pub FindReads : Type 0
 FindReads =
     (t t' x x' : List ℕ) (owner sin group : ℕ) → length t ≡ length t' → length x ≡ length x'
     → entries_at x (named x (entry_key owner sin group)) ≡ entries_at x' (named x (entry_key owner sin group))
-    → ((searched x (entry_key owner sin group)).found ≡ true → slot t (searched x (entry_key owner sin group)).slot ≡ slot t' (searched x (entry_key owner sin group)).slot)
+    → (is_found (searched x (entry_key owner sin group)) ≡ true → slot t (slot_found (searched x (entry_key owner sin group))) ≡ slot t' (slot_found (searched x (entry_key owner sin group))))
     → found_by t x owner sin group ≡ found_by t' x' owner sin group

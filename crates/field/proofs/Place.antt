@@ -1,5 +1,6 @@
 -- Fields that stand in the bytes or do not, and what is said of them.
 -- Assumes nothing.
+use Rattle.std.proofs.Common.{Some}
 use mathlib.Core.Path.{◌≡◌}
 use mathlib.Core.Bool.{Bool, true, false, cond, ◌&&◌}
 use mathlib.Core.List.{List}
@@ -15,7 +16,6 @@ use borrow.Author.Tests.{le-leb, lt-leb, leb-true, lt-ltb, ne_eqb}
 use Rattle.arith.proofs.Tests.{both_first, both-second}
 use Rattle.field.specs.Field.{field, signed_of, twos}
 use Rattle.field.specs.Inner.{contains, field_at, low_bits}
-use Rattle.field.specs.declared.Reading.TheVariants.{Value}
 use Rattle.field.proofs.Bit.{field_lt}
 
 module _ (s : List ℕ) (p w : ℕ) where
@@ -51,7 +51,7 @@ module _ (s : List ℕ) (p w : ℕ) where
       by (no h) = rw (le-leb w 63 (omega arith)) (mod-eq_of_lt field_at-lt)
 
 -- a signed field of more bits than it may have says 0
-pub wide-says : (w u : ℕ) → 63 < w → signed_of w (low_bits w u) ≡ Value (pos 0)
+pub wide-says : (w u : ℕ) → 63 < w → signed_of w (low_bits w u) ≡ Some (pos 0)
 unfolding signed_of twos
 wide-says w u h =
     let two : 2 ^ 1 ≤ 2 ^ w = pow_mono {i = 1} {j = w} (omega arith) in

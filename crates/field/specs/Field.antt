@@ -1,8 +1,6 @@
 -- Bits and fields of a list of bytes, most significant bit first (document 01, "Message layouts").
 -- Assumes nothing.
-use Rattle.std.specs.Prelude.{ℕ, zero, suc, ◌+◌, ◌-◌, ◌*◌, ◌/◌, ◌%◌, ◌^◌, List, cond, ltb, eqb, get_or, set, ℤ, pos, negsuc}
-use Rattle.field.specs.declared.Reading.{Reading}
-use Rattle.field.specs.declared.Reading.TheVariants.{Value, Absent}
+use Rattle.std.specs.Prelude.{ℕ, zero, suc, ◌+◌, ◌-◌, ◌*◌, ◌/◌, ◌%◌, ◌^◌, List, cond, ltb, eqb, get_or, set, ℤ, pos, negsuc, Option, Some, None}
 
 -- ---- numbers in bits
 
@@ -39,11 +37,11 @@ unfoldable pub twos : ℕ → ℕ → ℤ
 twos w u = cond (ltb (u * 2) (2 ^ w)) (pos u) (negsuc (2 ^ w - suc u))
 
 -- what the pattern u of w bits says
-unfoldable pub signed_of : ℕ → ℕ → Reading
-signed_of w u = cond (eqb u (none_of w)) Absent (Value (twos w u))
+unfoldable pub signed_of : ℕ → ℕ → Option ℤ
+signed_of w u = cond (eqb u (none_of w)) None (Some (twos w u))
 
 -- the pattern of w bits: z itself, z + 2^w where z is negative, or the most negative one
-abbrev pub pattern_of : ℕ → Reading → ℕ
-pattern_of w (Value (pos n)) = n
-pattern_of w (Value (negsuc n)) = 2 ^ w - suc n
-pattern_of w Absent = none_of w
+abbrev pub pattern_of : ℕ → Option ℤ → ℕ
+pattern_of w (Some (pos n)) = n
+pattern_of w (Some (negsuc n)) = 2 ^ w - suc n
+pattern_of w None = none_of w

@@ -1,14 +1,12 @@
 -- What only promises between crates name.
 -- Assumes nothing.
-use Rattle.std.specs.Prelude.{ℕ, ◌+◌, ◌*◌, ◌%◌, ◌^◌, List, Bool, true, cond, ◌&&◌, ltb, leb, length, nat_abs}
-use Rattle.field.specs.declared.Reading.{Reading}
-use Rattle.field.specs.declared.Reading.TheVariants.{Value, Absent}
+use Rattle.std.specs.Prelude.{ℕ, ◌+◌, ◌*◌, ◌%◌, ◌^◌, List, Bool, true, cond, ◌&&◌, ltb, leb, length, nat_abs, ℤ, Option, Some, None}
 use Rattle.field.specs.Field.{field, set_field, none_of, signed_of, pattern_of}
 
 -- the values of w bits are those between the most negative one and its opposite
-abbrev pub fits : ℕ → Reading → Bool
-fits w (Value z) = ltb (nat_abs z) (none_of w)
-fits w Absent = true
+abbrev pub fits : ℕ → Option ℤ → Bool
+fits w (Some z) = ltb (nat_abs z) (none_of w)
+fits w None = true
 
 -- ---- fields of lent bytes
 
@@ -24,12 +22,12 @@ field_at s p w = cond (contains s p w) (field s p w) 0
 abbrev pub low_bits : ℕ → ℕ → ℕ
 low_bits w u = cond (leb w 63) (u % 2 ^ w) 0
 
-unfoldable pub signed_at : List ℕ → ℕ → ℕ → Reading
+unfoldable pub signed_at : List ℕ → ℕ → ℕ → Option ℤ
 signed_at s p w = signed_of w (field_at s p w)
 
 -- s with a number in a field, or with what a signed field is to say; s where s does not contain the field or the number does not fit
 unfoldable pub put_field : List ℕ → ℕ → ℕ → ℕ → List ℕ
 put_field s p w v = cond (contains s p w && ltb v (2 ^ w)) (set_field s p w v) s
 
-unfoldable pub put_signed : List ℕ → ℕ → ℕ → Reading → List ℕ
+unfoldable pub put_signed : List ℕ → ℕ → ℕ → Option ℤ → List ℕ
 put_signed s p w r = cond (fits w r) (put_field s p w (pattern_of w r)) s

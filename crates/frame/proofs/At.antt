@@ -8,30 +8,11 @@ use native.Mathlib.Omega.{arith}
 use lib.Dec.{ltb}
 use lib.ListN.{length, take, drop, length-drop}
 use lib.Seq.{take_all}
-use borrow.Author.Tests.{lt-ltb, le-ltb, le-leb, lt-leb, ltb-true}
+use borrow.Author.Tests.{lt-ltb, le-ltb, lt-leb, ltb-true}
 use Rattle.arith.proofs.Places.{round-hit, round-on, round-end, From, from}
 use Rattle.arith.proofs.Tests.{both_first, both-second}
-use Rattle.frame.specs.Frames.{candidate, length_of, right_crc, unfinished, whole, stands_at, first_place, found, need, no_frame, answer_of, find_frame}
+use Rattle.frame.specs.Frames.{candidate, length_of, unfinished, whole, stands_at, first_place, found, need, no_frame, answer_of, find_frame}
 use Rattle.frame.specs.Private.{frame_at}
-
--- ---- the branches at one place
-
-module _ (t : List ℕ) (at : ℕ) where
-  pub other : candidate t ≡ false → no_frame ≡ frame_at t at
-  unfolding frame_at unfinished whole
-  other e = rw e
-
-  pub short : candidate t ≡ true → length t < length_of t + 6 → need at ≡ frame_at t at
-  unfolding frame_at unfinished
-  short e h = rw (e, lt-ltb (length t) (length_of t + 6) h)
-
-  pub right : candidate t ≡ true → length_of t + 6 ≤ length t → right_crc t ≡ true → found at (length_of t) ≡ frame_at t at
-  unfolding frame_at unfinished whole
-  right e h r = rw (e, le-ltb (length t) (length_of t + 6) h, le-leb (length_of t + 6) (length t) h, r)
-
-  pub wrong : candidate t ≡ true → length_of t + 6 ≤ length t → right_crc t ≡ false → no_frame ≡ frame_at t at
-  unfolding frame_at unfinished whole
-  wrong e h r = rw (e, le-ltb (length t) (length_of t + 6) h, le-leb (length_of t + 6) (length t) h, r)
 
 -- no place has both
 pub apart : (t : List ℕ) → unfinished t ≡ true → whole t ≡ false

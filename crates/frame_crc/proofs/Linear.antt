@@ -8,10 +8,11 @@ use native.Mathlib.Decide.{dec_lt}
 use lib.Arith.{bin_ind}
 use lib.Pow.{pow_pos}
 use lib.Bits.{bit_xor, differ, xor_step, xor_comm, xor_lt, xor_shr, xor_mod, xor_block, xor_zero_r}
-use mathlib.Core.List.{List, [], ◌∷◌}
+use mathlib.Core.List.{List, [], ◌∷◌, ◌++◌}
 use native.Mathlib.Numerals.{add-one}
-use lib.ListN.{length, get_or, drop, drop_of_length-le}
-use lib.Seq.{drop-cons}
+use lib.ListN.{length, get_or, take, drop, drop_of_length-le, take-append-drop}
+use lib.Seq.{drop-cons, drop-drop}
+use Rattle.std.specs.Simd.{first_chunks}
 use borrow.Author.Tests.{lt-ltb, le-ltb}
 use Rattle.frame_crc.specs.Crc.{polynomial, reduced, crc_bit, crc_bits, crc_byte, crc_from, crc}
 
@@ -177,24 +178,24 @@ pub round : (c : ℕ) (s : List ℕ) (i : ℕ) → i < length s → crc_from (cr
 unfolding crc_from
 round c s i h = rw (add-one, drop-cons s i 0)
 
-pub four-lt : (c x y z v : ℕ) → c < 2 ^ 24 → crc_byte (crc_byte (crc_byte (crc_byte c x) y) z) v < 2 ^ 24
-four-lt c x y z v h =
-    byte-lt (crc_byte (crc_byte (crc_byte c x) y) z) v (byte-lt (crc_byte (crc_byte c x) y) z (byte-lt (crc_byte c x) y (byte-lt c x h)))
+pub from-append : (c : ℕ) (s r : List ℕ) → crc_from c (s ++ r) ≡ crc_from (crc_from c s) r
+unfolding crc_from
+from-append c [] r = refl
+from-append c (x ∷ s) r = from-append (crc_byte c x) s r
 
-next : (c : ℕ) (s : List ℕ) (i j : ℕ) → j ≡ i + 1 → i < length s → crc_from (crc_byte c (get_or s i 0)) (drop j s) ≡ crc_from c (drop i s)
-next c s i j e h = ap (λ (k : ℕ). crc_from (crc_byte c (get_or s i 0)) (drop k s)) e ∙ round c s i h
+chunk-at : (n k i : ℕ) (s : List ℕ) → i < k → get_or (first_chunks n k s) i [] ≡ take n (drop (i * n) s)
+chunk-at n zero i s h = absurd (omega arith)
+chunk-at n (suc k) zero s h = let e : 0 * n ≡ 0 = omega arith in rw e
+chunk-at n (suc k) (suc i) s h =
+    let e : n + i * n ≡ suc i * n = omega arith in
+    chunk-at n k i (drop n s) (omega arith) ∙ ap (take n) (drop-drop (i * n) n s ∙ ap (λ (j : ℕ). drop j s) e)
 
-pub round-four : (c : ℕ) (s : List ℕ) (i : ℕ) → i + 4 ≤ length s
-    → crc_from (crc_byte (crc_byte (crc_byte (crc_byte c (get_or s i 0)) (get_or s (i + 1) 0)) (get_or s (i + 2) 0)) (get_or s (i + 3) 0)) (drop (i + 4) s)
-    ≡ crc_from c (drop i s)
-round-four c s i h =
-    let c1 : ℕ = crc_byte c (get_or s i 0) in
-    let c2 : ℕ = crc_byte c1 (get_or s (i + 1) 0) in
-    let c3 : ℕ = crc_byte c2 (get_or s (i + 2) 0) in
-    next c3 s (i + 3) (i + 4) (omega arith) (omega arith)
-    ∙ next c2 s (i + 2) (i + 3) (omega arith) (omega arith)
-    ∙ next c1 s (i + 1) (i + 2) (omega arith) (omega arith)
-    ∙ round c s i (omega arith)
+-- the same by chunks of n bytes
+pub round-chunk : (c n k i : ℕ) (s : List ℕ) → i < k
+    → crc_from (crc_from c (get_or (first_chunks n k s) i [])) (drop ((i + 1) * n) s) ≡ crc_from c (drop (i * n) s)
+round-chunk c n k i s h =
+    let e : (i + 1) * n ≡ i * n + n = omega arith in
+    rw (chunk-at n k i s h, e, ← drop-drop n (i * n) s, ← from-append c (take n (drop (i * n) s)) (drop n (drop (i * n) s)), take-append-drop n (drop (i * n) s))
 
 pub done : (c : ℕ) (s : List ℕ) (i : ℕ) → length s ≤ i → crc_from c (drop i s) ≡ c
 unfolding crc_from

@@ -3,19 +3,21 @@
 use Prim.Native.Nat.{ℕ, zero, suc, ◌+◌, ◌*◌, ◌/◌, ◌%◌, ◌^◌, ◌<◌, ◌≤◌}
 use mathlib.Core.Bool.{Bool, true}
 use mathlib.Core.Path.{◌≡◌, refl, sym, ap, ap₂, subst, ◌∙◌}
-use mathlib.Core.List.{List}
+use mathlib.Core.List.{List, [], ◌∷◌}
 use native.Mathlib.Nat.{mod-lt, zero-add, suc-add, add_comm, add_assoc, add-mul, mul_comm, mul_assoc, mul-one, pow-suc}
 use native.Mathlib.Omega.{arith}
 use lib.Pow.{pow_pos, pow_mono, shl_lt, shr_lt, shr-shr, split}
 use lib.Pow as pow
+use mir.Syntax.{w32}
+use Rattle.std.specs.Int.{from_be_bytes}
 use lib.Dec.{eqb}
 use lib.Bits.{bit_xor, xor_comm, xor_lt, xor_shifted, xor_zero_r}
-use lib.ListN.{get_or}
+use lib.ListN.{length, get_or}
 use borrow.Author.Tests.{eqb-true}
 use Rattle.arith.specs.Lists.{all_below}
 use Rattle.arith.proofs.Lists.{get_d-up_to}
 use Rattle.arith.proofs.Tests.{all-at}
-use Rattle.frame_crc.specs.Crc.{reduced, crc_bit, crc_bits, crc_byte}
+use Rattle.frame_crc.specs.Crc.{reduced, crc_bit, crc_bits, crc_byte, crc_from}
 use Rattle.frame_crc.specs.Private.{part, parts}
 use Rattle.frame_crc.proofs.Linear.{bits-xor, shifted, low}
 
@@ -150,13 +152,17 @@ byte_more n c w x h =
     ∙ ap (λ (y : ℕ). crc_bits 8 (crc_bits n c y) (w * 256 + x)) e
     ∙ last-bits 8 (crc_bits n c w) w x
 
-pub four : (c x y z v : ℕ) → x < 256 → y < 256 → z < 256 → v < 256
-    → crc_bits 32 c (x * 16777216 + y * 65536 + z * 256 + v) ≡ crc_byte (crc_byte (crc_byte (crc_byte c x) y) z) v
-four c x y z v p q r s =
-    let e : x * 16777216 + y * 65536 + z * 256 + v ≡ ((x * 256 + y) * 256 + z) * 256 + v = omega arith in
+pub four : (c : ℕ) (s : List ℕ) → length s ≡ 4 → ((i : ℕ) → get_or s i 0 < 256) → crc_bits 32 c (from_be_bytes w32 s) ≡ crc_from c s
+unfolding crc_from
+four c (x ∷ y ∷ z ∷ v ∷ []) l h =
+    let p : y < 256 = h 1 in
+    let q : z < 256 = h 2 in
+    let r : v < 256 = h 3 in
+    let e : from_be_bytes w32 (x ∷ y ∷ z ∷ v ∷ []) ≡ ((x * 256 + y) * 256 + z) * 256 + v = omega arith in
     ap (crc_bits 32 c) e
-    ∙ byte_more 24 c ((x * 256 + y) * 256 + z) v s
-    ∙ ap (λ (k : ℕ). crc_byte k v) (byte_more 16 c (x * 256 + y) z r ∙ ap (λ (k : ℕ). crc_byte k z) (byte_more 8 c x y q))
+    ∙ byte_more 24 c ((x * 256 + y) * 256 + z) v r
+    ∙ ap (λ (k : ℕ). crc_byte k v) (byte_more 16 c (x * 256 + y) z q ∙ ap (λ (k : ℕ). crc_byte k z) (byte_more 8 c x y p))
+four c _ l h = absurd (omega arith)
 
 -- a byte behind zero bits
 one : (x : ℕ) → x < 256 → crc_bits 32 0 x ≡ crc_byte 0 x

@@ -1,7 +1,7 @@
 // CRC-24Q of bytes, four bytes a step.
 #![tactic(auto)]
 
-ghost use Rattle.std.specs.Prelude.{◌≡◌, ◌<◌, ◌^◌, drop};
+ghost use Rattle.std.specs.Prelude.{◌≡◌, ◌<◌, ◌^◌};
 ghost use Rattle.frame_crc.specs.Crc.{crc_bits, crc_byte, crc_from, crc};
 ghost use Rattle.frame_crc.specs.Private.{parts};
 
@@ -40,15 +40,15 @@ fn word_left(table: &[u32; 128], w: u32) -> u32
 }
 
 // The remainder after four more bytes: the high three take up the remainder so far.
-fn crc_four(table: &[u32; 128], c: u32, x: u8, y: u8, z: u8, v: u8) -> u32
+fn crc_four(table: &[u32; 128], c: u32, word: &[u8; 4]) -> u32
     requires { (table.now ≡ parts) × (c < 2 ^ 24) }
-    ensures { result ≡ crc_byte (crc_byte (crc_byte (crc_byte c x) y) z) v }
+    ensures { result ≡ crc_from c word.now }
 {
-    let w = x as u32 * 16777216 + y as u32 * 65536 + z as u32 * 256 + v as u32;
-    word_left(table, c * 256 ^ w)
+    word_left(table, c * 256 ^ u32::from_be_bytes(*word))
 }
 
 // The remainder after one more byte.
+#[tactic(auto, using(crate::proofs::Parts::byte_small))]
 fn crc_byte(table: &[u32; 128], c: u32, x: u8) -> u32
     requires { (table.now ≡ parts) × (c < 2 ^ 24) }
     ensures { result ≡ crc_byte c x }
@@ -57,16 +57,14 @@ fn crc_byte(table: &[u32; 128], c: u32, x: u8) -> u32
     c % 65536 * 256 ^ (table[(16 + y / 16) as usize] ^ table[(y % 16) as usize])
 }
 
-// The remainder after the bytes of s from a place on, byte by byte.
-fn crc_end(table: &[u32; 128], start: u32, s: &[u8], from: usize) -> u32
+// The remainder after the bytes of s, byte by byte.
+fn crc_end(table: &[u32; 128], start: u32, s: &[u8]) -> u32
     requires { (table.now ≡ parts) × (start < 2 ^ 24) }
-    ensures { result ≡ crc_from start (drop from s.now) }
+    ensures { result ≡ crc_from start s.now }
 {
     let mut c = start;
-    let mut i = from;
-    while i < s.len() {
-        c = crc_byte(table, c, s[i]);
-        i += 1;
+    for x in s {
+        c = crc_byte(table, c, *x);
     }
     c
 }
@@ -76,13 +74,12 @@ fn crc_by(table: &[u32; 128], s: &[u8]) -> u32
     requires { table.now ≡ parts }
     ensures { result ≡ crc s.now }
 {
+    let (words, end) = s.as_chunks::<4>();
     let mut c: u32 = 0;
-    let mut i = 0;
-    while 4 <= s.len() - i {
-        c = crc_four(table, c, s[i], s[i + 1], s[i + 2], s[i + 3]);
-        i += 4;
+    for word in words {
+        c = crc_four(table, c, word);
     }
-    crc_end(table, c, s, i)
+    crc_end(table, c, end)
 }
 
 // The CRC of s.

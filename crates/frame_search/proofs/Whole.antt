@@ -12,7 +12,7 @@ use Rattle.frame.specs.declared.Frame.{Frame}
 use Rattle.frame.specs.Frames.{length_of, unfinished, whole, found, need, no_frame, find_frame}
 use Rattle.frame.proofs.At.{over, waits, hits}
 use Rattle.frame.proofs.Behind.{Clear, skip, up_to, found-stays, need-goes-on, Waiting, Standing, Nothing, Answer, waiting, standing, nothing, answer}
-use Rattle.frame_search.specs.Steps.{found-step, end_step, pass_step, wait-step, step_by, step_of, frames_within, frames_from, reported, moved}
+use Rattle.frame_search.specs.Steps.{step_by, step_of, frames_within, frames_from, reported, moved}
 use Rattle.frame_search.proofs.Inside.{frame-inside, place_inside}
 
 -- ---- a round of the whole search
@@ -107,7 +107,7 @@ module _ (s : List ℕ) where
 module _ (w x : List ℕ) (from : ℕ) (ended : Bool) (there : from ≤ length w) (all : ended ≡ true → x ≡ []) where
   -- law: what the search finds from a place is what the step reports and what it finds from the step's next place
   pub step_right : frames_from (w ++ x) from ≡ reported (step_of w from ended) ++ frames_from (w ++ x) (step_of w from ended).next
-  unfolding step_of step_by found-step end_step pass_step wait-step reported
+  unfolding step_of step_by reported
   step_right = go (answer w from) ended refl
     where
       go : Answer w from → (b : Bool) → ended ≡ b → frames_from (w ++ x) from ≡ reported (step_of w from ended) ++ frames_from (w ++ x) (step_of w from ended).next
@@ -120,7 +120,7 @@ module _ (w x : List ℕ) (from : ℕ) (ended : Bool) (there : from ≤ length w
 
   -- its next place is no earlier one, and stands inside w or at its end
   pub step-inside : (from ≤ (step_of w from ended).next) × ((step_of w from ended).next ≤ length w)
-  unfolding step_of step_by found-step end_step pass_step wait-step
+  unfolding step_of step_by
   step-inside = go (answer w from) ended refl
     where
       go : Answer w from → (b : Bool) → ended ≡ b → (from ≤ (step_of w from ended).next) × ((step_of w from ended).next ≤ length w)

@@ -1,27 +1,28 @@
 -- The search for frames in a stream: one step over the bytes that are there, and the frames of the whole stream.
 -- Assumes nothing.
-use Rattle.std.specs.Prelude.{ℕ, zero, suc, ◌+◌, ◌-◌, Bool, true, false, cond, List, [], ◌∷◌, length, eqb}
+use Rattle.std.specs.Prelude.{ℕ, zero, suc, ◌+◌, ◌-◌, Bool, cond, List, [], ◌∷◌, length, eqb}
 use Rattle.frame.specs.declared.Frame.{Frame}
 use Rattle.frame.specs.Frames.{found, find_frame}
 use Rattle.frame_search.specs.declared.Step.{Step}
+use Rattle.frame_search.specs.declared.Outcome.TheVariants.{Found, Passed, More}
 
 -- ---- one step
 
 -- a frame; the search goes on behind it
-unfoldable pub found-step : Frame → Step
-found-step f = record { found = true; more = false; at = f.at; length = f.length; next = f.at + f.length + 6 }
+abbrev pub found-step : Frame → Step
+found-step f = record { outcome = Found f.at f.length; next = f.at + f.length + 6 }
 
 -- no frame in n bytes
-unfoldable pub end_step : ℕ → Step
-end_step n = record { found = false; more = true; at = 0; length = 0; next = n }
+abbrev pub end_step : ℕ → Step
+end_step n = record { outcome = More; next = n }
 
 -- an unfinished candidate that stays so
-unfoldable pub pass_step : ℕ → Step
-pass_step u = record { found = false; more = false; at = 0; length = 0; next = u + 1 }
+abbrev pub pass_step : ℕ → Step
+pass_step u = record { outcome = Passed; next = u + 1 }
 
 -- an unfinished candidate
-unfoldable pub wait-step : ℕ → Step
-wait-step u = record { found = false; more = true; at = 0; length = 0; next = u }
+abbrev pub wait-step : ℕ → Step
+wait-step u = record { outcome = More; next = u }
 
 unfoldable pub step_by : Frame → ℕ → Bool → Step
 step_by f n ended =
@@ -44,7 +45,7 @@ frames_from s from = frames_within (length s + 1 - from) s from
 
 -- what a step says is found
 unfoldable pub reported : Step → List Frame
-reported r = cond r.found (found r.at r.length ∷ []) []
+reported r = elim r.outcome [ Found at length ↦ found at length ∷ [] | Passed ↦ [] | More ↦ [] ]
 
 -- the same frames k places further on
 unfoldable pub moved : ℕ → List Frame → List Frame

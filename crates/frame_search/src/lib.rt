@@ -4,55 +4,48 @@
 ghost use Rattle.std.specs.Prelude.{◌≡◌};
 ghost use Rattle.frame_search.specs.Steps.{step_of};
 
-use arith::refusals::NOFRAME;
+use frame::NOFRAME;
 
-// What is found at a place, or nothing; the search goes on from `next`, and with `more` where it needs bytes that are not there.
+// What is found at a place: a frame, with the length of its message, an unfinished candidate that is passed, or nothing without more bytes.
+#[derive(Clone, Copy)]
+pub enum Outcome {
+    Found { at: usize, length: usize },
+    Passed,
+    More,
+}
+
+// What is found, and the place from which the search goes on.
 #[derive(Clone, Copy)]
 pub struct Step {
-    pub found: bool,
-    pub more: bool,
-    pub at: usize,
-    pub length: usize,
+    pub outcome: Outcome,
     pub next: usize,
 }
 
 // The next step from a place of the bytes that are there; `ended` where no more come.
+#[tactic(auto, using(crate::proofs::Inside::found_inside, crate::proofs::Inside::place_inside), unfolding(crate::specs::Steps::step_of, crate::specs::Steps::step_by))]
 pub fn next_step(bytes: &[u8], from: usize, ended: bool) -> Step
     ensures { result ≡ step_of bytes.now from ended }
 {
     let f = frame::find_frame(bytes, from);
-    if f.refusal == 0 {
-        return Step {
-            found: true,
-            more: false,
-            at: f.at,
-            length: f.length,
+    match f.refusal {
+        0 => Step {
+            outcome: Outcome::Found {
+                at: f.at,
+                length: f.length,
+            },
             next: f.at + f.length + 6,
-        };
-    }
-    if f.refusal == NOFRAME {
-        return Step {
-            found: false,
-            more: true,
-            at: 0,
-            length: 0,
+        },
+        NOFRAME => Step {
+            outcome: Outcome::More,
             next: bytes.len(),
-        };
-    }
-    if ended {
-        return Step {
-            found: false,
-            more: false,
-            at: 0,
-            length: 0,
+        },
+        _ if ended => Step {
+            outcome: Outcome::Passed,
             next: f.at + 1,
-        };
-    }
-    Step {
-        found: false,
-        more: true,
-        at: 0,
-        length: 0,
-        next: f.at,
+        },
+        _ => Step {
+            outcome: Outcome::More,
+            next: f.at,
+        },
     }
 }

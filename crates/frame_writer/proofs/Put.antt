@@ -1,11 +1,11 @@
 -- Lists in which the first bytes are replaced by a frame's.
 -- Assumes nothing.
 use Prim.Native.Nat.{ℕ, ◌+◌, ◌-◌, ◌≤◌, ◌<◌}
-use mathlib.Core.List.{List, [], ◌∷◌, ◌++◌, append_assoc, append-nil}
-use mathlib.Core.Path.{◌≡◌, refl, sym, ap, ap₂, ◌∙◌}
+use mathlib.Core.List.{List, ◌++◌, append_assoc, append-nil}
+use mathlib.Core.Path.{◌≡◌, sym, ap, ap₂, ◌∙◌}
 use native.Mathlib.Nat.{add_comm}
 use native.Mathlib.Omega.{arith}
-use lib.ListN.{length, take, drop, set, length-drop, length-append}
+use lib.ListN.{length, take, drop, length-drop, length-append}
 use lib.Seq.{take_at, drop_at, drop-append-add, drop-drop, drop-length}
 use borrow.Author.Tests.{lt-ltb, le-ltb}
 use borrow.Rule.Slice.PartMut.{put_mid, Post-is}
@@ -15,17 +15,11 @@ use Rattle.frame.proofs.At.{rest}
 use Rattle.frame.proofs.Lengths.{length-headed}
 use Rattle.frame_writer.specs.Refusals.{frame_refusal}
 
-pub three-set : (l : List ℕ) (a b c : ℕ) → 3 ≤ length l → set (set (set l 0 a) 1 b) 2 c ≡ a ∷ b ∷ c ∷ drop 3 l
-three-set [] a b c h = absurd (omega arith)
-three-set (x ∷ []) a b c h = absurd (omega arith)
-three-set (x ∷ y ∷ []) a b c h = absurd (omega arith)
-three-set (x ∷ y ∷ z ∷ l) a b c h = refl
-
 -- head, then message
 module _ (m out t z : List ℕ) (first : t ≡ head (length m) ++ drop 3 out) (then : z ≡ m) where
-  pub headed-put : put_mid 3 (length m + 3 - 3) t z ≡ headed m ++ drop (length m + 3) out
+  pub headed_put : put_mid 3 (length m + 3 - 3) t z ≡ headed m ++ drop (length m + 3) out
   unfolding headed head
-  headed-put =
+  headed_put =
       ap₂ (λ (p q : List ℕ). p ++ (z ++ q)) (ap (take 3) first) (Post-is 3 (length m + 3) t (omega arith) ∙ behind)
       ∙ ap (λ (p : List ℕ). head (length m) ++ (p ++ drop (length m + 3) out)) then
     where

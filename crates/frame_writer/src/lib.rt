@@ -2,61 +2,39 @@
 #![tactic(auto)]
 
 ghost use Rattle.std.specs.Prelude.{◌≡◌, ◌+◌, ◌≤◌, ◌<◌, ◌^◌, ◌∷◌, ◌++◌, length, drop};
-ghost use Rattle.layout.specs.Layout.{answered, stored};
+ghost use Rattle.layout.specs.Layout.{as_written, answered, stored};
 ghost use Rattle.frame.specs.Frames.{head, three, headed, frame};
 ghost use Rattle.frame_writer.specs.Refusals.{frame_refusal};
 
-use arith::refusals::{LENGTH, ROOM};
+use arith::refusals::Refusal;
 
-// The first three bytes of out.
-fn put_three(out: &mut [u8], a: u8, b: u8, c: u8)
-    requires { 3 ≤ length out.old }
-    ensures { out.new ≡ a ∷ b ∷ c ∷ drop 3 out.old }
-{
-    out[0] = a;
-    out[1] = b;
-    out[2] = c;
-}
-
-// The bytes of m in as many bytes of out.
-fn copy(out: &mut [u8], m: &[u8])
-    requires { length out.old ≡ length m.now }
-    ensures { out.new ≡ m.now }
-{
-    let mut i = 0;
-    while i < m.len() {
-        out[i] = m[i];
-        i += 1;
-    }
-}
-
+// The head of a message of n bytes in the first three bytes of out.
+#[tactic(auto, unfolding(frame::specs::Frames::head))]
 fn put_head(out: &mut [u8], n: usize)
     requires { (n ≤ 1023) × (3 ≤ length out.old) }
     ensures { out.new ≡ head n ++ drop 3 out.old }
 {
-    put_three(out, 0xd3, (n / 256) as u8, (n % 256) as u8);
+    out[..3].copy_from_slice(&[0xd3, (n / 256) as u8, (n % 256) as u8]);
 }
 
+// A number of 24 bits in the first three bytes of out.
+#[tactic(auto, unfolding(frame::specs::Frames::three))]
 fn put_crc(out: &mut [u8], c: u32)
     requires { (c < 2 ^ 24) × (3 ≤ length out.old) }
     ensures { out.new ≡ three c ++ drop 3 out.old }
 {
-    put_three(
-        out,
-        (c / 65536) as u8,
-        (c / 256 % 256) as u8,
-        (c % 256) as u8,
-    );
+    out[..3].copy_from_slice(&c.to_be_bytes()[1..]);
 }
 
 // Head and message in the first bytes of out.
+#[tactic(auto, using(crate::proofs::Put::headed_put))]
 fn put_headed(m: &[u8], out: &mut [u8])
     requires { (length m.now ≤ 1023) × (length m.now + 3 ≤ length out.old) }
     ensures { out.new ≡ headed m.now ++ drop (length m.now + 3) out.old }
 {
-    let e = m.len() + 3;
     put_head(out, m.len());
-    copy(&mut out[3..e], m);
+    let e = m.len() + 3;
+    out[3..e].copy_from_slice(m);
 }
 
 // The frame of m in the first bytes of out.
@@ -70,27 +48,19 @@ fn put_frame(m: &[u8], out: &mut [u8])
     put_crc(&mut out[e..], c);
 }
 
-// The frame of a message in the first bytes of out, or 3 LENGTH, 6 ROOM.
-pub fn write_frame(message: &[u8], out: &mut [u8]) -> layout::Written
-    ensures answer { result ≡ answered (frame_refusal message.now (length out.old)) (frame message.now) }
+// The frame of a message in the first bytes of out, or LENGTH, ROOM.
+#[tactic(auto, unfolding(crate::specs::Refusals::frame_refusal, layout::specs::Layout::answered, layout::specs::Layout::stored))]
+pub fn write_frame(message: &[u8], out: &mut [u8]) -> Result<usize, Refusal>
+    ensures answer { as_written result ≡ answered (frame_refusal message.now (length out.old)) (frame message.now) }
     ensures output { out.new ≡ stored (frame_refusal message.now (length out.old)) (frame message.now) out.old }
 {
     let n = message.len();
     if 1023 < n {
-        return layout::Written {
-            refusal: LENGTH,
-            length: 0,
-        };
+        return Err(Refusal::Length);
     }
     if out.len() < n + 6 {
-        return layout::Written {
-            refusal: ROOM,
-            length: 0,
-        };
+        return Err(Refusal::Room);
     }
     put_frame(message, out);
-    layout::Written {
-        refusal: 0,
-        length: n + 6,
-    }
+    Ok(n + 6)
 }

@@ -3,7 +3,7 @@
 // refusal number. The last line says how many frames there were, and how many bytes outside them. Places and counts are modulo 2^64.
 #![tactic(auto)]
 
-use frame_search::Step;
+use frame_search::Outcome;
 use std::io;
 use std::io::{Read, Write};
 
@@ -23,7 +23,6 @@ struct State {
     from: usize,
     held: usize,
     ended: bool,
-    done: bool,
     frames: u64,
     inside: u64,
     out: usize,
@@ -43,13 +42,11 @@ fn list_frames(
     out: &mut Out,
 ) -> io::Result<()> {
     let mut state = start();
-    let mut rounds: usize = ROUNDS;
-    while rounds > 0 {
-        state = round(reader, writer, window, out, state)?;
-        if state.done {
-            return put_end(writer, out, state);
-        }
-        rounds -= 1;
+    for _ in 0..ROUNDS {
+        let Some(next) = round(reader, writer, window, out, state)? else {
+            break;
+        };
+        state = next;
     }
     put_end(writer, out, state)
 }
@@ -61,71 +58,59 @@ fn start() -> State {
         from: 0,
         held: 0,
         ended: false,
-        done: false,
         frames: 0,
         inside: 0,
         out: 0,
     }
 }
 
-// One step of the search, and what it asks for.
+// One step of the search, and what it asks for; none at the stream's end.
 fn round(
     reader: &mut impl Read,
     writer: &mut impl Write,
     window: &mut [u8],
     out: &mut Out,
     state: State,
-) -> io::Result<State> {
+) -> io::Result<Option<State>> {
     let s = frame_search::next_step(
         text_words::before(window, state.held),
         state.from,
         state.ended,
     );
-    if s.found {
-        return report(writer, window, out, state, s);
+    match s.outcome {
+        Outcome::Found { at, length } => {
+            let state = report(writer, window, out, state, at, length)?;
+            Ok(Some(pass(state, s.next)))
+        }
+        Outcome::More => go_on(reader, window, state, s.next),
+        Outcome::Passed => Ok(Some(pass(state, s.next))),
     }
-    if s.more {
-        return go_on(reader, window, state, s.next);
-    }
-    Ok(pass(state, s.next))
 }
 
-// The line of a frame that was found; the search goes on behind it.
+// The line of a frame that was found.
 fn report(
     writer: &mut impl Write,
     window: &[u8],
     out: &mut Out,
     state: State,
-    s: Step,
+    at: usize,
+    length: usize,
 ) -> io::Result<State> {
-    let message = text_words::before(
-        text_words::behind(window, std::num::wrapping_add_usize(s.at, 3)),
-        s.length,
-    );
-    let to = put_frame(writer, out, state.out, later(state.base, s.at), message)?;
+    let message = text_words::before(text_words::behind(window, at.wrapping_add(3)), length);
+    let to = put_frame(writer, out, state.out, later(state.base, at), message)?;
     Ok(State {
-        base: state.base,
-        from: s.next,
-        held: state.held,
-        ended: state.ended,
-        done: false,
         frames: later(state.frames, 1),
-        inside: later(later(state.inside, s.length), 6),
+        inside: later(later(state.inside, length), 6),
         out: to,
+        ..state
     })
 }
 
-// A candidate that stays unfinished is passed.
+// The search goes on at a place.
 fn pass(state: State, next: usize) -> State {
     State {
-        base: state.base,
         from: next,
-        held: state.held,
-        ended: state.ended,
-        done: false,
-        frames: state.frames,
-        inside: state.inside,
-        out: state.out,
+        ..state
     }
 }
 
@@ -135,35 +120,19 @@ fn go_on(
     window: &mut [u8],
     state: State,
     next: usize,
-) -> io::Result<State> {
+) -> io::Result<Option<State>> {
     if state.ended {
-        return Ok(stop(state));
+        return Ok(None);
     }
     let held = text_lines::slide(window, next, state.held);
     let got = read_more(reader, window, held)?;
-    Ok(State {
+    Ok(Some(State {
         base: later(state.base, next),
         from: 0,
-        held: std::num::wrapping_add_usize(held, got),
+        held: held.wrapping_add(got),
         ended: got == 0,
-        done: false,
-        frames: state.frames,
-        inside: state.inside,
-        out: state.out,
-    })
-}
-
-fn stop(state: State) -> State {
-    State {
-        base: state.base,
-        from: state.from,
-        held: state.held,
-        ended: true,
-        done: true,
-        frames: state.frames,
-        inside: state.inside,
-        out: state.out,
-    }
+        ..state
+    }))
 }
 
 // Fills the window behind the bytes held.
@@ -176,7 +145,7 @@ fn read_more(reader: &mut impl Read, window: &mut [u8], held: usize) -> io::Resu
 }
 
 fn later(place: u64, by: usize) -> u64 {
-    std::num::wrapping_add_u64(place, by as u64)
+    place.wrapping_add(by as u64)
 }
 
 fn put_frame(
@@ -225,13 +194,10 @@ fn put_number(out: &mut Out, at: usize, message: &[u8]) -> usize {
     }
     let n = number(message[0], message[1]);
     let to = text_numerals::put_natural(out, at, n);
-    if n < 1021 {
-        return to;
+    match n {
+        1021..=1027 => put_header(out, to, message),
+        _ => to,
     }
-    if 1027 < n {
-        return to;
-    }
-    put_header(out, to, message)
 }
 
 // What one of 1021 to 1027 answers to the look at its header.
@@ -251,7 +217,7 @@ fn put_end(writer: &mut impl Write, out: &mut Out, state: State) -> io::Result<(
     let a = room(writer, out, state.out)?;
     let b = text_numerals::put_natural(out, a, state.frames);
     let c = text_words::put(out, b, b" frames, ");
-    let d = text_numerals::put_natural(out, c, std::num::wrapping_sub_u64(all, state.inside));
+    let d = text_numerals::put_natural(out, c, all.wrapping_sub(state.inside));
     let e = text_words::put(out, d, b" bytes outside frames\n");
     print(writer, out, e)
 }

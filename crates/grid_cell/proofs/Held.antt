@@ -4,11 +4,9 @@ use mathlib.Core.Path.{◌≡◌, refl, ap, ◌∙◌}
 use mathlib.Core.Bool.{Bool, true, false, not, ◌&&◌}
 use Prim.Native.Nat.{ℕ, zero, suc, ◌*◌, ◌≤◌, ◌<◌}
 use native.Mathlib.Omega.{arith}
-use borrow.Author.Tests.{eqb-false, leb-true, not-true, le-leb, lt-leb, ne_eqb}
+use borrow.Author.Tests.{eqb-false, leb-true, not-true, le-leb, ne_eqb}
 use lib.Dec.{eqb, leb}
-use lib.IntN.{ℤ, pos, nat_abs, ◌+ℤ◌, ◌-ℤ◌}
-use lib.Signed.{◌≤ℤ◌, ◌<ℤ◌}
-use Rattle.arith.proofs.Int.{at, nat, ◌⊟◌, known, known-lt, abs-parts, abs-within}
+use lib.IntN.{ℤ, pos, nat_abs, ◌+ℤ◌}
 use Rattle.arith.proofs.Tests.{both_first, both-second}
 use Rattle.grid_bilinear.specs.Bilinear.{nearest_whole, weighted}
 use Rattle.grid_direction.specs.Inner.{greatest_spacing}
@@ -17,20 +15,6 @@ use Rattle.grid_cell.specs.Private.{Within, Weighed, Most}
 use Rattle.grid_cell.specs.declared.Corners.{Corners}
 use Rattle.grid_cell.specs.declared.Weights.{Weights}
 use Rattle.grid_cell.proofs.Sum.{whole, weighed}
-
--- ---- a magnitude of at most b
-
-module _ (z : ℤ) (b : ℕ) where
-  pub below : z <ℤ (pos 0 -ℤ pos b) → leb (nat_abs z) b ≡ false
-  below h = lt-leb (nat_abs z) b (omega (arith, known-lt (at z) (nat 0 ⊟ nat b) h, abs-parts z))
-
-  pub above : pos b <ℤ z → leb (nat_abs z) b ≡ false
-  above h = lt-leb (nat_abs z) b (omega (arith, known-lt (nat b) (at z) h, abs-parts z))
-
-  pub between : (pos 0 -ℤ pos b) ≤ℤ z → z ≤ℤ pos b → leb (nat_abs z) b ≡ true
-  between h k =
-      le-leb (nat_abs z) b
-      (abs-within (at z) (omega (arith, known (at z) (nat b) k)) (omega (arith, known (nat 0 ⊟ nat b) (at z) h)))
 
 -- ---- in a cell
 
@@ -102,8 +86,24 @@ module _ (f : ℕ) (n : Corners) (h w y x : ℕ) where
   unfolding sum_in
   sum-none e = rw e
 
+pub weighed-of : (k : Weights) → weights_held k ≡ true → Weighed k
+unfolding weights_held
+weighed-of k h =
+    let some = eqb-false (area_of k) 0 (not-true (eqb (area_of k) 0) (both_first (not (eqb (area_of k) 0)) (leb (area_of k) 1676902500000000) h)) in
+    record { some = above (area_of k) some; most = leb-true (area_of k) 1676902500000000 (both-second (not (eqb (area_of k) 0)) (leb (area_of k) 1676902500000000) h) }
+  where
+    above : (d : ℕ) → (d ≡ 0 → ⊥) → 0 < d
+    above zero n = absurd (n refl)
+    above (suc d) n = omega arith
+
 -- the count
 module _ (mean : ℤ) (f : ℕ) (n : Corners) (k : Weights) where
+  pub bounds-say : in_bounds mean f n k ≡ true → Weighed k × Most 256 n × (nat_abs mean ≤ 1638400) × (f ≤ 10)
+  unfolding in_bounds
+  bounds-say e =
+      let p = four (weights_held k) (leb f 10) (leb (nat_abs mean) 1638400) (nodes_held n) e in
+      (weighed-of k p.0, most-of p.3, leb-true (nat_abs mean) 1638400 p.2, leb-true f 10 p.1)
+
   pub count_held : in_bounds mean f n k ≡ true → mean +ℤ nearest_whole (sum_by f k n) (area_of k) ≡ count_by mean f n k
   unfolding count_by
   count_held e = rw e
@@ -126,20 +126,6 @@ module _ (mean : ℤ) (f : ℕ) (n : Corners) (k : Weights) where
         le-leb (nat_abs n.nw) 256 m.nw,
         le-leb (nat_abs n.ne) 256 m.ne,
       )
-
-pub weighed-of : (k : Weights) → weights_held k ≡ true → Weighed k
-unfolding weights_held
-weighed-of k h =
-    let some = eqb-false (area_of k) 0 (not-true (eqb (area_of k) 0) (both_first (not (eqb (area_of k) 0)) (leb (area_of k) 1676902500000000) h)) in
-    record { some = above (area_of k) some; most = leb-true (area_of k) 1676902500000000 (both-second (not (eqb (area_of k) 0)) (leb (area_of k) 1676902500000000) h) }
-  where
-    above : (d : ℕ) → (d ≡ 0 → ⊥) → 0 < d
-    above zero n = absurd (n refl)
-    above (suc d) n = omega arith
-
-pub too-heavy : (k : Weights) → 1676902500000000 < area_of k → false ≡ weights_held k
-unfolding weights_held
-too-heavy k h = rw (ne_eqb (area_of k) 0 (λ e. absurd (omega (arith, h, e))), lt-leb (area_of k) 1676902500000000 h)
 
 -- the weights at a place of a cell, and the count by them
 module _ {h w y x : ℕ} (p : Within h w y x) where

@@ -1,18 +1,22 @@
 -- Bounds of weights, of the weighted sum and of its parts, and the nearest whole number by quotient and rest.
 -- Assumes nothing.
-use mathlib.Core.Path.{◌≡◌, refl, sym, ap, ◌∙◌, subst}
-use Prim.Native.Nat.{ℕ, ◌+◌, ◌*◌, ◌-◌, ◌/◌, ◌%◌, ◌≤◌, ◌<◌}
-use native.Mathlib.Nat.{mul-le-mul, mul-le-mul_left, le_trans, mul-pos, mod-lt, div-add-mod', div-eq_of_lt-le}
+use mathlib.Core.Path.{◌≡◌, sym, ap, ◌∙◌, subst}
+use Prim.Native.Nat.{ℕ, ◌+◌, ◌*◌, ◌-◌, ◌/◌, ◌≤◌, ◌<◌}
+use native.Mathlib.Nat.{mul-le-mul, mul-le-mul_left, le_trans, mul-pos, div-eq_of_lt-le}
 use native.Mathlib.Omega.{arith}
-use borrow.Author.Tests.{le-ltb}
-use lib.IntN.{ℤ, pos, negsuc, neg_ℤ, nat_abs, ◌+ℤ◌, ◌-ℤ◌, ◌*ℤ◌}
+use Rattle.std.proofs.Common.{zero, suc, min}
+use Rattle.std.specs.Int.{int_signum}
+use Rattle.std.proofs.lemmas.Int.{ints}
+use lib.Signed.{quot_z}
+use lib.IntN.{ℤ, pos, negsuc, neg_ℤ, nat_abs, ◌+ℤ◌, ◌*ℤ◌}
 use Rattle.arith.proofs.Int.{abs-add, abs-mul}
+use Rattle.arith.proofs.Machine.{Num, arg, cast, mul, add, add-within}
 use mir.Syntax.{w64}
-use mir.Val.{Fits}
+use mir.Val.{Fits, to_z, of_z}
 use Rattle.grid_bilinear.specs.Bilinear.{nearest_whole}
 use Rattle.grid_bilinear.proofs.Bounds.{weighted-bound, nearest-bound}
 use Rattle.grid_cell.specs.Inner.{weights_of, area_of, sum_by, sum_of}
-use Rattle.grid_cell.specs.Private.{Within, Weighed, Most, with_sign}
+use Rattle.grid_cell.specs.Private.{Within, Weighed, Most}
 use Rattle.grid_cell.specs.declared.Corners.{Corners}
 use Rattle.grid_cell.specs.declared.Weights.{Weights}
 
@@ -21,6 +25,10 @@ product a b h k = mul-le-mul h k
 
 pub scaled : (f : ℕ) (z : ℤ) → f ≤ 10 → nat_abs z ≤ 256 → nat_abs (pos f *ℤ z) ≤ 2560
 scaled f z h k = subst (λ (m : ℕ). m ≤ 2560) (sym (abs-mul (pos f) z)) (mul-le-mul h k)
+
+-- a raw node times its counts, as the code reads it
+pub counts : (f : ℕ) (z : ℤ) → f ≤ 10 → nat_abs z ≤ 256 → to_z w64 (of_z w64 (to_z w64 f *ℤ to_z w64 (of_z w64 z))) ≡ pos f *ℤ z
+counts f z h k = (mul (cast f 10 h tt) (arg z 256 k tt) tt).held
 
 pub fits-weight : {n : ℕ} → n ≤ 1676902500000000 → Fits w64 n
 fits-weight h = record { fits = omega arith }
@@ -50,6 +58,32 @@ three-of p q r s h = omega (arith, h, abs-add p q, abs-add (p +ℤ q) r)
 
 pub four-of : (p q r s : ℤ) {b : ℕ} → nat_abs p + nat_abs q + nat_abs r + nat_abs s ≤ b → nat_abs (p +ℤ q +ℤ r +ℤ s) ≤ b
 four-of p q r s h = omega (arith, h, abs-add p q, abs-add (p +ℤ q) r, abs-add (p +ℤ q +ℤ r) s)
+
+-- the products and the partial sums of the code
+module _ (k : Weights) (n : Corners) (light : area_of k ≤ 1676902500000000) (small : Most 2560 n) where
+  abbrev pub p₁ : Num
+  p₁ = mul (cast k.sw 1676902500000000 (omega (arith, light)) tt) (arg n.sw 2560 small.sw tt) tt
+
+  abbrev pub p₂ : Num
+  p₂ = mul (cast k.se 1676902500000000 (omega (arith, light)) tt) (arg n.se 2560 small.se tt) tt
+
+  abbrev pub p₃ : Num
+  p₃ = mul (cast k.nw 1676902500000000 (omega (arith, light)) tt) (arg n.nw 2560 small.nw tt) tt
+
+  abbrev pub p₄ : Num
+  p₄ = mul (cast k.ne 1676902500000000 (omega (arith, light)) tt) (arg n.ne 2560 small.ne tt) tt
+
+  pub bound : size k n.sw n.se n.nw n.ne ≤ 2560 * 1676902500000000
+  bound = le_trans (in_area k n.sw n.se n.nw n.ne small.sw small.se small.nw small.ne) (mul-le-mul_left 2560 light)
+
+  abbrev pub s₂ : Num
+  s₂ = add p₁ p₂ tt
+
+  abbrev pub s₃ : Num
+  s₃ = add-within s₂ p₃ (2560 * 1676902500000000) (three-of p₁.z p₂.z p₃.z p₄.z bound) tt
+
+  abbrev pub s₄ : Num
+  s₄ = add-within s₃ p₄ (2560 * 1676902500000000) (four-of p₁.z p₂.z p₃.z p₄.z bound) tt
 
 -- raw nodes of at most 256, each at most 10 counts
 module _ (k : Weights) (f : ℕ) (n : Corners) (h : f ≤ 10) (m : Most 256 n) where
@@ -117,21 +151,18 @@ module _ {h w y x : ℕ} (p : Within h w y x) where
         most = subst (λ (a : ℕ). a ≤ 1676902500000000) (sym whole) area-most;
       }
 
--- ---- the nearest whole number, by its sign and its size
+-- ---- the nearest whole number, by a division toward zero
 
-pub nearest-size : (s : ℤ) (d : ℕ) → nearest_whole s d ≡ with_sign s ((2 * nat_abs s + d) / (2 * d))
+pub signum-most : (s : ℤ) → nat_abs (int_signum s) ≤ 1
+signum-most (pos n) = omega arith
+signum-most (negsuc n) = omega arith
+
+pub nearest-quot : (s : ℤ) (d : ℕ) → 0 < d → quot_z (pos 2 *ℤ s +ℤ int_signum s *ℤ pos d) (pos 2 *ℤ pos d) ≡ nearest_whole s d
 unfolding nearest_whole
-nearest-size (pos n) d = rw (le-ltb n 0 (omega arith))
-nearest-size (negsuc n) d = refl
-
-module _ (s d : ℕ) (h : 0 < d) where
-  parts : s / d * d + s % d ≡ s
-  parts = div-add-mod' s d
-
-  -- a rest of half an area or more
-  pub half_up_lem : d ≤ 2 * (s % d) → (2 * s + d) / (2 * d) ≡ s / d + 1
-  half_up_lem l = div-eq_of_lt-le (2 * d) (omega (arith, parts)) (omega (arith, parts, mod-lt s h))
-
-  -- a smaller one
-  pub half_down : 2 * (s % d) < d → (2 * s + d) / (2 * d) ≡ s / d
-  half_down l = div-eq_of_lt-le (2 * d) (omega (arith, parts)) (omega (arith, parts))
+nearest-quot (pos zero) d h = ap pos (sym (div-eq_of_lt-le (2 * d) (omega arith) (omega arith)))
+nearest-quot (pos (suc n)) d h =
+    let e : min (suc n) 1 ≡ 1 = omega arith in
+    rw e (ap (λ (m : ℕ). pos (m / (2 * d))) (omega arith))
+nearest-quot (negsuc n) d h =
+    let e : pos 2 *ℤ negsuc n +ℤ negsuc 0 *ℤ pos d ≡ negsuc (2 * n + 1 + d) = omega (arith, ints) in
+    rw e (ap (λ (m : ℕ). neg_ℤ (pos (m / (2 * d)))) (omega arith))

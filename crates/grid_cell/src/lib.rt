@@ -1,10 +1,10 @@
 // The arithmetic of a grid in one cell.
 #![tactic(auto)]
 
-ghost use Rattle.std.specs.Prelude.{◌≡◌, cond, ◌+◌, ◌*◌, ◌/◌, ◌≤◌, ◌<◌, leb, pos, nat_abs, ◌+ℤ◌};
+ghost use Rattle.std.specs.Prelude.{◌≡◌, cond, ◌+◌, ◌*◌, ◌/◌, ◌≤◌, ◌<◌, ◌^◌, pos, nat_abs, ◌+ℤ◌};
 ghost use Rattle.grid_bilinear.specs.Bilinear.{nearest_whole};
-ghost use Rattle.grid_cell.specs.Inner.{weights_of, weights_in, area_of, weighted_by, sum_by, sum_of, place_held, nodes_held, sum_held, sum_in, weights_held, count_by};
-ghost use Rattle.grid_cell.specs.Private.{Within, Weighed, Most, with_sign};
+ghost use Rattle.grid_cell.specs.Inner.{weights_of, weights_in, area_of, weighted_by, sum_by, sum_of, place_held, nodes_held, sum_held, sum_in, weights_held, in_bounds, count_by};
+ghost use Rattle.grid_cell.specs.Private.{Within, Weighed, Most};
 
 // The raw nodes of a cell.
 #[derive(Clone, Copy)]
@@ -24,21 +24,6 @@ pub struct Weights {
     pub ne: u64,
 }
 
-// The number without its sign is at most the bound.
-fn no_larger(z: i64, bound: u64) -> bool
-    requires { bound ≤ 10000000000000 }
-    ensures { result ≡ leb (nat_abs z) bound }
-{
-    let b = bound as i64;
-    if z < 0 - b {
-        return false;
-    }
-    if b < z {
-        return false;
-    }
-    true
-}
-
 // The weights at a place y and x steps from the south and west of a cell.
 fn weights_of(h: u64, w: u64, y: u64, x: u64) -> Weights
     requires { Within h w y x }
@@ -55,44 +40,23 @@ fn weights_of(h: u64, w: u64, y: u64, x: u64) -> Weights
 }
 
 // The weighted sum of a cell's nodes: the exact mean times the area.
-fn weighted_sum(k: Weights, sw: i64, se: i64, nw: i64, ne: i64) -> i64
-    requires { (area_of k ≤ 1676902500000000) × (nat_abs sw ≤ 2560) × (nat_abs se ≤ 2560) × (nat_abs nw ≤ 2560) × (nat_abs ne ≤ 2560) }
-    ensures { result ≡ weighted_by k sw se nw ne }
+fn weighted_sum(k: Weights, n: Corners) -> i64
+    requires light { area_of k ≤ 1676902500000000 }
+    requires small { Most 2560 n }
+    ensures { result ≡ weighted_by k n.sw n.se n.nw n.ne }
 {
-    k.sw as i64 * sw + k.se as i64 * se + k.nw as i64 * nw + k.ne as i64 * ne
+    k.sw as i64 * n.sw + k.se as i64 * n.se + k.nw as i64 * n.nw + k.ne as i64 * n.ne
 }
 
-// n, or its opposite where z is negative.
-fn with_sign(z: i64, n: u64) -> i64
-    requires { n ≤ 4611686018427387904 }
-    ensures { result ≡ with_sign z n }
-{
-    if z < 0 {
-        return 0 - n as i64;
-    }
-    n as i64
-}
-
-// The whole number nearest to size / area: half an area or more counts as a whole one.
-fn rounded(size: u64, area: u64) -> u64
-    requires { (size ≤ 2560 * 1676902500000000) × (0 < area) × (area ≤ 1676902500000000) }
-    ensures { (result ≡ (2 * size + area) / (2 * area)) × (result ≤ 4611686018427387904) }
-{
-    let whole = size / area;
-    let rest = size % area;
-    if area <= 2 * rest {
-        return whole + 1;
-    }
-    whole
-}
-
-// The whole number nearest to sum / area. The sign is set apart: so halves go away from zero.
+// The whole number nearest to sum / area. The division goes toward zero, so half an area with the sign of the sum makes halves go away from it.
 fn nearest_to(sum: i64, area: u64) -> i64
-    requires { (nat_abs sum ≤ 2560 * 1676902500000000) × (0 < area) × (area ≤ 1676902500000000) }
+    requires size { nat_abs sum ≤ 2560 * 1676902500000000 }
+    requires some { 0 < area }
+    requires light { area ≤ 1676902500000000 }
     ensures { result ≡ nearest_whole sum area }
 {
-    let size = field::magnitude(sum);
-    with_sign(sum, rounded(size, area))
+    let d = area as i64;
+    (2 * sum + sum.signum() * d) / (2 * d)
 }
 
 // The weighted sum of a cell's raw nodes, in counts times the cell's area.
@@ -101,7 +65,15 @@ fn sum_by(factor: u64, n: Corners, k: Weights) -> i64
     ensures { result ≡ sum_by factor k n }
 {
     let f = factor as i64;
-    weighted_sum(k, f * n.sw, f * n.se, f * n.nw, f * n.ne)
+    weighted_sum(
+        k,
+        Corners {
+            sw: f * n.sw,
+            se: f * n.se,
+            nw: f * n.nw,
+            ne: f * n.ne,
+        },
+    )
 }
 
 // The same at a place of a cell.
@@ -114,7 +86,7 @@ fn sum_of(factor: u64, n: Corners, h: u64, w: u64, y: u64, x: u64) -> i64
 
 // The area of a cell.
 fn area_of(k: Weights) -> u64
-    requires { area_of k ≤ 1676902500000000 }
+    requires { area_of k < 2 ^ 64 }
     ensures { result ≡ area_of k }
 {
     k.sw + k.se + k.nw + k.ne
@@ -130,61 +102,35 @@ fn count_of(mean: i64, factor: u64, n: Corners, k: Weights) -> i64
 }
 
 // The place is on or within the edges of a cell that a grid can have.
+#[tactic(auto, unfolding(crate::specs::Inner::place_held))]
 fn place_held(h: u64, w: u64, y: u64, x: u64) -> bool
     ensures { result ≡ place_held h w y x }
 {
-    if h == 0 {
-        return false;
-    }
-    if 40950000 < h {
-        return false;
-    }
-    if w == 0 {
-        return false;
-    }
-    if 40950000 < w {
-        return false;
-    }
-    if h < y {
-        return false;
-    }
-    if w < x {
-        return false;
-    }
-    true
+    (1..=40950000).contains(&h) && (1..=40950000).contains(&w) && y <= h && x <= w
 }
 
 // The nodes are within what a grid message can hold.
+#[tactic(auto, unfolding(crate::specs::Inner::nodes_held))]
 fn nodes_held(n: Corners) -> bool
     ensures { result ≡ nodes_held n }
 {
-    if !no_larger(n.sw, 256) {
-        return false;
-    }
-    if !no_larger(n.se, 256) {
-        return false;
-    }
-    if !no_larger(n.nw, 256) {
-        return false;
-    }
-    no_larger(n.ne, 256)
+    n.sw.unsigned_abs() <= 256
+        && n.se.unsigned_abs() <= 256
+        && n.nw.unsigned_abs() <= 256
+        && n.ne.unsigned_abs() <= 256
 }
 
 // What is summed is within what a grid message can hold.
+#[tactic(auto, unfolding(crate::specs::Inner::sum_held))]
 fn sum_held(factor: u64, n: Corners, h: u64, w: u64, y: u64, x: u64) -> bool
     ensures { result ≡ sum_held factor n h w y x }
 {
-    if !place_held(h, w, y, x) {
-        return false;
-    }
-    if 10 < factor {
-        return false;
-    }
-    nodes_held(n)
+    place_held(h, w, y, x) && factor <= 10 && nodes_held(n)
 }
 
 // The weighted sum of a cell's raw nodes, in counts times the cell's area: of the counts in a raw number of a node, the raw nodes, the cell's height and width,
 // and a place y and x steps from its south and west; 0 where they are not within what a grid message can hold.
+#[tactic(auto, unfolding(crate::specs::Inner::sum_in))]
 pub fn sum_in(factor: u64, n: Corners, h: u64, w: u64, y: u64, x: u64) -> i64
     ensures { result ≡ sum_in factor n h w y x }
 {
@@ -195,6 +141,7 @@ pub fn sum_in(factor: u64, n: Corners, h: u64, w: u64, y: u64, x: u64) -> i64
 }
 
 // The weights of the nodes of a cell of height h and width w at a place y and x steps from its south and west, each times the cell's area; 0 where no grid has such a place.
+#[tactic(auto, unfolding(crate::specs::Inner::weights_in))]
 pub fn weights_in(h: u64, w: u64, y: u64, x: u64) -> Weights
     ensures { result ≡ weights_in h w y x }
 {
@@ -210,26 +157,23 @@ pub fn weights_in(h: u64, w: u64, y: u64, x: u64) -> Weights
 }
 
 // The weights add up to the area of a cell that a grid can have.
+#[tactic(auto, unfolding(crate::specs::Inner::weights_held))]
 fn weights_held(k: Weights) -> bool
     ensures { result ≡ weights_held k }
 {
-    if 1676902500000000 < k.sw {
-        return false;
-    }
-    if 1676902500000000 < k.se {
-        return false;
-    }
-    if 1676902500000000 < k.nw {
-        return false;
-    }
-    if 1676902500000000 < k.ne {
-        return false;
-    }
-    let area = k.sw + k.se + k.nw + k.ne;
-    if area == 0 {
-        return false;
-    }
-    area <= 1676902500000000
+    k.sw <= 1676902500000000
+        && k.se <= 1676902500000000
+        && k.nw <= 1676902500000000
+        && k.ne <= 1676902500000000
+        && (1..=1676902500000000).contains(&area_of(k))
+}
+
+// What is counted is within what a grid message can hold.
+#[tactic(auto, unfolding(crate::specs::Inner::in_bounds))]
+fn count_held(mean: i64, factor: u64, n: Corners, k: Weights) -> bool
+    ensures { result ≡ in_bounds mean factor n k }
+{
+    weights_held(k) && factor <= 10 && mean.unsigned_abs() <= 1638400 && nodes_held(n)
 }
 
 // The count in a cell, of its mean in counts, the counts in a raw number of a node, its raw nodes and their weights;
@@ -237,16 +181,7 @@ fn weights_held(k: Weights) -> bool
 pub fn count_by(mean: i64, factor: u64, n: Corners, k: Weights) -> i64
     ensures { result ≡ count_by mean factor n k }
 {
-    if !weights_held(k) {
-        return 0;
-    }
-    if 10 < factor {
-        return 0;
-    }
-    if !no_larger(mean, 1638400) {
-        return 0;
-    }
-    if !nodes_held(n) {
+    if !count_held(mean, factor, n, k) {
         return 0;
     }
     count_of(mean, factor, n, k)

@@ -1,6 +1,7 @@
 -- What is counted by a kept message is one part of the call for the three shifts.
 -- Assumes nothing.
-use mathlib.Core.Path.{◌≡◌, refl, sym, ap, ◌∙◌, subst}
+use Rattle.std.proofs.Common.{Option}
+use mathlib.Core.Path.{◌≡◌, refl, ap, ◌∙◌}
 use mathlib.Core.Bool.{Bool, true, false, cond}
 use mathlib.Core.List.{List}
 use Prim.Native.Nat.{ℕ}
@@ -8,7 +9,6 @@ use native.Mathlib.Decide.{ℕ_discrete}
 use borrow.Author.Tests.{eq-eqb, ne_eqb}
 use lib.Dec.{eqb}
 use lib.IntN.{ℤ, pos}
-use Rattle.field.specs.declared.Reading.{Reading}
 use Rattle.layout.specs.Layout.{value_in}
 use Rattle.record_rows.specs.Numbers.{says}
 use Rattle.record_grids.specs.declared.Settings.{Settings}
@@ -41,7 +41,7 @@ unfolding outcome
 counted-refused number c r o = rw (ne_eqb r 0 o)
 
 -- the refusal of a place, or what is in its cell
-module _ (number : ℤ) (c r : ℕ) (m : Reading) (w : Nodes) (k : Weights) where
+module _ (number : ℤ) (c r : ℕ) (m : Option ℤ) (w : Nodes) (k : Weights) where
   of-cell : (b : Bool) (z : ℤ) → let o : Counted = cond b (refused_with 15) (record { refusal = 0; count = z }) in o ≡ counted (outcome number c o.refusal o.count)
   unfolding outcome
   of-cell true z = refl

@@ -3,11 +3,11 @@
 
 ghost use Rattle.std.specs.Prelude.{◌≡◌};
 ghost use Rattle.grid_fields.specs.Inner.{cell_says};
-ghost use Rattle.grid_counts.specs.Counts.{refused_with};
 ghost use Rattle.grid_shifts.specs.Shift.{message_shift};
 ghost use Rattle.grid_component.specs.Component.{counted};
 ghost use Rattle.grid_component.specs.Inner.{kept_of, counted_by};
 
+use arith::refusals::outcome_number;
 use grid_counts::Counted;
 use grid_fields::Nodes;
 use record_grids::Settings;
@@ -19,25 +19,16 @@ pub struct Kept {
     pub settings: Settings,
 }
 
-// A refusal, with a count of 0.
-fn refused(refusal: u8) -> Counted
-    ensures { result ≡ refused_with refusal }
-{
-    Counted { refusal, count: 0 }
-}
-
 // What the nodes of a cell say of a component: each two of them are read by one load.
 fn nodes_of(message: &[u8], component: u8, row: u64, column: u64) -> Nodes
     ensures { result ≡ cell_says message.now component row column }
 {
     let n = grid_fields::cells_at(message, row, column);
-    if component == 0 {
-        return n.north;
+    match component {
+        0 => n.north,
+        1 => n.east,
+        _ => n.height,
     }
-    if component == 1 {
-        return n.east;
-    }
-    n.height
 }
 
 // What is kept of a message, which is read once.
@@ -45,7 +36,7 @@ pub fn keep(message: &[u8]) -> Kept
     ensures { result ≡ kept_of message.now }
 {
     Kept {
-        refusal: message_rows::check_kind(message, 1023, 1024),
+        refusal: outcome_number(message_rows::check_kind(message, 1023, 1024)),
         settings: grid_fields::settings_at(message),
     }
 }
@@ -55,12 +46,12 @@ pub fn count_at(message: &[u8], kept: Kept, component: u8, north: i64, east: i64
     ensures { result ≡ counted_by message.now kept component north east }
 {
     if kept.refusal != 0 {
-        return refused(kept.refusal);
+        return grid_counts::refused(kept.refusal);
     }
     let f = kept.settings;
     let p = grid_place::locate(f, component, north, east);
     if p.refusal != 0 {
-        return refused(p.refusal);
+        return grid_counts::refused(p.refusal);
     }
     let k = grid_cell::weights_in(p.height, p.width, p.north, p.east);
     let mean = grid_fields::mean_at(message, component);

@@ -1,5 +1,6 @@
 -- A count is bounded, whatever it is formed of: a mean of at most 1,638,400, and at most 2,560 of the nodes.
 -- Assumes nothing.
+use Rattle.std.proofs.Common.{Option}
 use mathlib.Core.Path.{◌≡◌, refl}
 use mathlib.Core.Bool.{Bool, true, false, cond, ◌&&◌}
 use Prim.Native.Nat.{ℕ, ◌≤◌, ◌<◌, zero-le}
@@ -8,7 +9,6 @@ use borrow.Author.Tests.{leb-true, lt-leb}
 use lib.Dec.{leb}
 use lib.IntN.{ℤ, pos, nat_abs, ◌+ℤ◌, ◌*ℤ◌}
 use Rattle.arith.proofs.Int.{abs-add}
-use Rattle.field.specs.declared.Reading.{Reading}
 use Rattle.layout.specs.Layout.{value_in}
 use Rattle.grid_bilinear.specs.Bilinear.{nearest_whole}
 use Rattle.grid_cell.specs.Inner.{area_of, sum_by, weights_held, nodes_held, in_bounds, count_by}
@@ -57,7 +57,7 @@ one-most : (b : Bool) (z : ℤ) → nat_abs z ≤ 10000000 → nat_abs (cond b (
 one-most true z h = zero-le
 one-most false z h = h
 
-pub cell-most : (number : ℤ) (c : ℕ) (mean : Reading) (n : Nodes) (k : Weights) → nat_abs (cell_count number c mean n k).count ≤ 10000000
+pub cell-most : (number : ℤ) (c : ℕ) (mean : Option ℤ) (n : Nodes) (k : Weights) → nat_abs (cell_count number c mean n k).count ≤ 10000000
 unfolding cell_count
 cell-most number c mean n k =
     one-most (lacking mean n k) _ (count_most (pos mean_factor *ℤ value_in mean) (node_factor number c) (values_in n) k)

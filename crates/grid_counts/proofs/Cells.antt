@@ -1,13 +1,12 @@
 -- From what the mean and the nodes of a cell say to the answer.
 -- Assumes nothing.
+use Rattle.std.proofs.Common.{Option, Some, None}
 use mathlib.Core.Path.{◌≡◌, refl, sym, ap, ◌∙◌}
 use mathlib.Core.Bool.{Bool, true, false, not, cond, ◌&&◌}
 use Prim.Native.Nat.{ℕ}
 use lib.Dec.{eqb}
 use lib.IntN.{ℤ}
 use Rattle.arith.proofs.Tests.{false-ne-true}
-use Rattle.field.specs.declared.Reading.{Reading}
-use Rattle.field.specs.declared.Reading.TheVariants.{Value, Absent}
 use Rattle.layout.specs.Layout.{value_in, available}
 use Rattle.grid_bilinear.specs.Bilinear.{lacks}
 use Rattle.grid_cell.specs.declared.Corners.{Corners}
@@ -20,25 +19,25 @@ use Rattle.grid_counts.specs.declared.Counted.{Counted}
 
 -- ---- what a node of weight w says
 
-differ : {z : ℤ} → Value z ≡ Absent → ⊥
+differ : {z : ℤ} → Some z ≡ None → ⊥
 differ e = false-ne-true (sym (ap available e))
 
-none : (b : Bool) (r : Reading) → cond b (Value (value_in r)) r ≡ Absent → (not b && not (available r)) ≡ true
+none : (b : Bool) (r : Option ℤ) → cond b (Some (value_in r)) r ≡ None → (not b && not (available r)) ≡ true
 none true r e = absurd (differ e)
-none false (Value z) e = absurd (differ e)
-none false Absent e = refl
+none false (Some z) e = absurd (differ e)
+none false None e = refl
 
-some : (b : Bool) (r : Reading) {z : ℤ} → cond b (Value (value_in r)) r ≡ Value z → ((not b && not (available r)) ≡ false) × (z ≡ value_in r)
+some : (b : Bool) (r : Option ℤ) {z : ℤ} → cond b (Some (value_in r)) r ≡ Some z → ((not b && not (available r)) ≡ false) × (z ≡ value_in r)
 some true r e = (refl, sym (ap value_in e))
-some false (Value z) e = (refl, sym (ap value_in e))
-some false Absent e = absurd (differ (sym e))
+some false (Some z) e = (refl, sym (ap value_in e))
+some false None e = absurd (differ (sym e))
 
-module _ (w : ℕ) (r : Reading) {q : Reading} (h : q ≡ asked w r) where
-  pub missing : q ≡ Absent → lacks w (available r) ≡ true
+module _ (w : ℕ) (r : Option ℤ) {q : Option ℤ} (h : q ≡ asked w r) where
+  pub missing : q ≡ None → lacks w (available r) ≡ true
   unfolding lacks
   missing e = none (eqb w 0) r (sym h ∙ e)
 
-  pub given : {z : ℤ} → q ≡ Value z → (lacks w (available r) ≡ false) × (z ≡ value_in r)
+  pub given : {z : ℤ} → q ≡ Some z → (lacks w (available r) ≡ false) × (z ≡ value_in r)
   unfolding lacks
   given e = some (eqb w 0) r (sym h ∙ e)
 
@@ -47,7 +46,7 @@ module _ (w : ℕ) (r : Reading) {q : Reading} (h : q ≡ asked w r) where
 abbrev counts : ℤ → Counted
 counts z = record { refusal = 0; count = z }
 
-module _ (number : ℤ) (c : ℕ) (mean : Reading) (n : Nodes) (k : Weights) (s : Counted) where
+module _ (number : ℤ) (c : ℕ) (mean : Option ℤ) (n : Nodes) (k : Weights) (s : Counted) where
   abbrev lack : Bool
   lack = lacking mean n k
 

@@ -5,6 +5,7 @@ use mathlib.Core.Bool.{Bool, true, false, cond, ◌||◌}
 use Prim.Native.Nat.{ℕ, ◌+◌, ◌*◌, ◌/◌, ◌≤◌, ◌<◌}
 use native.Mathlib.Omega.{arith}
 use borrow.Author.Tests.{lt-ltb, le-ltb, ne_eqb}
+use Rattle.std.proofs.Common.{tests}
 use lib.Dec.{T, eqb, ltb}
 use lib.IntN.{ℤ, pos, negsuc, nat_abs, ◌+ℤ◌}
 use lib.Signed.{lt_z, ◌<ℤ◌}
@@ -39,6 +40,9 @@ module _ (d : ℕ) (u : ℤ) where
   pub along-out : {a : PlaceAlong} → (a.refusal ≡ 14) × (a.steps ≡ 0) × (a.cell ≡ 0) → unplaced d u ≡ true → a ≡ along_of d u
   unfolding along_of
   along-out h e = (λ i. record { refusal = h.0 i; steps = h.1 i; cell = h.2 i }) ∙ rw e
+
+  pub unplaced-range : (0 < d → d ≤ greatest_spacing → ⊥) → unplaced d u ≡ true
+  unplaced-range h = grind (arith, tests)
 
   module _ (p : 0 < d) (q : d ≤ greatest_spacing) where
     pub unplaced-is : {b : Bool} → outside d u ≡ b → unplaced d u ≡ b

@@ -5,7 +5,7 @@ ghost use Rattle.std.specs.Prelude.{◌≡◌, ◌≤◌, ◌<◌, nat_abs};
 ghost use Rattle.grid_bilinear.specs.Bilinear.{cell};
 ghost use Rattle.grid_direction.specs.Inner.{along_of};
 
-use arith::refusals::OUTSIDE;
+use arith::refusals::Refusal;
 
 // Where a position stands along one direction: OUTSIDE, or 0 with the steps from the southern or western edge and the cell, 0 to 2 from there.
 #[derive(Clone, Copy)]
@@ -20,7 +20,7 @@ fn outer() -> PlaceAlong
     ensures { (result.refusal ≡ 14) × (result.steps ≡ 0) × (result.cell ≡ 0) }
 {
     PlaceAlong {
-        refusal: OUTSIDE,
+        refusal: Refusal::Outside as u8,
         steps: 0,
         cell: 0,
     }
@@ -48,13 +48,12 @@ fn axis(u: i64, d: u64) -> PlaceAlong
     ensures { result ≡ along_of d u }
 {
     let t = u + (3 * (d / 2)) as i64;
-    if t < 0 {
+    let Ok(steps) = u64::try_from(t) else {
+        return outer();
+    };
+    if 3 * d < steps {
         return outer();
     }
-    if ((3 * d) as i64) < t {
-        return outer();
-    }
-    let steps = t as u64;
     PlaceAlong {
         refusal: 0,
         steps,
@@ -66,13 +65,10 @@ fn axis(u: i64, d: u64) -> PlaceAlong
 pub fn along(difference: i64, spacing: u64) -> PlaceAlong
     ensures { result ≡ along_of spacing difference }
 {
-    if spacing == 0 {
+    if !(1..=40950000).contains(&spacing) {
         return outer();
     }
-    if 40950000 < spacing {
-        return outer();
-    }
-    if 10000000000000 < field::magnitude(difference) {
+    if 10000000000000 < difference.unsigned_abs() {
         return outer();
     }
     axis(difference, spacing)

@@ -1,22 +1,21 @@
 -- What is read at its bit in a message that is a grid is what the message's row says.
 -- Assumes nothing.
-use Prim.Native.Nat.{ℕ, suc, ◌+◌, ◌*◌, ◌≤◌, ◌<◌}
+use Prim.Native.Nat.{ℕ, suc, ◌+◌, ◌≤◌, ◌<◌}
 use native.Mathlib.Nat.{eq-or-lt_of_le}
 use native.Mathlib.Omega.{arith}
 use mathlib.Core.Logic.{⊎_elim}
 use mathlib.Core.Path.{◌≡◌, refl, sym, ap, ◌∙◌}
-use mathlib.Core.List.{List, ◌∷◌, ◌++◌}
+use mathlib.Core.List.{List, ◌∷◌}
 use lib.ListN.{length, get_or, take, drop}
 use lib.Seq.{split_at}
-use Rattle.field.specs.Field.{field}
 use Rattle.field.specs.Inner.{field_at}
 use Rattle.field.proofs.Place.{field-inside}
-use Rattle.layout.specs.Layout.{width, total, reading_of}
+use Rattle.layout.specs.Layout.{width, total}
 use Rattle.layout.proofs.Round.{total-append, total-most, accepted}
-use Rattle.layout_tables.specs.Layouts.{layout_of, layout1023, layout1024}
+use Rattle.layout_tables.specs.Layouts.{layout_of}
 use Rattle.layout_tables.proofs.Length.{length-1023, length-1024, total-1023, total-1024}
 use Rattle.record_rows.specs.Numbers.{says}
-use Rattle.message_rows.specs.Message.{number_of, source_count, target_count, layout, row, kind_refusal}
+use Rattle.message_rows.specs.Message.{number_of, layout, row, kind_refusal}
 use Rattle.message_rows.proofs.Head.{number_read, head_of, head_passed, accepted-head}
 use Rattle.message_rows.proofs.OneKind.{kind-of}
 use Rattle.message_rows.proofs.Trips.{row-place}

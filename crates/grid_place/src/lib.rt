@@ -11,8 +11,11 @@ ghost use Rattle.grid_place.specs.Position.{steps_of, by_turns, east_by};
 ghost use Rattle.grid_place.specs.Inner.{no_place, place_of, located, spacing_held, settings_held, held_place, two_places_of, held_two_places};
 ghost use Rattle.grid_place.specs.Private.{Fields};
 
-use arith::refusals::{OUTSIDE, RANGE};
+use arith::refusals::{Refusal, outcome_number};
 use record_grids::Settings;
+
+// The number of the one refusal after which the height may have a place.
+const OUTSIDE: u8 = Refusal::Outside as u8;
 
 // A place in a grid: a refusal number, or 0 with its cell, the steps from the cell's southern and western edge, and the cell's height and width.
 #[derive(Clone, Copy)]
@@ -122,7 +125,7 @@ fn place_of(f: Settings, component: u8, north: i64, east: i64) -> Located
     requires { Fields f }
     ensures { result ≡ located f component north east }
 {
-    let early = grid_refusals::early_refusal(f, component, north, east);
+    let early = outcome_number(grid_refusals::early_refusal(f, component, north, east));
     if early != 0 {
         return no_place(early);
     }
@@ -151,45 +154,28 @@ fn place_of(f: Settings, component: u8, north: i64, east: i64) -> Located
 fn spacing_held(d: i64) -> bool
     ensures { result ≡ spacing_held d }
 {
-    if d < 0 {
-        return false;
-    }
-    field::magnitude(d) <= 4095
+    (0..=4095).contains(&d)
 }
 
 // The origin is one that the fields of a message hold.
 fn origin_held(number: i64, north: i64, east: i64) -> bool
     ensures { result ≡ (leb (nat_abs north) 67108864 && leb (nat_abs east) (cond (ellipsoidal number) 1296000 67108864)) }
 {
-    if 67108864 < field::magnitude(north) {
-        return false;
-    }
-    if number == 1023 {
-        return field::magnitude(east) <= 1296000;
-    }
-    field::magnitude(east) <= 67108864
+    let most = if number == 1023 { 1296000 } else { 67108864 };
+    north.unsigned_abs() <= 67108864 && east.unsigned_abs() <= most
 }
 
 // The settings is one that a grid message holds.
+#[tactic(auto, unfolding(crate::specs::Inner::settings_held))]
 fn settings_held(f: Settings) -> bool
     ensures { result ≡ settings_held f }
 {
-    let number = f.number;
-    let origin = f.origin;
-    let latitude = origin.north;
-    let longitude = origin.east;
-    if !origin_held(
-        number,
-        layout::value_in(latitude),
-        layout::value_in(longitude),
-    ) {
-        return false;
-    }
-    let spacing = f.spacing;
-    if !spacing_held(spacing.north) {
-        return false;
-    }
-    spacing_held(spacing.east)
+    origin_held(
+        f.number,
+        layout::value_in(f.origin.north),
+        layout::value_in(f.origin.east),
+    ) && spacing_held(f.spacing.north)
+        && spacing_held(f.spacing.east)
 }
 
 // RANGE where no grid message holds the settings, COMPONENT to OUTSIDE, or the place of a position in the grid.
@@ -197,7 +183,7 @@ pub fn locate(f: Settings, component: u8, north: i64, east: i64) -> Located
     ensures { result ≡ held_place f component north east }
 {
     if !settings_held(f) {
-        return no_place(RANGE);
+        return no_place(Refusal::Range as u8);
     }
     place_of(f, component, north, east)
 }
@@ -207,7 +193,7 @@ fn vertical_at(f: Settings, p: Located, north: i64, east: i64) -> Located
     requires { (first (field_tests f 0 north east) ≡ 0) × (p ≡ located f 0 north east) }
     ensures { result ≡ located f 2 north east }
 {
-    let early = grid_refusals::early_refusal(f, 2, north, east);
+    let early = outcome_number(grid_refusals::early_refusal(f, 2, north, east));
     if early != 0 {
         return no_place(early);
     }
@@ -233,19 +219,10 @@ fn vertical_of(f: Settings, p: Located, north: i64, east: i64) -> Located
 fn two_places_of(h: Located, v: Located) -> TwoPlaces
     ensures { result ≡ two_places_of h v }
 {
-    let horizontal = h.refusal;
-    let vertical = v.refusal;
-    if horizontal == 0 {
-        return TwoPlaces {
-            horizontal,
-            vertical,
-            place: h,
-        };
-    }
     TwoPlaces {
-        horizontal,
-        vertical,
-        place: v,
+        horizontal: h.refusal,
+        vertical: v.refusal,
+        place: if h.refusal == 0 { h } else { v },
     }
 }
 
@@ -254,7 +231,10 @@ pub fn locate_both(f: Settings, north: i64, east: i64) -> TwoPlaces
     ensures { result ≡ held_two_places f north east }
 {
     if !settings_held(f) {
-        return two_places_of(no_place(RANGE), no_place(RANGE));
+        return two_places_of(
+            no_place(Refusal::Range as u8),
+            no_place(Refusal::Range as u8),
+        );
     }
     let h = place_of(f, 0, north, east);
     let v = vertical_of(f, h, north, east);

@@ -3,72 +3,68 @@
 
 ghost use Rattle.std.specs.Prelude.{◌≡◌, not, ◌&&◌, ◌||◌, [], ◌∷◌, ltb, pos, nat_abs};
 ghost use Rattle.arith.specs.First.{first};
+ghost use Rattle.arith.specs.Refusals.{outcome_number};
 ghost use Rattle.arith.specs.Whole.{same_z};
 ghost use Rattle.grid_refusals.specs.Refusals.{side, beyond, field_tests};
 ghost use Rattle.layout.specs.Layout.{available};
 
-use arith::refusals::{COMPONENT, METHOD, OFF, ORIGIN, POSITION, SPACING};
-use field::Reading;
+use arith::refusals::Refusal;
 use record_grids::Settings;
 use record_rows::Pair;
 
-// COMPONENT, POSITION, or 0.
-pub fn position_refusal(component: u8, number: i64, north: i64, east: i64) -> u8
-    ensures { result ≡ first ((8, ltb 2 component) ∷ (9, beyond number north east) ∷ []) }
+// The position is beyond what a grid of the message number can have.
+fn beyond(number: i64, north: i64, east: i64) -> bool
+    ensures { result ≡ beyond number north east }
 {
-    let n = field::magnitude(north);
-    let e = field::magnitude(east);
-    if 2 < component {
-        return COMPONENT;
-    }
+    let n = north.unsigned_abs();
+    let e = east.unsigned_abs();
     if number == 1023 {
-        if 3240000000 < n {
-            return POSITION;
-        }
-        if 6480000000 < e {
-            return POSITION;
-        }
-        return 0;
+        3240000000 < n || 6480000000 < e
+    } else {
+        1000000000000 < n || 1000000000000 < e
     }
-    if 1000000000000 < n {
-        return POSITION;
-    }
-    if 1000000000000 < e {
-        return POSITION;
-    }
-    0
 }
 
-// OFF, METHOD, ORIGIN, SPACING, or 0.
+// COMPONENT or POSITION, where one applies.
+pub fn position_refusal(component: u8, number: i64, north: i64, east: i64) -> Result<(), Refusal>
+    ensures { outcome_number result ≡ first ((8, ltb 2 component) ∷ (9, beyond number north east) ∷ []) }
+{
+    if 2 < component {
+        return Err(Refusal::Component);
+    }
+    if beyond(number, north, east) {
+        return Err(Refusal::Position);
+    }
+    Ok(())
+}
+
+// OFF, METHOD, ORIGIN or SPACING, where one applies.
 fn field_refusal(
     indicator: i64,
     method: i64,
-    north: Reading,
-    east: Reading,
+    north: Option<i64>,
+    east: Option<i64>,
     rows: i64,
     columns: i64,
-) -> u8
-    ensures { result ≡ first ((10, same_z indicator (pos 0)) ∷ (11, not (same_z method (pos 0))) ∷ (12, not (available north && available east)) ∷ (13, same_z rows (pos 0) || same_z columns (pos 0)) ∷ []) }
+) -> Result<(), Refusal>
+    ensures { outcome_number result ≡ first ((10, same_z indicator (pos 0)) ∷ (11, not (same_z method (pos 0))) ∷ (12, not (available north && available east)) ∷ (13, same_z rows (pos 0) || same_z columns (pos 0)) ∷ []) }
 {
     if indicator == 0 {
-        return OFF;
+        return Err(Refusal::Off);
     }
     if method != 0 {
-        return METHOD;
+        return Err(Refusal::Method);
     }
-    let Reading::Value(_) = north else {
-        return ORIGIN;
+    let Some(_) = north else {
+        return Err(Refusal::Origin);
     };
-    let Reading::Value(_) = east else {
-        return ORIGIN;
+    let Some(_) = east else {
+        return Err(Refusal::Origin);
     };
-    if rows == 0 {
-        return SPACING;
+    if rows == 0 || columns == 0 {
+        return Err(Refusal::Spacing);
     }
-    if columns == 0 {
-        return SPACING;
-    }
-    0
+    Ok(())
 }
 
 // The indicator of the component: horizontal for 0 and 1, vertical for 2.
@@ -81,15 +77,12 @@ fn side_of(component: u8, p: Pair) -> i64
     p.horizontal
 }
 
-// COMPONENT, POSITION, OFF, METHOD, ORIGIN, SPACING, or 0.
-pub fn early_refusal(f: Settings, component: u8, north: i64, east: i64) -> u8
-    ensures { result ≡ first (field_tests f component north east) }
+// COMPONENT, POSITION, OFF, METHOD, ORIGIN or SPACING, where one applies.
+pub fn early_refusal(f: Settings, component: u8, north: i64, east: i64) -> Result<(), Refusal>
+    ensures { outcome_number result ≡ first (field_tests f component north east) }
 {
     let number = f.number;
-    let p = position_refusal(component, number, north, east);
-    if p != 0 {
-        return p;
-    }
+    position_refusal(component, number, north, east)?;
     let indicator = side_of(component, f.indicators);
     let method = side_of(component, f.methods);
     let origin = f.origin;

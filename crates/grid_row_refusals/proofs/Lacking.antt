@@ -1,5 +1,6 @@
 -- Places of one cell that lack a value: between the edges the same nodes have weight, and those of an edge too, so the first place and the second tell.
 -- Assumes nothing.
+use Rattle.std.proofs.Common.{ℤ, Option}
 use mathlib.Core.Path.{◌≡◌, refl, sym, ap, ◌∙◌, subst}
 use mathlib.Core.Bool.{Bool, true, false, not, cond, ◌&&◌, ◌||◌, true≢false}
 use Prim.Native.Nat.{ℕ, zero, suc, ◌+◌, ◌*◌, ◌-◌, ◌≤◌, ◌<◌}
@@ -11,7 +12,6 @@ use Rattle.arith.specs.Lists.{all_below}
 use Rattle.arith.proofs.First.{or-false}
 use Rattle.arith.proofs.Lists.{all_true}
 use Rattle.arith.proofs.Tests.{all-stops}
-use Rattle.field.specs.declared.Reading.{Reading}
 use Rattle.grid_bilinear.specs.Bilinear.{lacks}
 use Rattle.layout.specs.Layout.{available}
 use Rattle.grid_fields.specs.declared.Nodes.{Nodes}
@@ -41,7 +41,7 @@ or_parts m a b c d h =
     let t = or-false m a r.0 in
     (t.0, t.1, r.1, q.1, p.1)
 
-module _ (mean : Reading) (n : Nodes) (h w y : ℕ) where
+module _ (mean : Option ℤ) (n : Nodes) (h w y : ℕ) where
   -- what a place between the edges has, every place has
   pub between : (x t : ℕ) → 0 < x → x < w → lacking_at mean n h w y x ≡ false → lacking_at mean n h w y t ≡ false
   between x t a b e =

@@ -1,5 +1,6 @@
 -- The answers at the places of a row that stand in one cell, by what the message says of the cell.
 -- Assumes nothing.
+use Rattle.std.proofs.Common.{Option}
 use mathlib.Core.Path.{◌≡◌, refl, sym, ap, ◌∙◌, subst}
 use mathlib.Core.Bool.{Bool, true, false, not, cond}
 use mathlib.Core.List.{List}
@@ -9,7 +10,6 @@ use lib.IntN.{ℤ, pos, ◌+ℤ◌, ◌*ℤ◌}
 use Rattle.arith.specs.First.{first}
 use Rattle.arith.specs.Lists.{all_below}
 use Rattle.arith.proofs.Int.{at, nat, ◌⊞◌, ◌⊠◌, ring}
-use Rattle.field.specs.declared.Reading.{Reading}
 use Rattle.layout.specs.Layout.{value_in}
 use Rattle.record_rows.specs.Numbers.{says}
 use Rattle.record_grids.specs.declared.Settings.{Settings}
@@ -61,7 +61,7 @@ module _ (s : List ℕ) (h : kind_refusal 1023 1024 s ≡ 0) {f : Settings} (set
       sym (refused_as g c n e q k ∙ message-passed s c n e h)
 
   module _ (found : p.refusal ≡ 0) where
-    abbrev mean : Reading
+    abbrev mean : Option ℤ
     mean = mean_says s c
 
     abbrev nodes : Nodes

@@ -1,9 +1,8 @@
 -- What the private functions ask for and answer.
 -- Assumes nothing.
-use Rattle.std.specs.Prelude.{◌≡◌, Bool, false, List, ℕ, ◌+◌, ◌≤◌, ◌<◌, ℤ, pos}
+use Rattle.std.specs.Prelude.{◌≡◌, Bool, false, List, ℕ, ◌+◌, ◌≤◌, ◌<◌, ℤ, pos, Option}
 use Rattle.arith.specs.First.{first}
 use Rattle.arith.specs.Lists.{up_to}
-use Rattle.field.specs.declared.Reading.{Reading}
 use Rattle.record_grids.specs.declared.Settings.{Settings}
 use Rattle.record_grids.specs.Inner.{settings_at}
 use Rattle.message_rows.specs.Message.{kind_refusal}
@@ -17,7 +16,7 @@ use Rattle.grid_row_refusals.specs.ShiftRow.{east_at, refused_test}
 use Rattle.grid_row_refusals.specs.declared.Run.{Run}
 
 -- the mean, or a node with weight, is not available y and x steps from the south and west of a cell of height h and width w
-abbrev pub lacking_at : Reading → Nodes → (h w y x : ℕ) → Bool
+abbrev pub lacking_at : Option ℤ → Nodes → (h w y x : ℕ) → Bool
 lacking_at mean n h w y x = lacking mean n (weights_of h w y x)
 
 -- a grid message and its settings, and places from e on, each a step further, none of them past the limits

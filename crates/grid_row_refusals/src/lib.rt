@@ -9,8 +9,7 @@ ghost use Rattle.grid_row_refusals.specs.ShiftRow.{east_at, any_beyond, misplace
 ghost use Rattle.grid_row_refusals.specs.Inner.{places_in, Greatest};
 ghost use Rattle.grid_row_refusals.specs.Private.{lacking_at, Ready, Looked, first_refused};
 
-use arith::refusals::{ABSENT, COMPONENT, POSITION, ROOM};
-use field::Reading;
+use arith::refusals::{Refusal, outcome_number};
 use grid_fields::Nodes;
 use record_grids::Settings;
 
@@ -41,7 +40,7 @@ pub fn places_in(left: usize, w: u64, x: u64, step: u64) -> usize
 
 // ABSENT where one of so many places in a cell lacks a value, or 0: between the edges the same nodes have weight, and those of an edge too, so the first place and the second tell.
 fn run_refusal(
-    mean: Reading,
+    mean: Option<i64>,
     n: Nodes,
     h: u64,
     w: u64,
@@ -54,13 +53,13 @@ fn run_refusal(
     ensures { result ≡ cond (all_below (λ j. not (lacking_at mean n h w y (x + j * step))) places) 0 15 }
 {
     if grid_counts::cell_lacks(mean, n, grid_cell::weights_in(h, w, y, x)) {
-        return ABSENT;
+        return Refusal::Absent as u8;
     }
     if places < 2 {
         return 0;
     }
     if grid_counts::cell_lacks(mean, n, grid_cell::weights_in(h, w, y, x + step)) {
-        return ABSENT;
+        return Refusal::Absent as u8;
     }
     0
 }
@@ -124,6 +123,7 @@ fn places_refusal(
     ensures { result ≡ first_refused message.now component north east (pos step) 0 count }
 {
     let mut i: usize = 0;
+    // A while: the step is the length of the run.
     while i < count {
         let r = look_from(message, f, component, north, east, step, i, count);
         if r.refusal != 0 {
@@ -139,17 +139,17 @@ fn ends_refusal(component: u8, number: i64, north: i64, east: i64, step: i64, co
     requires { (component ≤ 2) × (0 < count) × (count ≤ 4096) × (pos 0 ≤ℤ step) }
     ensures { result ≡ cond (any_beyond number north east step count) 9 0 }
 {
-    if grid_refusals::position_refusal(component, number, north, east) != 0 {
-        return POSITION;
+    if outcome_number(grid_refusals::position_refusal(component, number, north, east)) != 0 {
+        return Refusal::Position as u8;
     }
     if count == 1 {
         return 0;
     }
     if 2000000000000 < step {
-        return POSITION;
+        return Refusal::Position as u8;
     }
     let last = east + (count - 1) as i64 * step;
-    grid_refusals::position_refusal(component, number, north, last)
+    outcome_number(grid_refusals::position_refusal(component, number, north, last))
 }
 
 // COMPONENT, POSITION, or 0.
@@ -157,16 +157,16 @@ fn limits_refusal(component: u8, number: i64, north: i64, east: i64, step: i64, 
     ensures { result ≡ first ((8, ltb 2 component) ∷ (9, misplaced number north east step count) ∷ []) }
 {
     if 2 < component {
-        return COMPONENT;
+        return Refusal::Component as u8;
     }
     if count == 0 {
-        return POSITION;
+        return Refusal::Position as u8;
     }
     if 4096 < count {
-        return POSITION;
+        return Refusal::Position as u8;
     }
     if step < 0 {
-        return POSITION;
+        return Refusal::Position as u8;
     }
     ends_refusal(component, number, north, east, step, count)
 }
@@ -183,7 +183,7 @@ pub fn row_refusal(
 ) -> u8
     ensures { result ≡ shift_row_refusal message.now component north east step count room }
 {
-    let kind = message_rows::check_kind(message, 1023, 1024);
+    let kind = outcome_number(message_rows::check_kind(message, 1023, 1024));
     if kind != 0 {
         return kind;
     }
@@ -197,7 +197,7 @@ pub fn row_refusal(
         return places;
     }
     if room < count {
-        return ROOM;
+        return Refusal::Room as u8;
     }
     0
 }

@@ -39,17 +39,16 @@ fn next(p: Quotient, by: Quotient, area: u64) -> Quotient
     ensures { Next area p by result }
 {
     let whole = p.whole + by.whole;
-    let rest = p.rest;
     let lack = area - by.rest;
-    if rest < lack {
+    if p.rest < lack {
         return Quotient {
             whole,
-            rest: rest + by.rest,
+            rest: p.rest + by.rest,
         };
     }
     Quotient {
         whole: whole + 1,
-        rest: rest - lack,
+        rest: p.rest - lack,
     }
 }
 
@@ -68,6 +67,7 @@ pub(crate) fn fill(row: &mut [i64], mean: i64, first: Quotient, by: Quotient, ar
 {
     let mut p = first;
     let mut i: usize = 0;
+    // A while: request A6 has nothing called out of this file, and a `for` calls the library's iterator.
     while i < row.len() {
         row[i] = count_of(mean, p, area);
         p = next(p, by, area);

@@ -47,17 +47,15 @@ fn growth(a: Quotient, b: Quotient, area: u64) -> Quotient
     ensures { Split area (number_of area b.whole b.rest -ℤ number_of area a.whole a.rest) result }
 {
     let whole = b.whole - a.whole;
-    let rest = b.rest;
-    let less = a.rest;
-    if rest < less {
+    if b.rest < a.rest {
         return Quotient {
             whole: whole - 1,
-            rest: area - less + rest,
+            rest: area - a.rest + b.rest,
         };
     }
     Quotient {
         whole,
-        rest: rest - less,
+        rest: b.rest - a.rest,
     }
 }
 
@@ -99,12 +97,12 @@ fn fill_run(row: &mut [i64], message: &[u8], number: i64, component: u8, p: Loca
     requires { Standing (value_in (mean_says message.now component)) (values_in (cell_says message.now component p.row p.column)) p × (0 < length row.old) × (length row.old ≤ 4096) × (p.east + (length row.old - 1) * step ≤ p.width) }
     ensures { row.new ≡ up_to (cell_counts (pos mean_factor *ℤ value_in (mean_says message.now component)) (node_factor number component) p.height p.width p.north p.east step (values_in (cell_says message.now component p.row p.column))) (length row.old) }
 {
-    let mean = grid_fields::mean_at(message, component);
+    let mean = 100 * layout::value_in(grid_fields::mean_at(message, component));
     let n = grid_fields::nodes_at(message, component, p.row, p.column);
     let factor = grid_counts::factor_of(number, component);
     fill_cell(
         row,
-        100 * layout::value_in(mean),
+        mean,
         factor,
         grid_counts::values_of(n),
         p.height,
@@ -153,6 +151,7 @@ fn fill_row(
     ensures { row.new ≡ up_to (count_at message.now component north east (pos step)) count ++ drop count row.old }
 {
     let mut i: usize = 0;
+    // A while: the step is the length of the run.
     while i < count {
         i = fill_from(row, i, count, message, f, component, north, east, step);
     }

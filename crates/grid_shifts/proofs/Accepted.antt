@@ -1,5 +1,6 @@
 -- An accepted grid message or record has its fields within their ranges, and the refusals of the two public functions are those of the parts.
 -- Assumes nothing.
+use Rattle.std.proofs.Common.{Option, Some, None}
 use mathlib.Core.Path.{◌≡◌, refl, sym, ap, ◌∙◌, subst}
 use mathlib.Core.Bool.{Bool, true, false, not, cond, ◌&&◌}
 use mathlib.Core.List.{List, [], ◌∷◌, ◌++◌, append_assoc}
@@ -17,8 +18,6 @@ use Rattle.arith.proofs.Whole.{eq_z-true}
 use Rattle.arith.proofs.First.{stops, goes_on, passes}
 use Rattle.arith.proofs.Tests.{false-ne-true, both_first, both-second}
 use Rattle.field.specs.Field.{none_of}
-use Rattle.field.specs.declared.Reading.{Reading}
-use Rattle.field.specs.declared.Reading.TheVariants.{Value, Absent}
 use Rattle.layout.specs.Layout.{all_take, row_takes, row_of, takes, of_width, signed, width, int, int_to, size, value_in}
 use Rattle.layout.proofs.Round.{of-true, take-length, taken-all, row_in, all-taken}
 use Rattle.layout_tables.specs.Layouts.{layout_of, layout1023, layout1024, times, points}
@@ -26,7 +25,7 @@ use Rattle.layout_tables.proofs.Length.{length-1023, length-1024, total-1023, to
 use Rattle.record_rows.specs.Numbers.{says, number_at, pair_row, values_of, present_of}
 use Rattle.record_grids.specs.declared.Grid.{Grid}
 use Rattle.record_grids.specs.declared.Shifts.{Shifts}
-use Rattle.record_grids.specs.Grids.{grid_of, settings_of, grid_row, nodes_row, origin_row, spacing_row, shifts_row}
+use Rattle.record_grids.specs.Grids.{grid_of, grid_row, nodes_row, origin_row, spacing_row, shifts_row}
 use Rattle.message_rows.specs.Message.{tests, number_of, layout, row, row_layout, kind_refusal, kind_row, kind_write_refusal, of_kind, row_held}
 use Rattle.message_records.specs.Kinds.{grid_held}
 use Rattle.message_records.proofs.RecordTrips.{grid-row}
@@ -47,32 +46,32 @@ fits-most false w (negsuc n) h = absurd (false-ne-true h)
 abbrev Upto : ℕ → ℕ → Type 0
 Upto e b = T (leb (cond (signed e) (none_of (width e)) (2 ^ width e)) b)
 
-bounded : (e : ℕ) (r : Reading) (b : ℕ) → takes e r ≡ true → Upto e b → nat_abs (value_in r) ≤ b
-bounded e (Value z) b h t = le_trans (fits-most (signed e) (width e) z (both_first _ _ h)) (leb→le _ b t)
-bounded e Absent b h t = omega arith
+bounded : (e : ℕ) (r : Option ℤ) (b : ℕ) → takes e r ≡ true → Upto e b → nat_abs (value_in r) ≤ b
+bounded e (Some z) b h t = le_trans (fits-most (signed e) (width e) z (both_first _ _ h)) (leb→le _ b t)
+bounded e None b h t = omega arith
 
 -- a longitude of the origin is within its declared range
-in-turn : (r : Reading) → takes (int_to 22 1296000) r ≡ true → nat_abs (value_in r) ≤ 1296000
-in-turn (Value z) h = leb-true (nat_abs z) 1296000 (both-second (of_width true 22 z) (leb (nat_abs z) 1296000) h)
-in-turn Absent h = omega arith
+in-turn : (r : Option ℤ) → takes (int_to 22 1296000) r ≡ true → nat_abs (value_in r) ≤ 1296000
+in-turn (Some z) h = leb-true (nat_abs z) 1296000 (both-second (of_width true 22 z) (leb (nat_abs z) 1296000) h)
+in-turn None h = omega arith
 
 counted : (w : ℕ) (z : ℤ) → of_width false w z ≡ true → (z ≡ pos (natural z)) × (natural z < 2 ^ w)
 counted w (pos n) h = (refl, ltb-true n (2 ^ w) h)
 counted w (negsuc n) h = absurd (false-ne-true h)
 
-spaced : (z : ℤ) → takes 12 (Value z) ≡ true → (z ≡ pos (natural z)) × (natural z ≤ 4095)
+spaced : (z : ℤ) → takes 12 (Some z) ≡ true → (z ≡ pos (natural z)) × (natural z ≤ 4095)
 spaced z h = let c = counted 12 z (both_first _ _ h) in (c.0, omega (arith, c.1))
 
 -- ---- the places of a row
 
-takes_at : (es : List ℕ) (vs : List Reading) → all_take es vs ≡ true → (i : ℕ) → i < length es → takes (get_or es i 0) (says vs i) ≡ true
+takes_at : (es : List ℕ) (vs : List (Option ℤ)) → all_take es vs ≡ true → (i : ℕ) → i < length es → takes (get_or es i 0) (says vs i) ≡ true
 unfolding all_take
 takes_at [] vs h i k = absurd (not-suc-le-zero k)
 takes_at (e ∷ es) [] h i k = absurd (false-ne-true h)
 takes_at (e ∷ es) (v ∷ vs) h zero k = both_first (takes e v) (all_take es vs) h
 takes_at (e ∷ es) (v ∷ vs) h (suc i) k = takes_at es vs (both-second (takes e v) (all_take es vs) h) i (le_of_suc-le-suc k)
 
-skips : (a es : List ℕ) (va vs : List Reading) → length a ≡ length va → all_take (a ++ es) (va ++ vs) ≡ true → all_take es vs ≡ true
+skips : (a es : List ℕ) (va vs : List (Option ℤ)) → length a ≡ length va → all_take (a ++ es) (va ++ vs) ≡ true → all_take es vs ≡ true
 unfolding all_take
 skips [] es [] vs e h = h
 skips [] es (v ∷ va) vs e h = absurd (omega arith)
@@ -82,7 +81,7 @@ skips (x ∷ a) es (v ∷ va) vs e h = skips a es va vs (omega arith) (both-seco
 -- ---- the nodes
 
 abbrev none : Shifts
-none = record { north = Value (pos 0); east = Value (pos 0); height = Value (pos 0) }
+none = record { north = Some (pos 0); east = Some (pos 0); height = Some (pos 0) }
 
 -- each component of a shift is at most b
 pub record Small (b : ℕ) (s : Shifts) : Type 0 where
@@ -102,7 +101,7 @@ part-most {b} {s} h c = by (eqb c 0) (eqb c 1)
 abbrev node : List ℕ
 node = int 9 ∷ int 9 ∷ int 9 ∷ []
 
-small : (n : Shifts) (es : List ℕ) (vs : List Reading) → all_take (node ++ es) (shifts_row n ++ vs) ≡ true → Small 256 n × (all_take es vs ≡ true)
+small : (n : Shifts) (es : List ℕ) (vs : List (Option ℤ)) → all_take (node ++ es) (shifts_row n ++ vs) ≡ true → Small 256 n × (all_take es vs ≡ true)
 unfolding all_take shifts_row
 small n es vs h =
     let i = both-second (takes (int 9) n.north) _ h in
@@ -115,7 +114,7 @@ small n es vs h =
       both-second (takes (int 9) n.height) _ j,
     )
 
-nodes-small : (m : ℕ) (ns : List Shifts) (es : List ℕ) (vs : List Reading) → length ns ≡ m →
+nodes-small : (m : ℕ) (ns : List Shifts) (es : List ℕ) (vs : List (Option ℤ)) → length ns ≡ m →
     all_take (times m node es) (nodes_row ns ++ vs) ≡ true → (k : ℕ) → Small 256 (get_or ns k none)
 unfolding nodes_row shifts_row
 nodes-small zero [] es vs e h k = record { north = omega arith; east = omega arith; height = omega arith }
@@ -149,19 +148,19 @@ module _ (g : Grid) (a : List ℕ) (l : length a ≡ 11) (h : all_take (a ++ poi
         length-nodes g.nodes,
       )
 
-  abbrev behind : List Reading
-  behind = pair_row g.methods ++ (pair_row g.quality ++ (Value g.day ∷ []))
+  abbrev behind : List (Option ℤ)
+  behind = pair_row g.methods ++ (pair_row g.quality ++ (Some g.day ∷ []))
 
-  grouped : nodes_row g.nodes ++ pair_row g.methods ++ pair_row g.quality ++ (Value g.day ∷ []) ≡ nodes_row g.nodes ++ behind
+  grouped : nodes_row g.nodes ++ pair_row g.methods ++ pair_row g.quality ++ (Some g.day ∷ []) ≡ nodes_row g.nodes ++ behind
   grouped =
-      append_assoc (nodes_row g.nodes ++ pair_row g.methods) (pair_row g.quality) (Value g.day ∷ [])
-      ∙ append_assoc (nodes_row g.nodes) (pair_row g.methods) (pair_row g.quality ++ (Value g.day ∷ []))
+      append_assoc (nodes_row g.nodes ++ pair_row g.methods) (pair_row g.quality) (Some g.day ∷ [])
+      ∙ append_assoc (nodes_row g.nodes) (pair_row g.methods) (pair_row g.quality ++ (Some g.day ∷ []))
 
-  taken-nodes : all_take points (nodes_row g.nodes ++ pair_row g.methods ++ pair_row g.quality ++ (Value g.day ∷ [])) ≡ true
+  taken-nodes : all_take points (nodes_row g.nodes ++ pair_row g.methods ++ pair_row g.quality ++ (Some g.day ∷ [])) ≡ true
   unfolding grid_row pair_row origin_row spacing_row shifts_row
   taken-nodes =
       skips a points
-      (Value g.number ∷ Value g.sin ∷ Value g.indicators.horizontal ∷ Value g.indicators.vertical ∷ g.origin.north ∷ g.origin.east ∷ Value g.spacing.north ∷ Value g.spacing.east ∷ g.mean.north ∷ g.mean.east ∷ g.mean.height ∷ [])
+      (Some g.number ∷ Some g.sin ∷ Some g.indicators.horizontal ∷ Some g.indicators.vertical ∷ g.origin.north ∷ g.origin.east ∷ Some g.spacing.north ∷ Some g.spacing.east ∷ g.mean.north ∷ g.mean.east ∷ g.mean.height ∷ [])
       _ l h
 
   nodes-most : (c i j : ℕ) → nat_abs (value_in (node_of g.nodes c i j)) ≤ 256
@@ -181,8 +180,8 @@ fields-by g a l m north east rows columns p q r turn h =
           record {
             north = bounded _ g.origin.north 67108864 (t 4 (omega arith)) north;
             east = bounded _ g.origin.east 67108864 (t 5 (omega arith)) east;
-            rows = spaced g.spacing.north (subst (λ (e : ℕ). takes e (Value g.spacing.north) ≡ true) rows (t 6 (omega arith)));
-            columns = spaced g.spacing.east (subst (λ (e : ℕ). takes e (Value g.spacing.east) ≡ true) columns (t 7 (omega arith)));
+            rows = spaced g.spacing.north (subst (λ (e : ℕ). takes e (Some g.spacing.north) ≡ true) rows (t 6 (omega arith)));
+            columns = spaced g.spacing.east (subst (λ (e : ℕ). takes e (Some g.spacing.east) ≡ true) columns (t 7 (omega arith)));
             longitude = turn (t 5 (omega arith));
           };
       mean =
@@ -238,7 +237,7 @@ room_of k n m lo hi =
     (rw (length-1023, total-1023) (refl, omega arith))
     (rw (length-1024, total-1024) (refl, omega arith))
 
-room : (v : List Reading) → 1023 ≤ natural (number_at (says v) 0) → natural (number_at (says v) 0) ≤ 1024 → Room (row_layout v)
+room : (v : List (Option ℤ)) → 1023 ≤ natural (number_at (says v) 0) → natural (number_at (says v) 0) ≤ 1024 → Room (row_layout v)
 unfolding row_layout
 room v lo hi = room_of (natural (number_at (says v) 0)) _ _ lo hi
 
@@ -280,7 +279,7 @@ module _ (g : Grid) (c : ℕ) (n e : ℤ) where
   record-passed h = rw h
 
 -- what `grid_held` says, of the row
-held-row : (v : List Reading) → row_held 1023 1024 (values_of v) (present_of v) ≡ (of_kind 1023 1024 v && row_takes (row_layout v) (values_of v) (present_of v))
+held-row : (v : List (Option ℤ)) → row_held 1023 1024 (values_of v) (present_of v) ≡ (of_kind 1023 1024 v && row_takes (row_layout v) (values_of v) (present_of v))
 unfolding row_held
 held-row v = rw (row_in v)
 
@@ -291,7 +290,7 @@ record-fields g h =
     let t = sym (held-row v) ∙ h in
     let k = kind-low (natural g.number) (both_first (of_kind 1023 1024 v) (row_takes (row_layout v) (values_of v) (present_of v)) t) in
     let a = taken-all (row_layout v) (values_of v) (present_of v) (both-second (of_kind 1023 1024 v) (row_takes (row_layout v) (values_of v) (present_of v)) t) in
-    fields-of g k.0 k.1 (subst (λ (w : List Reading). all_take (row_layout v) w ≡ true) (row_in v) a)
+    fields-of g k.0 k.1 (subst (λ (w : List (Option ℤ)). all_take (row_layout v) w ≡ true) (row_in v) a)
 
 -- ---- the refusals of a message: what `check_kind` answers, then the tests of the grid
 

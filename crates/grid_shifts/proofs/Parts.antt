@@ -1,5 +1,6 @@
 -- From a place and what its nodes say to the answer: the refusals of a cell, the count at a place, and the answer of a grid.
 -- Assumes nothing.
+use Rattle.std.proofs.Common.{Option}
 use mathlib.Core.Path.{◌≡◌, refl, sym, ap, ◌∙◌, subst}
 use mathlib.Core.Bool.{Bool, true, false, cond, ◌&&◌}
 use mathlib.Core.List.{List, [], ◌∷◌}
@@ -13,7 +14,6 @@ use Rattle.arith.specs.First.{Test, first}
 use Rattle.arith.specs.Whole.{same_z}
 use Rattle.arith.proofs.First.{stops, goes_on, passes}
 use Rattle.arith.proofs.Machine.{Num, lit, arg, mul}
-use Rattle.field.specs.declared.Reading.{Reading}
 use Rattle.layout.specs.Layout.{value_in}
 use Rattle.record_grids.specs.declared.Grid.{Grid}
 use Rattle.record_grids.specs.Grids.{settings_of}
@@ -54,7 +54,7 @@ refusal_is number c r n = rw (ne_eqb r 0 n) (refl, refl, refl)
 
 -- ---- the answers in a cell
 
-module _ (number : ℤ) (c : ℕ) (mean : Reading) (n : Nodes) (k : Weights) where
+module _ (number : ℤ) (c : ℕ) (mean : Option ℤ) (n : Nodes) (k : Weights) where
   abbrev count : ℤ
   count = count_at number c (value_in mean) (values_in n) k
 
@@ -251,7 +251,7 @@ module _ (g : Grid) (c : ℕ) (n e : ℤ) (f : Held g) {r : ℕ} {t : Located} (
   weights-of-place z = weights-in-is (subst In (sym (b z)) (within (settings_of g) c n e f.settings (none-at z)))
 
   module _
-      {m : Reading}
+      {m : Option ℤ}
       {w : Nodes}
       {k : Weights}
       (p : m ≡ part c g.mean)

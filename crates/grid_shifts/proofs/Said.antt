@@ -1,5 +1,6 @@
 -- What is read at its bits in a grid message is what the message's record says: the settings, the mean of a component, and the nodes of a cell.
 -- Assumes nothing.
+use Rattle.std.proofs.Common.{ℤ, Option, Some}
 use Prim.Native.Nat.{ℕ, zero, suc, ◌+◌, ◌-◌, ◌*◌, ◌≤◌, ◌<◌, min}
 use mathlib.Core.Path.{◌≡◌, refl, sym, ap, ◌∙◌}
 use mathlib.Core.List.{List}
@@ -8,8 +9,6 @@ use native.Mathlib.Omega.{arith}
 use borrow.Author.Tests.{ne_eqb, lt-ltb, le-ltb}
 use lib.IntN.{pos}
 use Rattle.arith.proofs.Lists.{get_d-up_to}
-use Rattle.field.specs.declared.Reading.{Reading}
-use Rattle.field.specs.declared.Reading.TheVariants.{Value}
 use Rattle.layout.specs.Layout.{value_in}
 use Rattle.record_rows.specs.Numbers.{says, pair_at}
 use Rattle.record_grids.specs.declared.Grid.{Grid}
@@ -25,7 +24,7 @@ use Rattle.grid_shifts.specs.Private.{nodes_in}
 use Rattle.grid_fields.specs.declared.Nodes.{Nodes}
 
 -- places that say the same give the same settings
-settings-same : (v w : ℕ → Reading) → ((k : ℕ) → k < 64 → v k ≡ w k) → settings_at v ≡ settings_at w
+settings-same : (v w : ℕ → Option ℤ) → ((k : ℕ) → k < 64 → v k ≡ w k) → settings_at v ≡ settings_at w
 unfolding settings_at pair_at origin_at spacing_at
 settings-same v w e =
     λ i. record {
@@ -37,7 +36,7 @@ settings-same v w e =
     }
 
 -- a component of the shift from place k on
-part_at : (v : ℕ → Reading) (k c : ℕ) → v (k + min c 2) ≡ part c (shifts_at v k)
+part_at : (v : ℕ → Option ℤ) (k c : ℕ) → v (k + min c 2) ≡ part c (shifts_at v k)
 unfolding shifts_at
 part_at v k zero = ap v (omega arith)
 part_at v k (suc zero) = refl
@@ -45,7 +44,7 @@ part_at v k (suc (suc c)) =
     rw (ne_eqb (suc (suc c)) 0 (λ z. absurd (omega arith)), ne_eqb (suc (suc c)) 1 (λ z. absurd (omega arith))) (ap v (omega arith))
 
 module _ (s : List ℕ) (h : kind_refusal 1023 1024 s ≡ 0) where
-  abbrev v : ℕ → Reading
+  abbrev v : ℕ → Option ℤ
   v = says (row s)
 
   abbrev g : Grid
@@ -62,7 +61,7 @@ module _ (s : List ℕ) (h : kind_refusal 1023 1024 s ≡ 0) where
   unfolding node_says grid_of nodes_at
   node-said c i j a b =
       let k : ℕ = 4 * i + j in
-      let d : Shifts = record { north = Value (pos 0); east = Value (pos 0); height = Value (pos 0) } in
+      let d : Shifts = record { north = Some (pos 0); east = Some (pos 0); height = Some (pos 0) } in
       let l : k < 16 = omega arith in
       rw (lt-ltb k 16 l, get_d-up_to (λ i. shifts_at v (11 + 3 * i)) 16 k d l)
       (grid-says s h (11 + 3 * k + min c 2) (omega (arith, min-le_right c 2)) ∙ part_at v (11 + 3 * k) c)

@@ -1,7 +1,6 @@
 -- What private functions answer, and what the fields of a grid hold.
 -- Assumes nothing.
-use Rattle.std.specs.Prelude.{List, cond, ℕ, ◌+◌, ◌-◌, ◌≤◌, eqb, ℤ, pos, nat_abs}
-use Rattle.field.specs.declared.Reading.{Reading}
+use Rattle.std.specs.Prelude.{List, cond, ℕ, ◌+◌, ◌-◌, ◌≤◌, eqb, ℤ, pos, nat_abs, Option}
 use Rattle.layout.specs.Layout.{value_in}
 use Rattle.record_grids.specs.declared.Grid.{Grid}
 use Rattle.record_grids.specs.declared.Shifts.{Shifts}
@@ -34,9 +33,9 @@ nodes_in nodes c k l =
     }
 
 -- 15 ABSENT, or the shift at a place
-unfoldable pub cell_shift : ℤ → ℕ → Reading → Nodes → Weights → Shift
+unfoldable pub cell_shift : ℤ → ℕ → Option ℤ → Nodes → Weights → Shift
 cell_shift number c mean n k = let r = cell_count number c mean n k in outcome number c r.refusal r.count
 
 -- refusal r, or the shift at a place
-unfoldable pub part_shift : ℤ → (c r : ℕ) → Reading → Nodes → Weights → Shift
+unfoldable pub part_shift : ℤ → (c r : ℕ) → Option ℤ → Nodes → Weights → Shift
 part_shift number c r mean n k = cond (eqb r 0) (cell_shift number c mean n k) (outcome number c r (pos 0))

@@ -1,14 +1,12 @@
 -- The shift at a position from a grid message: document 01, "The grid" and "Refusal numbers".
 -- Assumes nothing.
-use Rattle.std.specs.Prelude.{ℕ, ◌+◌, ◌*◌, not, cond, ◌&&◌, List, [], ◌∷◌, ◌++◌, eqb, ltb, Float, ℤ, pos, ◌+ℤ◌, ◌*ℤ◌, get_or}
+use Rattle.std.specs.Prelude.{ℕ, ◌+◌, ◌*◌, not, cond, ◌&&◌, List, [], ◌∷◌, ◌++◌, eqb, ltb, Float, ℤ, pos, ◌+ℤ◌, ◌*ℤ◌, get_or, Option, Some}
 use Rattle.std.specs.Float.{binary64}
 use Rattle.std.specs.Float.Ieee.{div, of_int}
 use Rattle.arith.specs.First.{Test, first}
 use Rattle.record_grids.specs.declared.Grid.{Grid}
 use Rattle.record_grids.specs.declared.Shifts.{Shifts}
 use Rattle.record_grids.specs.Grids.{grid_of, settings_of}
-use Rattle.field.specs.declared.Reading.{Reading}
-use Rattle.field.specs.declared.Reading.TheVariants.{Value}
 use Rattle.layout.specs.Layout.{value_in, available}
 use Rattle.record_rows.specs.Numbers.{says}
 use Rattle.message_rows.specs.Message.{row, kind_tests}
@@ -23,14 +21,14 @@ use Rattle.grid_shifts.specs.declared.Shift.{Shift}
 use Rattle.grid_shifts.specs.declared.ThreeShifts.{ThreeShifts}
 
 -- the components of a shift, document 01's term: 0 north-south, 1 east-west, 2 height
-abbrev pub part : ℕ → Shifts → Reading
+abbrev pub part : ℕ → Shifts → Option ℤ
 part c s = cond (eqb c 0) s.north (cond (eqb c 1) s.east s.height)
 
 -- ---- the component's surface, and the place in it
 
 -- node i from the north and j from the west is node 4 i + j of the message, numbered from 0
-abbrev pub node_of : List Shifts → ℕ → ℕ → ℕ → Reading
-node_of nodes c i j = part c (get_or nodes (4 * i + j) (record { north = Value (pos 0); east = Value (pos 0); height = Value (pos 0) }))
+abbrev pub node_of : List Shifts → ℕ → ℕ → ℕ → Option ℤ
+node_of nodes c i j = part c (get_or nodes (4 * i + j) (record { north = Some (pos 0); east = Some (pos 0); height = Some (pos 0) }))
 
 unfoldable pub surface : Grid → ℕ → Surface
 surface g c =

@@ -6,8 +6,7 @@ ghost use Rattle.grid_shifts.specs.Shift.{part, node_of, answer_of, outcome, flo
 ghost use Rattle.grid_shifts.specs.Inner.{record_shifts};
 ghost use Rattle.grid_shifts.specs.Private.{nodes_in, cell_shift, part_shift};
 
-use arith::refusals::{LENGTH, RANGE};
-use field::Reading;
+use arith::refusals::{Refusal, outcome_number};
 use grid_cell::Weights;
 use grid_fields::Nodes;
 use record_grids::{Grid, Shifts};
@@ -61,17 +60,14 @@ fn answer_of(number: i64, component: u8, count: i64) -> Answer
     requires { nat_abs count ≤ 9007199254740992 }
     ensures { result ≡ answer_of number component 0 count }
 {
-    if number != 1023 {
-        return Answer::Metres(count as f64 / 10000.0);
-    }
-    if component < 2 {
+    if number == 1023 && component < 2 {
         return Answer::Seconds(count as f64 / 100000.0);
     }
     Answer::Metres(count as f64 / 10000.0)
 }
 
 // ABSENT, or the shift at a place.
-fn cell_shift(number: i64, component: u8, mean: Reading, n: Nodes, k: Weights) -> Shift
+fn cell_shift(number: i64, component: u8, mean: Option<i64>, n: Nodes, k: Weights) -> Shift
     ensures { result ≡ cell_shift number component mean n k }
 {
     let c = grid_counts::cell_count(number, component, mean, n, k);
@@ -86,7 +82,14 @@ fn cell_shift(number: i64, component: u8, mean: Reading, n: Nodes, k: Weights) -
 }
 
 // One part: the refusal of the position, or the shift at its place.
-fn part_shift(number: i64, component: u8, refusal: u8, mean: Reading, n: Nodes, k: Weights) -> Shift
+fn part_shift(
+    number: i64,
+    component: u8,
+    refusal: u8,
+    mean: Option<i64>,
+    n: Nodes,
+    k: Weights,
+) -> Shift
     ensures { result ≡ part_shift number component refusal mean n k }
 {
     if refusal != 0 {
@@ -100,8 +103,7 @@ fn float_of(a: Answer) -> f64
     ensures { result ≡ float_of a }
 {
     match a {
-        Answer::Seconds(x) => x,
-        Answer::Metres(x) => x,
+        Answer::Seconds(x) | Answer::Metres(x) => x,
         Answer::Refused(_) => 0.0,
     }
 }
@@ -110,13 +112,10 @@ fn float_of(a: Answer) -> f64
 fn three_of(n: Shift, e: Shift, h: Shift) -> ThreeShifts
     ensures { result ≡ three_of n e h }
 {
-    let a = n.answer;
-    let b = e.answer;
-    let c = h.answer;
     ThreeShifts {
-        north: float_of(a),
-        east: float_of(b),
-        height: float_of(c),
+        north: float_of(n.answer),
+        east: float_of(e.answer),
+        height: float_of(h.answer),
         parts: Components {
             north: n,
             east: e,
@@ -135,25 +134,22 @@ fn all_refused(refusal: u8) -> ThreeShifts
 }
 
 // The component of a shift.
-fn part_of(component: u8, s: Shifts) -> Reading
+fn part_of(component: u8, s: Shifts) -> Option<i64>
     ensures { result ≡ part component s }
 {
-    if component == 0 {
-        return s.north;
+    match component {
+        0 => s.north,
+        1 => s.east,
+        _ => s.height,
     }
-    if component == 1 {
-        return s.east;
-    }
-    s.height
 }
 
 // What node i from the north and j from the west says in a record.
-fn node_of(nodes: [Shifts; 16], component: u8, i: u64, j: u64) -> Reading
+fn node_of(nodes: [Shifts; 16], component: u8, i: u64, j: u64) -> Option<i64>
     requires { (i ≤ 3) × (j ≤ 3) }
     ensures { result ≡ node_of nodes component i j }
 {
-    let n = nodes[(4 * i + j) as usize];
-    part_of(component, n)
+    part_of(component, nodes[(4 * i + j) as usize])
 }
 
 // What the nodes of the cell k from the south and l from the west say in a record.
@@ -173,13 +169,13 @@ fn nodes_of(nodes: [Shifts; 16], component: u8, k: u64, l: u64) -> Nodes
 pub fn shifts_at(message: &[u8], north: i64, east: i64) -> ThreeShifts
     ensures { result ≡ message_shifts message.now north east }
 {
-    let refusal = message_rows::check_kind(message, 1023, 1024);
+    let refusal = outcome_number(message_rows::check_kind(message, 1023, 1024));
     if refusal != 0 {
         return all_refused(refusal);
     }
     // Never so: that the bytes are there spares the compiler a test at each field.
     if message.len() < 71 {
-        return all_refused(LENGTH);
+        return all_refused(Refusal::Length as u8);
     }
     let f = grid_fields::settings_at(message);
     let number = f.number;
@@ -188,13 +184,10 @@ pub fn shifts_at(message: &[u8], north: i64, east: i64) -> ThreeShifts
     let k = grid_cell::weights_in(t.height, t.width, t.north, t.east);
     let n = grid_fields::cells_at(message, t.row, t.column);
     let m = grid_fields::means_at(message);
-    let a = m.north;
-    let b = m.east;
-    let c = m.height;
     three_of(
-        part_shift(number, 0, p.horizontal, a, n.north, k),
-        part_shift(number, 1, p.horizontal, b, n.east, k),
-        part_shift(number, 2, p.vertical, c, n.height, k),
+        part_shift(number, 0, p.horizontal, m.north, n.north, k),
+        part_shift(number, 1, p.horizontal, m.east, n.east, k),
+        part_shift(number, 2, p.vertical, m.height, n.height, k),
     )
 }
 
@@ -203,7 +196,7 @@ pub fn shifts_of(grid: Grid, north: i64, east: i64) -> ThreeShifts
     ensures { result ≡ record_shifts grid north east }
 {
     if !message_records::grid_held(grid) {
-        return all_refused(RANGE);
+        return all_refused(Refusal::Range as u8);
     }
     let settings = record_grids::settings_of(grid);
     let number = settings.number;

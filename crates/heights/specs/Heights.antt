@@ -1,15 +1,13 @@
 -- Making a height grid: request A11 of document 02, whose words are quoted. z and b are the values and the presence bytes of a row of a 1023's fields,
 -- DF002 at place 0: DF191 at 3, DF192 and DF193 at 4 and 5, DF194 and DF195 at 6 and 7, DF198 at 10, the DF201 of node i, 1 to 16, at 10 + 3 i, DF213 at 60.
 -- Assumes nothing.
-use Rattle.std.specs.Prelude.{ℕ, ◌-◌, ◌/◌, ◌%◌, Bool, true, not, cond, ◌&&◌, ◌||◌, List, [], ◌∷◌, ◌++◌, eqb, leb, ℤ, pos, length, get_or}
+use Rattle.std.specs.Prelude.{ℕ, ◌-◌, ◌/◌, ◌%◌, Bool, true, not, cond, ◌&&◌, ◌||◌, Option, Some, None, List, [], ◌∷◌, ◌++◌, eqb, leb, ℤ, pos, length, get_or}
 use Rattle.arith.specs.First.{Test, first}
 use Rattle.arith.specs.Lists.{at, up_to}
 use Rattle.arith.specs.Whole.{same_z}
 use Rattle.layout.specs.Layout.{row_of}
 use Rattle.message_rows.specs.Message.{row_tests, of_kind, message, Outcome, outcome_of}
 use Rattle.heights_mean.specs.Means.{less, smallest_mean}
-use Rattle.heights_mean.specs.declared.Mean.{Mean}
-use Rattle.heights_mean.specs.declared.Mean.TheVariants.{Is, Missing}
 
 -- ---- the row with a mean and the wanted heights
 
@@ -60,19 +58,19 @@ record_tests z b =
     ∷ []
 
 -- "23 NOMEAN exactly if no such mean exists; then RANGE for the other fields, then ROOM", in n bytes: 5, a number other than 1023 included, and 6
-abbrev pub mean_tests : List ℤ → List ℕ → List ℤ → ℕ → Mean → List Test
-mean_tests z b wanted n (Is m) =
+abbrev pub mean_tests : List ℤ → List ℕ → List ℤ → ℕ → Option ℤ → List Test
+mean_tests z b wanted n (Some m) =
     (5, not (of_kind 1023 1023 (row_of (height_values z wanted m) (height_present b)))) ∷ row_tests (height_values z wanted m) (height_present b) n
-mean_tests z b wanted n Missing = (23, true) ∷ []
+mean_tests z b wanted n None = (23, true) ∷ []
 
 unfoldable pub heights_refusal : List ℤ → List ℕ → List ℤ → ℕ → ℕ
 heights_refusal z b wanted n = first ((count_tests z b wanted ++ record_tests z b) ++ mean_tests z b wanted n (smallest_mean wanted))
 
 -- ---- the message
 
-abbrev pub message_with : List ℤ → List ℕ → List ℤ → Mean → List ℕ
-message_with z b wanted (Is m) = message (row_of (height_values z wanted m) (height_present b))
-message_with z b wanted Missing = []
+abbrev pub message_with : List ℤ → List ℕ → List ℤ → Option ℤ → List ℕ
+message_with z b wanted (Some m) = message (row_of (height_values z wanted m) (height_present b))
+message_with z b wanted None = []
 
 unfoldable pub heights_message : List ℤ → List ℕ → List ℤ → List ℕ
 heights_message z b wanted = message_with z b wanted (smallest_mean wanted)

@@ -16,7 +16,8 @@ use Rattle.arith.proofs.Int.{at, nat, ◌⊞◌, ◌⊟◌, ◌⊠◌, ring, kno
 use Rattle.arith.proofs.Tests.{false-ne-true, all-stops}
 use Rattle.heights_mean.specs.Means.{near_at, fits, first_from, smallest_mean}
 use Rattle.heights_mean.specs.Private.{greatest, Least}
-use Rattle.heights_mean.specs.declared.Mean.TheVariants.{Is, Missing}
+use Rattle.std.specs.Prelude.{Some, None}
+use Rattle.std.specs.Bool.{then_some}
 use Rattle.heights_mean.proofs.Near.{near-below, near-above, far, greatest-most, greatest-one}
 
 -- ---- trying one mean after the other
@@ -27,46 +28,46 @@ step m e = ring (at m ⊞ nat 1 ⊞ nat e) (at m ⊞ nat (suc e)) (omega arith)
 
 module _ (test : ℤ → Bool) where
   -- none of the n numbers from m on passes
-  abbrev pub None : ℕ → ℤ → Type 0
-  None n m = (e : ℕ) → e < n → test (m +ℤ pos e) ≡ false
+  abbrev pub NonePass : ℕ → ℤ → Type 0
+  NonePass n m = (e : ℕ) → e < n → test (m +ℤ pos e) ≡ false
 
-  none_first : (n : ℕ) (m : ℤ) → None (suc n) m → test m ≡ false
+  none_first : (n : ℕ) (m : ℤ) → NonePass (suc n) m → test m ≡ false
   none_first n m h = subst (λ (z : ℤ). test z ≡ false) (+ℤ_idr m) (h 0 (omega arith))
 
-  none_rest : (n : ℕ) (m : ℤ) → None (suc n) m → None n (m +ℤ pos 1)
+  none_rest : (n : ℕ) (m : ℤ) → NonePass (suc n) m → NonePass n (m +ℤ pos 1)
   none_rest n m h e l = subst (λ (z : ℤ). test z ≡ false) (sym (step m e)) (h (suc e) (omega arith))
 
-  none-all : (n : ℕ) (m : ℤ) → test m ≡ false → None n (m +ℤ pos 1) → None (suc n) m
+  none-all : (n : ℕ) (m : ℤ) → test m ≡ false → NonePass n (m +ℤ pos 1) → NonePass (suc n) m
   none-all n m h k zero l = subst (λ (z : ℤ). test z ≡ false) (sym (+ℤ_idr m)) h
   none-all n m h k (suc e) l = subst (λ (z : ℤ). test z ≡ false) (step m e) (k e (omega arith))
 
-  pub missing-of : (n : ℕ) (m : ℤ) → None n m → first_from test n m ≡ Missing
+  pub missing-of : (n : ℕ) (m : ℤ) → NonePass n m → first_from test n m ≡ None
   unfolding first_from
   missing-of zero m h = refl
   missing-of (suc n) m h = rw (none_first n m h) (missing-of n (m +ℤ pos 1) (none_rest n m h))
 
-  pub found_of_lem : (n d : ℕ) (m : ℤ) → d < n → test (m +ℤ pos d) ≡ true → None d m → first_from test n m ≡ Is (m +ℤ pos d)
+  pub found_of_lem : (n d : ℕ) (m : ℤ) → d < n → test (m +ℤ pos d) ≡ true → NonePass d m → first_from test n m ≡ Some (m +ℤ pos d)
   unfolding first_from
   found_of_lem zero d m l p h = absurd (not-suc-le-zero l)
   found_of_lem (suc n) zero m l p h =
       let e : test m ≡ true = subst (λ (z : ℤ). test z ≡ true) (+ℤ_idr m) p in
-      rw e (ap Is (sym (+ℤ_idr m)))
+      rw e (ap Some (sym (+ℤ_idr m)))
   found_of_lem (suc n) (suc d) m l p h =
       rw (none_first d m h)
-      (found_of_lem n d (m +ℤ pos 1) (omega arith) (subst (λ (z : ℤ). test z ≡ true) (sym (step m d)) p) (none_rest d m h) ∙ ap Is (step m d))
+      (found_of_lem n d (m +ℤ pos 1) (omega arith) (subst (λ (z : ℤ). test z ≡ true) (sym (step m d)) p) (none_rest d m h) ∙ ap Some (step m d))
 
   -- either the first that passes is found, or none passes
   pub record At (n : ℕ) (m : ℤ) : Type 0 where
     pub steps : ℕ
     pub small : steps < n
     pub passes : test (m +ℤ pos steps) ≡ true
-    pub before : None steps m
+    pub before : NonePass steps m
 
-  pub tried : (n : ℕ) (m : ℤ) → At n m ⊎ None n m
+  pub tried : (n : ℕ) (m : ℤ) → At n m ⊎ NonePass n m
   tried zero m = inr (λ e l. absurd (not-suc-le-zero l))
   tried (suc n) m = by (test m) refl (tried n (m +ℤ pos 1))
     where
-      by : (b : Bool) → test m ≡ b → At n (m +ℤ pos 1) ⊎ None n (m +ℤ pos 1) → At (suc n) m ⊎ None (suc n) m
+      by : (b : Bool) → test m ≡ b → At n (m +ℤ pos 1) ⊎ NonePass n (m +ℤ pos 1) → At (suc n) m ⊎ NonePass (suc n) m
       by true p r = inl (record { steps = 0; small = omega arith; passes = subst (λ (z : ℤ). test z ≡ true) (sym (+ℤ_idr m)) p; before = λ e l. absurd (not-suc-le-zero l) })
       by false p (inl a) =
           inl (record {
@@ -120,30 +121,30 @@ pub record Smallest (wanted : List ℤ) (m : ℤ) : Type 0 where
   pub least : (k : ℤ) → nat_abs k ≤ 16383 → k <ℤ m → fits wanted k ≡ false
 
 module _ (wanted : List ℤ) where
-  pub none-fits : None (fits wanted) 32767 lowest → NoneFits wanted
+  pub none-fits : NonePass (fits wanted) 32767 lowest → NoneFits wanted
   none-fits h k r = let s = step_of k r in subst (λ (z : ℤ). fits wanted z ≡ false) (sym s.value) (h s.steps s.small)
 
-  fits-none : NoneFits wanted → None (fits wanted) 32767 lowest
+  fits-none : NoneFits wanted → NonePass (fits wanted) 32767 lowest
   fits-none h e l = h (lowest +ℤ pos e) (in-range e l)
 
-  pub smallest-missing : NoneFits wanted → smallest_mean wanted ≡ Missing
+  pub smallest-missing : NoneFits wanted → smallest_mean wanted ≡ None
   unfolding smallest_mean
   smallest-missing h = missing-of (fits wanted) 32767 lowest (fits-none h)
 
-  pub smallest-found : (m : ℤ) → Smallest wanted m → smallest_mean wanted ≡ Is m
+  pub smallest-found : (m : ℤ) → Smallest wanted m → smallest_mean wanted ≡ Some m
   unfolding smallest_mean
   smallest-found m h =
       let s = step_of m h.range in
       found_of_lem (fits wanted) 32767 s.steps lowest s.small (subst (λ (z : ℤ). fits wanted z ≡ true) s.value h.fitting)
       (λ e l. h.least (lowest +ℤ pos e) (in-range e (omega (arith, s.small))) (subst (λ (z : ℤ). (lowest +ℤ pos e) <ℤ z) (sym s.value) (less-step e s.steps l)))
-      ∙ ap Is (sym s.value)
+      ∙ ap Some (sym s.value)
 
   -- what is found by trying
-  pub found_at : (a : At (fits wanted) 32767 lowest) → smallest_mean wanted ≡ Is (lowest +ℤ pos a.steps)
+  pub found_at : (a : At (fits wanted) 32767 lowest) → smallest_mean wanted ≡ Some (lowest +ℤ pos a.steps)
   unfolding smallest_mean
   found_at a = found_of_lem (fits wanted) 32767 a.steps lowest a.small a.passes a.before
 
-  pub smallest-at : At (fits wanted) 32767 lowest → (m : ℤ) → smallest_mean wanted ≡ Is m → Smallest wanted m
+  pub smallest-at : At (fits wanted) 32767 lowest → (m : ℤ) → smallest_mean wanted ≡ Some m → Smallest wanted m
   smallest-at a m e =
       let v : m ≡ lowest +ℤ pos a.steps = cc (found_at a) in
       subst (Smallest wanted) (sym v)
@@ -197,7 +198,7 @@ module _ (wanted : List ℤ) (m : ℤ) (l : Least (greatest (Lists.at wanted) 16
           above-top k
           (order_lt (nat 10 ⊠ at k ⊞ nat 255) (at top) (omega (arith, known-lt (nat 10 ⊠ at m ⊞ nat 245) (at top) g, known-lt (at k) (at m) h)))
 
-  pub chosen : fits wanted m ≡ true → Is m ≡ smallest_mean wanted
+  pub chosen : fits wanted m ≡ true → Some m ≡ smallest_mean wanted
   chosen f = sym (smallest-found wanted m (record { range = l.range; fitting = f; least = smaller }))
 
   -- a mean from m on does not fit where m does not: the height above 255 mm is above the greatest mean too, the one below stays below
@@ -226,7 +227,7 @@ module _ (wanted : List ℤ) (m : ℤ) (l : Least (greatest (Lists.at wanted) 16
           p.small
 
   -- where the mean does not fit, no mean does
-  pub unchosen : fits wanted m ≡ false → Missing ≡ smallest_mean wanted
+  pub unchosen : fits wanted m ≡ false → None ≡ smallest_mean wanted
   unchosen f = sym (smallest-missing wanted (λ k r. by k r (lt_z k m) refl))
     where
       place : Fails (near_at wanted m) 16
@@ -236,26 +237,33 @@ module _ (wanted : List ℤ) (m : ℤ) (l : Least (greatest (Lists.at wanted) 16
       by k r true e = smaller k r (lt_z_yes (subst T (sym e) tt))
       by k r false e = larger k r (not-less e) place
 
+  pub best : then_some (fits wanted m) m ≡ smallest_mean wanted
+  best = by (fits wanted m) refl
+    where
+      by : (b : Bool) → fits wanted m ≡ b → then_some b m ≡ smallest_mean wanted
+      by true e = chosen e
+      by false e = unchosen e
+
 -- ---- what was chosen
 
 module _ (wanted : List ℤ) where
   abbrev Fitting : Type 0
   Fitting = At (fits wanted) 32767 lowest
 
-  pub smallest : (m : ℤ) → smallest_mean wanted ≡ Is m → Smallest wanted m
+  pub smallest : (m : ℤ) → smallest_mean wanted ≡ Some m → Smallest wanted m
   smallest m e =
       ⊎_elim
       (λ (a : Fitting). smallest-at wanted a m e)
-      (λ (h : None (fits wanted) 32767 lowest). absurd (never (none-fits wanted h)))
+      (λ (h : NonePass (fits wanted) 32767 lowest). absurd (never (none-fits wanted h)))
       (tried (fits wanted) 32767 lowest)
     where
       never : NoneFits wanted → ⊥
       never h = let z : ◌≡◌ {A = ℕ} 0 1 = cc (smallest-missing wanted h) in omega arith
 
   -- a mean is found, or none fits
-  pub found-or-none : ((m : ℤ) × (smallest_mean wanted ≡ Is m)) ⊎ NoneFits wanted
+  pub found-or-none : ((m : ℤ) × (smallest_mean wanted ≡ Some m)) ⊎ NoneFits wanted
   found-or-none =
       ⊎_elim
       (λ (a : Fitting). inl (lowest +ℤ pos a.steps, found_at wanted a))
-      (λ (h : None (fits wanted) 32767 lowest). inr (none-fits wanted h))
+      (λ (h : NonePass (fits wanted) 32767 lowest). inr (none-fits wanted h))
       (tried (fits wanted) 32767 lowest)

@@ -9,11 +9,12 @@ use native.Mathlib.Omega.{arith}
 use borrow.Author.Tests.{le-leb, lt-leb, leb-true}
 use lib.Dec.{T}
 use lib.IntN.{ℤ, pos, negsuc, nat_abs, ◌+ℤ◌, ◌-ℤ◌, ◌*ℤ◌}
-use lib.Signed.{lt_z, quot_z, ◌<ℤ◌, ◌≤ℤ◌, lt_z_yes, ≤ℤ_refl}
-use Rattle.arith.proofs.Int.{over, under, at, nat, ◌⊞◌, ◌⊟◌, ◌⊠◌, known, known-lt, order, order_lt, abs-parts, abs-within, abs-above, under-zero, not-less, ≤_trans, <-≤}
+use lib.Signed.{lt_z, quot_z, ◌<ℤ◌, ◌≤ℤ◌, lt_z_yes}
+use Rattle.arith.proofs.Int.{over, under, at, nat, ◌⊞◌, ◌⊟◌, ◌⊠◌, known, known-lt, order, order_lt, abs-parts, abs-within, abs-above, under-zero, not-less}
 use Rattle.arith.proofs.Tests.{false-ne-true}
+use Rattle.std.proofs.lemmas.Int.{ints, clamps}
 use Rattle.heights_mean.specs.Means.{less, near}
-use Rattle.heights_mean.specs.Private.{greater, greatest, Least}
+use Rattle.heights_mean.specs.Private.{greatest, Least}
 
 -- ---- one height and one mean
 
@@ -55,30 +56,14 @@ module _ (m h : ℤ) where
 
 -- ---- the greatest
 
-greater-left : (a b : ℤ) → a ≤ℤ greater a b
-unfolding greater
-greater-left a b = by (lt_z a b) refl
-  where
-    by : (t : Bool) → t ≡ lt_z a b → a ≤ℤ cond t b a
-    by true p = <-≤ (lt_z_yes (subst T p tt))
-    by false p = ≤ℤ_refl a
-
-greater-right : (a b : ℤ) → b ≤ℤ greater a b
-unfolding greater
-greater-right a b = by (lt_z a b) refl
-  where
-    by : (t : Bool) → t ≡ lt_z a b → b ≤ℤ cond t b a
-    by true p = ≤ℤ_refl b
-    by false p = not-less (sym p)
-
 module _ (f : ℕ → ℤ) where
   pub greatest-most : (k i : ℕ) → i < k → f i ≤ℤ greatest f k
   unfolding greatest
   greatest-most zero i l = absurd (not-suc-le-zero l)
   greatest-most (suc k) i l =
       ⊎_elim
-      (λ e. subst (λ (j : ℕ). f j ≤ℤ greater (greatest f k) (f k)) (sym e) (greater-right (greatest f k) (f k)))
-      (λ l. ≤_trans (greatest-most k i l) (greater-left (greatest f k) (f k)))
+      (λ e. rw e (omega (arith, ints, clamps)))
+      (λ l. let m = greatest-most k i l in omega (arith, ints, clamps))
       (eq-or-lt_of_le (le_of_suc-le-suc l))
 
   -- it is one of them
@@ -88,13 +73,13 @@ module _ (f : ℕ → ℤ) where
     pub value : z ≡ f place
 
   pub greatest-one : (k : ℕ) → One k (greatest f k)
-  unfolding greatest greater
+  unfolding greatest
   greatest-one zero = record { place = 0; small = omega arith; value = refl }
-  greatest-one (suc k) = by (lt_z (greatest f k) (f k)) (greatest-one k)
+  greatest-one (suc k) = by (lt_z (f k) (greatest f k)) (greatest-one k)
     where
-      by : (t : Bool) → One k (greatest f k) → One (suc k) (cond t (f k) (greatest f k))
-      by true o = record { place = k; small = omega arith; value = refl }
-      by false o = record { place = o.place; small = omega (arith, o.small); value = o.value }
+      by : (t : Bool) → One k (greatest f k) → One (suc k) (cond t (greatest f k) (f k))
+      by false o = record { place = k; small = omega arith; value = refl }
+      by true o = record { place = o.place; small = omega (arith, o.small); value = o.value }
 
 -- ---- the smallest mean for one height
 

@@ -1,9 +1,7 @@
 -- The mean of a height grid: request A11 of document 02, whose words are quoted. Wanted heights are whole millimetres, that of node 1 first.
 -- Assumes nothing.
-use Rattle.std.specs.Prelude.{ℕ, zero, suc, Bool, cond, List, leb, ℤ, pos, negsuc, nat_abs, ◌+ℤ◌, ◌-ℤ◌, ◌*ℤ◌}
+use Rattle.std.specs.Prelude.{ℕ, zero, suc, Bool, cond, Option, Some, None, List, leb, ℤ, pos, negsuc, nat_abs, ◌+ℤ◌, ◌-ℤ◌, ◌*ℤ◌}
 use Rattle.arith.specs.Lists.{at, all_below}
-use Rattle.heights_mean.specs.declared.Mean.{Mean}
-use Rattle.heights_mean.specs.declared.Mean.TheVariants.{Is, Missing}
 
 -- a height less the mean, in the resolution of DF201, 0.001 m: that of DF198 is 0.01 m
 unfoldable pub less : ℤ → ℤ → ℤ
@@ -21,10 +19,10 @@ unfoldable pub fits : List ℤ → ℤ → Bool
 fits wanted mean = all_below (near_at wanted mean) 16
 
 -- the first of the n means from m on that passes the test
-unfoldable pub first_from : (ℤ → Bool) → ℕ → ℤ → Mean
-first_from test zero m = Missing
-first_from test (suc n) m = cond (test m) (Is m) (first_from test n (m +ℤ pos 1))
+unfoldable pub first_from : (ℤ → Bool) → ℕ → ℤ → Option ℤ
+first_from test zero m = None
+first_from test (suc n) m = cond (test m) (Some m) (first_from test n (m +ℤ pos 1))
 
 -- "the smallest mean DF198 from -16,383 to 16,383": 32,767 numbers
-unfoldable pub smallest_mean : List ℤ → Mean
+unfoldable pub smallest_mean : List ℤ → Option ℤ
 smallest_mean wanted = first_from (fits wanted) 32767 (negsuc 16382)

@@ -4,33 +4,13 @@
 ghost use Rattle.std.specs.Prelude.{◌≡◌, true, ◌≤◌, nat_abs};
 ghost use Rattle.arith.specs.Lists.{at};
 ghost use Rattle.heights_mean.specs.Means.{less, near, fits, smallest_mean};
-ghost use Rattle.heights_mean.specs.Private.{greater, greatest, Least};
-
-// A mean, DF198, or that there is none.
-#[derive(Clone, Copy)]
-pub enum Mean {
-    Is(i64),
-    Missing,
-}
+ghost use Rattle.heights_mean.specs.Private.{greatest, Least};
 
 // Wanted height i, numbered from 0: 0 behind the end.
 pub fn height_at(wanted: &[i64], i: usize) -> i64
     ensures { result ≡ at wanted.now i }
 {
-    if wanted.len() <= i {
-        return 0;
-    }
-    wanted[i]
-}
-
-// The greater of two heights.
-fn greater_of(a: i64, b: i64) -> i64
-    ensures { result ≡ greater a b }
-{
-    if a < b {
-        return b;
-    }
-    a
+    wanted.get(i).copied().unwrap_or(0)
 }
 
 // The greatest of sixteen wanted heights.
@@ -39,7 +19,7 @@ fn greatest_of(wanted: &[i64]) -> i64
 {
     let mut r = height_at(wanted, 0);
     for i in 0..16 {
-        r = greater_of(r, height_at(wanted, i));
+        r = r.max(height_at(wanted, i));
     }
     r
 }
@@ -69,18 +49,12 @@ fn least_mean(height: i64) -> i64
 }
 
 // Whether a height less the mean lies within 255 mm.
+#[tactic(auto, unfolding(crate::specs::Means::near, crate::specs::Means::less))]
 fn is_near(mean: i64, height: i64) -> bool
     requires { nat_abs mean ≤ 16383 }
     ensures { result ≡ near mean height }
 {
-    let middle = 10 * mean;
-    if height < middle - 255 {
-        return false;
-    }
-    if middle + 255 < height {
-        return false;
-    }
-    true
+    height.abs_diff(10 * mean) <= 255
 }
 
 // Whether all sixteen heights less the mean do.
@@ -88,21 +62,13 @@ fn all_near(wanted: &[i64], mean: i64) -> bool
     requires { nat_abs mean ≤ 16383 }
     ensures { result ≡ fits wanted.now mean }
 {
-    for i in 0..16 {
-        if !is_near(mean, height_at(wanted, i)) {
-            return false;
-        }
-    }
-    true
+    (0..16).all(|i| is_near(mean, height_at(wanted, i)))
 }
 
 // The smallest mean from -16,383 to 16,383 with which every height less the mean lies within 255 mm: no smaller one does so of the greatest height.
-pub fn smallest_mean(wanted: &[i64]) -> Mean
+pub fn smallest_mean(wanted: &[i64]) -> Option<i64>
     ensures { result ≡ smallest_mean wanted.now }
 {
     let m = least_mean(greatest_of(wanted));
-    if all_near(wanted, m) {
-        return Mean::Is(m);
-    }
-    Mean::Missing
+    all_near(wanted, m).then_some(m)
 }

@@ -15,24 +15,7 @@ fn main(rt: HostRuntime) -> io::Result<()> {
 fn show(writer: &mut impl Write, s: &[u8]) -> io::Result<()> {
     let h = message_rows::read_header(s);
     if h.refusal != 0 {
-        writer.write_all(b"refused ")?;
-        return print(writer, wide(h.refusal), b"\n");
+        return writeln!(writer, "refused {}", h.refusal);
     }
-    print(writer, wide_number(h.number), b" ")?;
-    print(writer, h.length as u64, b" ")?;
-    print(writer, wide(h.sin), b"\n")
-}
-
-// A number, and what stands behind it.
-fn print(writer: &mut impl Write, n: u64, end: &[u8]) -> io::Result<()> {
-    write!(writer, "{n}")?;
-    writer.write_all(end)
-}
-
-fn wide(n: u8) -> u64 {
-    n as u64
-}
-
-fn wide_number(n: u16) -> u64 {
-    n as u64
+    writeln!(writer, "{} {} {}", h.number, h.length, h.sin)
 }

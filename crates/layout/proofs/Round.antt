@@ -1,5 +1,6 @@
 -- Laws of layouts: the round trips, over any layout.
 -- Assumes nothing.
+use Rattle.std.proofs.Common.{Option, Some, None}
 use mathlib.Core.Path.{◌≡◌, refl, sym, ap, ap₂, ◌∙◌}
 use mathlib.Core.Logic.{◌⊎◌, inl, inr, ⊎_map}
 use mathlib.Core.List.{List, [], ◌∷◌, ◌++◌, map}
@@ -16,8 +17,6 @@ use Rattle.arith.specs.Whole.{same_z}
 use Rattle.arith.proofs.Whole.{eq_z-true}
 use Rattle.arith.proofs.Tests.{both_first, both-second, false-ne-true}
 use Rattle.field.specs.Field.{bit_at, field, set_field, pattern_of}
-use Rattle.field.specs.declared.Reading.{Reading}
-use Rattle.field.specs.declared.Reading.TheVariants.{Value, Absent}
 use Rattle.field.proofs.Bit.{field_lt, field-same, length-set_field, set_field-outside, field-set_field, Bytes, bits-decide}
 use Rattle.field.proofs.Bytes.{Agree, agree-field, bytes-set_field, zero_bits}
 use Rattle.layout.specs.Layout.{width, signed, reading_of, takes, all_take, total, size, decode_all, encode_into, blank, encode_all, zero_from, value_in, present_in, reading_in, row_of, place_takes, row_takes}
@@ -30,7 +29,7 @@ pub use Rattle.layout.proofs.Answer.{length-decode_all, Accepted, accepted, refu
 
 -- ---- the bytes that are written
 
-pub length-encode_into : (es : List ℕ) (rs : List Reading) (p : ℕ) (s : List ℕ) → length (encode_into es rs p s) ≡ length s
+pub length-encode_into : (es : List ℕ) (rs : List (Option ℤ)) (p : ℕ) (s : List ℕ) → length (encode_into es rs p s) ≡ length s
 unfolding encode_into
 length-encode_into [] rs p s = refl
 length-encode_into (e ∷ es) [] p s = refl
@@ -40,12 +39,12 @@ pub length-blank : (n : ℕ) → length (blank n) ≡ n
 length-blank n = length-replicate {A = ℕ} n 0
 
 -- THE SIZE of a message is the layout's
-pub length-encode_all : (es : List ℕ) (rs : List Reading) → length (encode_all es rs) ≡ size es
+pub length-encode_all : (es : List ℕ) (rs : List (Option ℤ)) → length (encode_all es rs) ≡ size es
 unfolding encode_all
 length-encode_all es rs = length-encode_into es rs 0 (blank (size es)) ∙ length-blank (size es)
 
 -- only the bits of the fields change
-encode_into-outside : (es : List ℕ) (rs : List Reading) (p : ℕ) (s : List ℕ) (i : ℕ) → p + total es ≤ 8 * length s → (i < p) ⊎ (p + total es ≤ i)
+encode_into-outside : (es : List ℕ) (rs : List (Option ℤ)) (p : ℕ) (s : List ℕ) (i : ℕ) → p + total es ≤ 8 * length s → (i < p) ⊎ (p + total es ≤ i)
     → bit_at (encode_into es rs p s) i ≡ bit_at s i
 unfolding encode_into total
 encode_into-outside [] rs p s i n o = refl
@@ -65,7 +64,7 @@ bit-zeros : (n i : ℕ) → bit_at (blank n) i ≡ 0
 unfolding bit_at
 bit-zeros n i = rw (zeros n (i / 8), zero-div)
 
-bytes-encode_into : (es : List ℕ) (rs : List Reading) (p : ℕ) (s : List ℕ) → Bytes s → Bytes (encode_into es rs p s)
+bytes-encode_into : (es : List ℕ) (rs : List (Option ℤ)) (p : ℕ) (s : List ℕ) → Bytes s → Bytes (encode_into es rs p s)
 unfolding encode_into
 bytes-encode_into [] rs p s a = a
 bytes-encode_into (e ∷ es) [] p s a = a
@@ -89,12 +88,12 @@ decode-append [] b p s = rw add-zero
 decode-append (e ∷ es) b p s = rw (← add_assoc p (width e) (total es), decode-append es b (p + width e) s)
 
 -- what the field behind the first ones says
-pub value-at : (a : List ℕ) (e : ℕ) (b : List ℕ) (p : ℕ) (s : List ℕ) → get_or (decode_all (a ++ (e ∷ b)) p s) (length a) (Value (pos 0)) ≡ reading_of e (field s (p + total a) (width e))
+pub value-at : (a : List ℕ) (e : ℕ) (b : List ℕ) (p : ℕ) (s : List ℕ) → get_or (decode_all (a ++ (e ∷ b)) p s) (length a) (Some (pos 0)) ≡ reading_of e (field s (p + total a) (width e))
 unfolding decode_all total
 value-at [] e b p s = ap (λ (q : ℕ). reading_of e (field s q (width e))) (sym (add-zero p))
 value-at (x ∷ a) e b p s = value-at a e b (p + width x) s ∙ ap (λ (q : ℕ). reading_of e (field s q (width e))) (add_assoc p (width x) (total a))
 
-pub encode-append : (a b : List ℕ) (ra rb : List Reading) (p : ℕ) (s : List ℕ) → length a ≡ length ra
+pub encode-append : (a b : List ℕ) (ra rb : List (Option ℤ)) (p : ℕ) (s : List ℕ) → length a ≡ length ra
     → encode_into (a ++ b) (ra ++ rb) p s ≡ encode_into b rb (p + total a) (encode_into a ra p s)
 unfolding encode_into total
 encode-append [] b [] rb p s h = rw add-zero
@@ -104,7 +103,7 @@ encode-append (e ∷ es) b (r ∷ ra) rb p s h = rw (← add_assoc p (width e) (
 
 -- ---- what is written is read
 
-decode-encode : (es : List ℕ) (rs : List Reading) (p : ℕ) (s : List ℕ) → all_take es rs ≡ true → p + total es ≤ 8 * length s → decode_all es p (encode_into es rs p s) ≡ rs
+decode-encode : (es : List ℕ) (rs : List (Option ℤ)) (p : ℕ) (s : List ℕ) → all_take es rs ≡ true → p + total es ≤ 8 * length s → decode_all es p (encode_into es rs p s) ≡ rs
 unfolding encode_into total decode_all all_take
 decode-encode [] [] p s t n = refl
 decode-encode [] (r ∷ rs) p s t n = absurd (false-ne-true t)
@@ -118,11 +117,11 @@ decode-encode (e ∷ es) (r ∷ rs) p s t n =
     let f : field (encode_into es rs (p + w) S) p w ≡ u =
     field-same (encode_into es rs (p + w) S) S p w (λ i x y. encode_into-outside es rs (p + w) S i (omega arith) (inl y))
     ∙ field-set_field s p w u (omega arith) q.0 in
-    ap₂ (λ (x : Reading) (y : List Reading). x ∷ y)
+    ap₂ (λ (x : Option ℤ) (y : List (Option ℤ)). x ∷ y)
     (ap (reading_of e) f ∙ q.1)
     (decode-encode es rs (p + w) S (both-second (takes e r) (all_take es rs) t) (omega arith))
 
-pub read-written : (es : List ℕ) (rs : List Reading) → T (all_take es rs) → decode_all es 0 (encode_all es rs) ≡ rs
+pub read-written : (es : List ℕ) (rs : List (Option ℤ)) → T (all_take es rs) → decode_all es 0 (encode_all es rs) ≡ rs
 unfolding encode_all
 read-written es rs t = decode-encode es rs 0 (blank (size es)) (from-T (all_take es rs) t) (omega (arith, length-blank (size es)))
 
@@ -131,14 +130,14 @@ unfolding field
 field-blank n p zero = refl
 field-blank n p (suc w) = omega (arith, field-blank n p w, bit-zeros n (p + w))
 
-fill-written : (es : List ℕ) (rs : List Reading) (w : ℕ) → field (encode_all es rs) (total es) w ≡ 0
+fill-written : (es : List ℕ) (rs : List (Option ℤ)) (w : ℕ) → field (encode_all es rs) (total es) w ≡ 0
 unfolding encode_all
 fill-written es rs w =
     field-same (encode_into es rs 0 (blank (size es))) (blank (size es)) (total es) w
     (λ i a b. encode_into-outside es rs 0 (blank (size es)) i (omega (arith, length-blank (size es))) (inr (omega arith)))
     ∙ field-blank (size es) (total es) w
 
-pub written-accepted : (es : List ℕ) (rs : List Reading) → length es ≤ 96 → all_take es rs ≡ true → refusal_of es (encode_all es rs) ≡ 0
+pub written-accepted : (es : List ℕ) (rs : List (Option ℤ)) → length es ≤ 96 → all_take es rs ≡ true → refusal_of es (encode_all es rs) ≡ 0
 unfolding zero_from
 written-accepted es rs few t =
     refused_none es (encode_all es rs)
@@ -220,21 +219,21 @@ module _ (es : List ℕ) (zs : List ℤ) (bs : List ℕ) (t : row_takes es zs bs
   length_taken = let k = row-lengths es zs bs t in (sym k.0, sym k.1)
 
 -- the row of readings says them, and is taken where they are
-pub row_in : (rs : List Reading) → row_of (map value_in rs) (map present_in rs) ≡ rs
+pub row_in : (rs : List (Option ℤ)) → row_of (map value_in rs) (map present_in rs) ≡ rs
 unfolding row_of
 row_in [] = refl
-row_in (r ∷ rs) = ap₂ (λ (x : Reading) (y : List Reading). x ∷ y) (by r) (row_in rs)
+row_in (r ∷ rs) = ap₂ (λ (x : Option ℤ) (y : List (Option ℤ)). x ∷ y) (by r) (row_in rs)
   where
-    by : (r : Reading) → reading_in (value_in r) (present_in r) ≡ r
-    by (Value z) = refl
-    by Absent = refl
+    by : (r : Option ℤ) → reading_in (value_in r) (present_in r) ≡ r
+    by (Some z) = refl
+    by None = refl
 
-place_in : (e : ℕ) (r : Reading) → takes e r ≡ true → place_takes e (value_in r) (present_in r) ≡ true
+place_in : (e : ℕ) (r : Option ℤ) → takes e r ≡ true → place_takes e (value_in r) (present_in r) ≡ true
 unfolding place_takes same_z
-place_in e (Value z) t = t
-place_in e Absent t = t
+place_in e (Some z) t = t
+place_in e None t = t
 
-pub all-taken : (es : List ℕ) (rs : List Reading) → all_take es rs ≡ true → row_takes es (map value_in rs) (map present_in rs) ≡ true
+pub all-taken : (es : List ℕ) (rs : List (Option ℤ)) → all_take es rs ≡ true → row_takes es (map value_in rs) (map present_in rs) ≡ true
 unfolding row_takes all_take
 all-taken [] [] t = refl
 all-taken [] (r ∷ rs) t = absurd (false-ne-true t)
@@ -243,12 +242,12 @@ all-taken (e ∷ es) (r ∷ rs) t =
     rw (place_in e r (both_first (takes e r) (all_take es rs) t)) (all-taken es rs (both-second (takes e r) (all_take es rs) t))
 
 -- what an unsigned field takes is a value; behind the end stands the value 0
-unsigned-said : (e : ℕ) (r : Reading) → takes e r ≡ true → signed e ≡ false → r ≡ Value (value_in r)
-unsigned-said e (Value z) t s = refl
-unsigned-said e Absent t s = absurd (false-ne-true (sym s ∙ t))
+unsigned-said : (e : ℕ) (r : Option ℤ) → takes e r ≡ true → signed e ≡ false → r ≡ Some (value_in r)
+unsigned-said e (Some z) t s = refl
+unsigned-said e None t s = absurd (false-ne-true (sym s ∙ t))
 
-pub unsigned-value : (es : List ℕ) (rs : List Reading) → all_take es rs ≡ true → (k : ℕ) → signed (get_or es k 0) ≡ false
-    → get_or rs k (Value (pos 0)) ≡ Value (value_in (get_or rs k (Value (pos 0))))
+pub unsigned-value : (es : List ℕ) (rs : List (Option ℤ)) → all_take es rs ≡ true → (k : ℕ) → signed (get_or es k 0) ≡ false
+    → get_or rs k (Some (pos 0)) ≡ Some (value_in (get_or rs k (Some (pos 0))))
 unfolding all_take
 unsigned-value [] [] t k s = refl
 unsigned-value [] (r ∷ rs) t k s = absurd (false-ne-true t)
@@ -260,7 +259,7 @@ unsigned-value (e ∷ es) (r ∷ rs) t (suc k) s = unsigned-value es rs (both-se
 
 -- accepted bytes, decoded and encoded again, are the same bytes
 pub bytes-again : (es s : List ℕ) (n : ℕ) → Bytes s → refusal_of es s ≡ 0 → size es ≤ n
-    → let rs : List Reading = decode_all es 0 s in
+    → let rs : List (Option ℤ) = decode_all es 0 s in
     (encode_refusal es (map value_in rs) (map present_in rs) n ≡ 0) × (encode_all es (row_of (map value_in rs) (map present_in rs)) ≡ s)
 unfolding encode_refusal
 bytes-again es s n b h m =

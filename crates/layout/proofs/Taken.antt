@@ -1,5 +1,6 @@
 -- What the fields of a row are within, where each entry of its layout takes its own: by the width of the entry.
 -- Assumes nothing.
+use Rattle.std.proofs.Common.{Option, Some, None}
 use mathlib.Core.Path.{◌≡◌}
 use mathlib.Core.Bool.{Bool, true, false, cond}
 use mathlib.Core.List.{List, [], ◌∷◌}
@@ -12,8 +13,6 @@ use lib.IntN.{ℤ, pos, negsuc, nat_abs}
 use lib.ListN.{length, get_or}
 use Rattle.arith.proofs.Tests.{false-ne-true, both_first, both-second}
 use Rattle.field.specs.Field.{none_of}
-use Rattle.field.specs.declared.Reading.{Reading}
-use Rattle.field.specs.declared.Reading.TheVariants.{Value, Absent}
 use Rattle.layout.specs.Layout.{all_take, takes, of_width, signed, width, value_in}
 
 -- ---- one field
@@ -27,14 +26,14 @@ below-width false w (negsuc n) h = absurd (false-ne-true h)
 abbrev pub Upto : ℕ → ℕ → Type 0
 Upto e b = T (leb (cond (signed e) (none_of (width e)) (2 ^ width e)) (suc b))
 
-pub bounded : (e : ℕ) (r : Reading) (b : ℕ) → takes e r ≡ true → Upto e b → nat_abs (value_in r) ≤ b
-bounded e (Value z) b h t =
+pub bounded : (e : ℕ) (r : Option ℤ) (b : ℕ) → takes e r ≡ true → Upto e b → nat_abs (value_in r) ≤ b
+bounded e (Some z) b h t =
     omega (arith, below-width (signed e) (width e) z (both_first _ _ h), leb→le (cond (signed e) (none_of (width e)) (2 ^ width e)) (suc b) t)
-bounded e Absent b h t = omega arith
+bounded e None b h t = omega arith
 
 -- ---- the places of a row
 
-pub takes_at : (es : List ℕ) (rs : List Reading) → all_take es rs ≡ true → (i : ℕ) → i < length es → takes (get_or es i 0) (get_or rs i (Value (pos 0))) ≡ true
+pub takes_at : (es : List ℕ) (rs : List (Option ℤ)) → all_take es rs ≡ true → (i : ℕ) → i < length es → takes (get_or es i 0) (get_or rs i (Some (pos 0))) ≡ true
 unfolding all_take
 takes_at [] rs h i k = absurd (not-suc-le-zero k)
 takes_at (e ∷ es) [] h i k = absurd (false-ne-true h)

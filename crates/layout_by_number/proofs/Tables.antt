@@ -2,16 +2,8 @@
 -- Assumes nothing.
 use Prim.Native.Nat.{ℕ}
 use mathlib.Core.Path.{◌≡◌}
-use Rattle.layout_tables.specs.Layouts.{layout_of, layout1023, layout1024, layout1025, layout1026, layout1027}
+use Rattle.layout_tables.specs.Layouts.{layout_of, layout1025, layout1026, layout1027}
 use Rattle.layout_tables.specs.Inner.{layout_by}
-
-pub table-1023 : (k n m : ℕ) → k ≡ 1023 → layout_by k n m ≡ layout1023
-unfolding layout_by layout_of
-table-1023 k n m e = rw e
-
-pub table-1024 : (k n m : ℕ) → k ≡ 1024 → layout_by k n m ≡ layout1024
-unfolding layout_by layout_of
-table-1024 k n m e = rw e
 
 pub table-1025 : (k n m : ℕ) → k ≡ 1025 → layout_by k n m ≡ layout1025
 unfolding layout_by layout_of

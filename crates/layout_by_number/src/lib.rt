@@ -1,16 +1,16 @@
 // Messages 1025, 1026 and 1027 checked, read and written by their layouts.
 #![tactic(auto)]
 
-ghost use Rattle.std.specs.Prelude.{◌≡◌, map, ◌++◌, length, take, ◌+◌, ◌≤◌};
+ghost use Rattle.std.specs.Prelude.{◌≡◌, map, ◌++◌, length, take, ◌+◌, ◌≤◌, ℕ, MatchOption};
+ghost use Rattle.arith.specs.Refusals.{outcome_number};
 ghost use Rattle.layout.specs.Inner.{refusal_of, decode_refusal, encode_refusal};
-ghost use Rattle.layout.specs.Layout.{decode_all, value_in, present_in, stored, row_takes, row_of, encode_all, answered};
+ghost use Rattle.layout.specs.Layout.{as_written, decode_all, value_in, present_in, stored, row_takes, row_of, encode_all, answered};
 ghost use Rattle.layout_tables.specs.Layouts.{layout1025, layout1026, layout1027, names};
 ghost use Rattle.layout_tables.specs.Inner.{counter, layout_by};
 ghost use Rattle.layout_by_number.specs.Inner.{checked_refusal, values_checked, present_checked};
 ghost use Rattle.layout_by_number.specs.Private.{Other, named_refusal};
 
-use arith::refusals::ROOM;
-use layout::Written;
+use arith::refusals::Refusal;
 use layout_tables::{DECLARED, INT};
 
 // A latitude, a longitude or an azimuth of a projection.
@@ -58,16 +58,16 @@ const LAYOUT_1027: [u64; 11] = [
 ];
 
 // Why s is no message of a layout: its bits, then its fields with a declared range.
-pub fn check_1025(s: &[u8]) -> u8
-    ensures { result ≡ refusal_of layout1025 s.now }
+pub fn check_1025(s: &[u8]) -> Result<(), Refusal>
+    ensures { outcome_number result ≡ refusal_of layout1025 s.now }
 {
     let r = layout::check_size(s, 196);
     let r = layout::check_place(r, s, 26, ANGLE_90);
     layout::check_place(r, s, 60, ANGLE_180)
 }
 
-pub fn check_1026(s: &[u8]) -> u8
-    ensures { result ≡ refusal_of layout1026 s.now }
+pub fn check_1026(s: &[u8]) -> Result<(), Refusal>
+    ensures { outcome_number result ≡ refusal_of layout1026 s.now }
 {
     let r = layout::check_size(s, 234);
     let r = layout::check_place(r, s, 26, ANGLE_90);
@@ -76,8 +76,8 @@ pub fn check_1026(s: &[u8]) -> u8
     layout::check_place(r, s, 129, ANGLE_90)
 }
 
-pub fn check_1027(s: &[u8]) -> u8
-    ensures { result ≡ refusal_of layout1027 s.now }
+pub fn check_1027(s: &[u8]) -> Result<(), Refusal>
+    ensures { outcome_number result ≡ refusal_of layout1027 s.now }
 {
     let r = layout::check_size(s, 258);
     let r = layout::check_place(r, s, 27, ANGLE_90);
@@ -85,89 +85,27 @@ pub fn check_1027(s: &[u8]) -> u8
     layout::check_place(r, s, 96, ANGLE_360)
 }
 
-// What the fields of a layout say where r, a check's answer, is 0; or r, or 6 ROOM.
-pub fn decode_checked(r: u8, s: &[u8], layout: &[u64], values: &mut [i64], present: &mut [u8]) -> u8
-    ensures answer { result ≡ checked_refusal r (length layout.now) (length values.old) (length present.old) }
-    ensures values { values.new ≡ values_checked r layout.now s.now values.old present.old }
-    ensures present { present.new ≡ present_checked r layout.now s.now values.old present.old }
+// What the fields of a layout say where a check has passed; or what it refused, or ROOM.
+pub fn decode_checked(
+    checked: Result<(), Refusal>,
+    s: &[u8],
+    layout: &[u64],
+    values: &mut [i64],
+    present: &mut [u8],
+) -> Result<(), Refusal>
+    ensures answer { outcome_number result ≡ checked_refusal (outcome_number checked) (length layout.now) (length values.old) (length present.old) }
+    ensures values { values.new ≡ values_checked (outcome_number checked) layout.now s.now values.old present.old }
+    ensures present { present.new ≡ present_checked (outcome_number checked) layout.now s.now values.old present.old }
 {
-    if r != 0 {
-        return r;
-    }
+    checked?;
     if values.len() < layout.len() {
-        return ROOM;
+        return Err(Refusal::Room);
     }
     if present.len() < layout.len() {
-        return ROOM;
+        return Err(Refusal::Room);
     }
     layout_reader::read(s, 0, layout, values, present);
-    0
-}
-
-// What the fields of a message of one layout say, or why not.
-pub fn decode_1025(s: &[u8], values: &mut [i64], present: &mut [u8]) -> u8
-    ensures answer { result ≡ decode_refusal layout1025 s.now (length values.old) (length present.old) }
-    ensures values { values.new ≡ stored (decode_refusal layout1025 s.now (length values.old) (length present.old)) (map value_in (decode_all layout1025 0 s.now)) values.old }
-    ensures present { present.new ≡ stored (decode_refusal layout1025 s.now (length values.old) (length present.old)) (map present_in (decode_all layout1025 0 s.now)) present.old }
-{
-    decode_checked(check_1025(s), s, &LAYOUT_1025, values, present)
-}
-
-pub fn decode_1026(s: &[u8], values: &mut [i64], present: &mut [u8]) -> u8
-    ensures answer { result ≡ decode_refusal layout1026 s.now (length values.old) (length present.old) }
-    ensures values { values.new ≡ stored (decode_refusal layout1026 s.now (length values.old) (length present.old)) (map value_in (decode_all layout1026 0 s.now)) values.old }
-    ensures present { present.new ≡ stored (decode_refusal layout1026 s.now (length values.old) (length present.old)) (map present_in (decode_all layout1026 0 s.now)) present.old }
-{
-    decode_checked(check_1026(s), s, &LAYOUT_1026, values, present)
-}
-
-pub fn decode_1027(s: &[u8], values: &mut [i64], present: &mut [u8]) -> u8
-    ensures answer { result ≡ decode_refusal layout1027 s.now (length values.old) (length present.old) }
-    ensures values { values.new ≡ stored (decode_refusal layout1027 s.now (length values.old) (length present.old)) (map value_in (decode_all layout1027 0 s.now)) values.old }
-    ensures present { present.new ≡ stored (decode_refusal layout1027 s.now (length values.old) (length present.old)) (map present_in (decode_all layout1027 0 s.now)) present.old }
-{
-    decode_checked(check_1027(s), s, &LAYOUT_1027, values, present)
-}
-
-// Whether each field takes its place of a row.
-pub fn taken_1025(values: &[i64], present: &[u8]) -> bool
-    ensures { result ≡ row_takes layout1025 values.now present.now }
-{
-    layout_writer::row_taken(&LAYOUT_1025, values, present)
-}
-
-pub fn taken_1026(values: &[i64], present: &[u8]) -> bool
-    ensures { result ≡ row_takes layout1026 values.now present.now }
-{
-    layout_writer::row_taken(&LAYOUT_1026, values, present)
-}
-
-pub fn taken_1027(values: &[i64], present: &[u8]) -> bool
-    ensures { result ≡ row_takes layout1027 values.now present.now }
-{
-    layout_writer::row_taken(&LAYOUT_1027, values, present)
-}
-
-// The message of a row in the first bytes of out, or 5 RANGE, 6 ROOM.
-pub fn encode_1025(values: &[i64], present: &[u8], out: &mut [u8]) -> Written
-    ensures answer { result ≡ answered (encode_refusal layout1025 values.now present.now (length out.old)) (encode_all layout1025 (row_of values.now present.now)) }
-    ensures output { out.new ≡ stored (encode_refusal layout1025 values.now present.now (length out.old)) (encode_all layout1025 (row_of values.now present.now)) out.old }
-{
-    layout_writer::encode(&LAYOUT_1025, values, present, out)
-}
-
-pub fn encode_1026(values: &[i64], present: &[u8], out: &mut [u8]) -> Written
-    ensures answer { result ≡ answered (encode_refusal layout1026 values.now present.now (length out.old)) (encode_all layout1026 (row_of values.now present.now)) }
-    ensures output { out.new ≡ stored (encode_refusal layout1026 values.now present.now (length out.old)) (encode_all layout1026 (row_of values.now present.now)) out.old }
-{
-    layout_writer::encode(&LAYOUT_1026, values, present, out)
-}
-
-pub fn encode_1027(values: &[i64], present: &[u8], out: &mut [u8]) -> Written
-    ensures answer { result ≡ answered (encode_refusal layout1027 values.now present.now (length out.old)) (encode_all layout1027 (row_of values.now present.now)) }
-    ensures output { out.new ≡ stored (encode_refusal layout1027 values.now present.now (length out.old)) (encode_all layout1027 (row_of values.now present.now)) out.old }
-{
-    layout_writer::encode(&LAYOUT_1027, values, present, out)
+    Ok(())
 }
 
 // Messages checked, read and written by the layout of their number.
@@ -246,32 +184,36 @@ struct Plan {
     count: usize,
 }
 
+impl Plan {
+    // Its entries.
+    fn layout(&self) -> &[u64]
+        ensures { result.now ≡ take self.now.count self.now.entries }
+    {
+        &self.entries[..self.count.min(96)]
+    }
+}
+
 // src behind the first `at` entries: how many there are then.
 fn append(dst: &mut [u64], at: usize, src: &[u64]) -> usize
     requires { at + length src.now ≤ length dst.old }
     ensures { (result ≡ at + length src.now) × (take result dst.new ≡ take at dst.old ++ src.now) }
 {
-    let mut k: usize = 0;
-    while k < src.len() {
-        let i = at + k;
-        dst[i] = src[k];
-        k += 1;
-    }
-    at + k
+    let end = at + src.len();
+    dst[at..end].copy_from_slice(src);
+    end
 }
 
 // The layout that starts with names of n and m characters and goes on with `tail`.
 fn named_plan(n: usize, m: usize, tail: &[u64]) -> Plan
     requires { (n ≤ 31) × ((m ≤ 31) × (length tail.now ≤ 31)) }
-    ensures { (result.count ≤ 96) × ((length result.entries ≡ 96) × (take result.count result.entries ≡ names n m ++ tail.now)) }
+    ensures { take result.count result.entries ≡ names n m ++ tail.now }
 {
-    let mut e = [CHARACTER; 96];
-    e[0] = NUMBER;
-    e[1] = COUNTER;
-    let second = n + 2;
-    e[second] = COUNTER;
-    let count = append(&mut e, n + m + 3, tail);
-    Plan { entries: e, count }
+    let mut entries = [CHARACTER; 96];
+    entries[0] = NUMBER;
+    entries[1] = COUNTER;
+    entries[n + 2] = COUNTER;
+    let count = append(&mut entries, n + m + 3, tail);
+    Plan { entries, count }
 }
 
 // A name counter; 0 for a number that none has.
@@ -285,9 +227,10 @@ fn counter_of(n: usize) -> usize
 }
 
 // The layout of 1021 or 1022 with names of n and m characters, or the layout of no field.
+#[tactic(auto, unfolding(layout_tables::specs::Inner::layout_by, layout_tables::specs::Layouts::layout_of, layout_tables::specs::Layouts::layout1021, layout_tables::specs::Layouts::layout1022, layout_tables::specs::Layouts::tail1021, layout_tables::specs::Layouts::tail1022))]
 fn other_plan(number: u64, n: usize, m: usize) -> Plan
     requires { Other number }
-    ensures { (result.count ≤ 96) × ((length result.entries ≡ 96) × (take result.count result.entries ≡ layout_by number n m)) }
+    ensures { take result.count result.entries ≡ layout_by number n m }
 {
     match number {
         1021 => named_plan(counter_of(n), counter_of(m), &TAIL_1021),
@@ -300,9 +243,9 @@ fn other_plan(number: u64, n: usize, m: usize) -> Plan
 }
 
 // Why s is no message with names of n and m characters that has so many bits without them: its bits, then its fields with a declared range.
-fn check_named(s: &[u8], bits: usize, n: usize, m: usize) -> u8
+fn check_named(s: &[u8], bits: usize, n: usize, m: usize) -> Result<(), Refusal>
     requires { (bits ≤ 1000) × ((n ≤ 31) × (m ≤ 31)) }
-    ensures { result ≡ named_refusal bits n m s.now }
+    ensures { outcome_number result ≡ named_refusal bits n m s.now }
 {
     let names = 8 * (n + m);
     let r = layout::check_size(s, bits + names);
@@ -311,9 +254,9 @@ fn check_named(s: &[u8], bits: usize, n: usize, m: usize) -> u8
 }
 
 // Why s is no message of the layout of another number.
-fn check_other(s: &[u8], number: u64, n: usize, m: usize) -> u8
+fn check_other(s: &[u8], number: u64, n: usize, m: usize) -> Result<(), Refusal>
     requires { Other number }
-    ensures { result ≡ refusal_of (layout_by number n m) s.now }
+    ensures { outcome_number result ≡ refusal_of (layout_by number n m) s.now }
 {
     match number {
         1021 => check_named(s, 412, counter_of(n), counter_of(m)),
@@ -322,9 +265,10 @@ fn check_other(s: &[u8], number: u64, n: usize, m: usize) -> u8
     }
 }
 
-// Why s is no message of the layout of a number, with names of n and m characters where it carries names: 3 LENGTH, 4 FILL, 5 RANGE; or 0.
-pub fn check_by(s: &[u8], number: u64, n: usize, m: usize) -> u8
-    ensures { result ≡ refusal_of (layout_by number n m) s.now }
+// Why s is no message of the layout of a number, with names of n and m characters where it carries names: LENGTH, FILL, RANGE.
+#[tactic(auto, unfolding(layout_tables::specs::Inner::layout_by, layout_tables::specs::Layouts::layout_of))]
+pub fn check_by(s: &[u8], number: u64, n: usize, m: usize) -> Result<(), Refusal>
+    ensures { outcome_number result ≡ refusal_of (layout_by number n m) s.now }
 {
     match number {
         1023 => layout_tables::check_1023(s),
@@ -344,20 +288,24 @@ fn decode_other(
     m: usize,
     values: &mut [i64],
     present: &mut [u8],
-) -> u8
+) -> Result<(), Refusal>
     requires { Other number }
-    ensures answer { result ≡ decode_refusal (layout_by number n m) s.now (length values.old) (length present.old) }
+    ensures answer { outcome_number result ≡ decode_refusal (layout_by number n m) s.now (length values.old) (length present.old) }
     ensures values { values.new ≡ stored (decode_refusal (layout_by number n m) s.now (length values.old) (length present.old)) (map value_in (decode_all (layout_by number n m) 0 s.now)) values.old }
     ensures present { present.new ≡ stored (decode_refusal (layout_by number n m) s.now (length values.old) (length present.old)) (map present_in (decode_all (layout_by number n m) 0 s.now)) present.old }
 {
-    let p = other_plan(number, n, m);
-    let e = p.entries;
-    let k = p.count;
-    let r = check_other(s, number, n, m);
-    decode_checked(r, s, &e[..k], values, present)
+    let plan = other_plan(number, n, m);
+    decode_checked(
+        check_other(s, number, n, m),
+        s,
+        plan.layout(),
+        values,
+        present,
+    )
 }
 
 // What the fields of a message of that layout say, into the first places of both buffers; or why not: as check_by, then 6 ROOM.
+#[tactic(auto, unfolding(layout_tables::specs::Inner::layout_by, layout_tables::specs::Layouts::layout_of))]
 pub fn decode_by(
     s: &[u8],
     number: u64,
@@ -365,18 +313,33 @@ pub fn decode_by(
     m: usize,
     values: &mut [i64],
     present: &mut [u8],
-) -> u8
-    ensures answer { result ≡ decode_refusal (layout_by number n m) s.now (length values.old) (length present.old) }
+) -> Result<(), Refusal>
+    ensures answer { outcome_number result ≡ decode_refusal (layout_by number n m) s.now (length values.old) (length present.old) }
     ensures values { values.new ≡ stored (decode_refusal (layout_by number n m) s.now (length values.old) (length present.old)) (map value_in (decode_all (layout_by number n m) 0 s.now)) values.old }
     ensures present { present.new ≡ stored (decode_refusal (layout_by number n m) s.now (length values.old) (length present.old)) (map present_in (decode_all (layout_by number n m) 0 s.now)) present.old }
 {
     match number {
         1023 => layout_tables::decode_1023(s, values, present),
         1024 => layout_tables::decode_1024(s, values, present),
-        1025 => decode_1025(s, values, present),
-        1026 => decode_1026(s, values, present),
-        1027 => decode_1027(s, values, present),
+        1025 => decode_checked(check_1025(s), s, &LAYOUT_1025, values, present),
+        1026 => decode_checked(check_1026(s), s, &LAYOUT_1026, values, present),
+        1027 => decode_checked(check_1027(s), s, &LAYOUT_1027, values, present),
         _ => decode_other(s, number, n, m, values, present),
+    }
+}
+
+// The entries of a layout that no counter changes.
+#[tactic(auto, unfolding(layout_tables::specs::Inner::layout_by, layout_tables::specs::Layouts::layout_of, layout_tables::specs::Layouts::layout1023, layout_tables::specs::Layouts::layout1024, layout_tables::specs::Layouts::layout1025, layout_tables::specs::Layouts::layout1026, layout_tables::specs::Layouts::layout1027))]
+fn table(number: u64) -> Option<&'static [u64]>
+    ensures { MatchOption result (Other number) (λ t. (n m : ℕ) → layout_by number n m ≡ t.now) }
+{
+    match number {
+        1023 => Some(&layout_tables::LAYOUT_1023),
+        1024 => Some(&layout_tables::LAYOUT_1024),
+        1025 => Some(&LAYOUT_1025),
+        1026 => Some(&LAYOUT_1026),
+        1027 => Some(&LAYOUT_1027),
+        _ => None,
     }
 }
 
@@ -384,22 +347,13 @@ pub fn decode_by(
 pub fn taken_by(number: u64, n: usize, m: usize, values: &[i64], present: &[u8]) -> bool
     ensures { result ≡ row_takes (layout_by number n m) values.now present.now }
 {
-    match number {
-        1023 => layout_tables::taken_1023(values, present),
-        1024 => layout_tables::taken_1024(values, present),
-        1025 => taken_1025(values, present),
-        1026 => taken_1026(values, present),
-        1027 => taken_1027(values, present),
-        _ => {
-            let p = other_plan(number, n, m);
-            let e = p.entries;
-            let k = p.count;
-            layout_writer::row_taken(&e[..k], values, present)
-        }
+    match table(number) {
+        Some(entries) => layout_writer::row_taken(entries, values, present),
+        None => layout_writer::row_taken(other_plan(number, n, m).layout(), values, present),
     }
 }
 
-// The message of a row of that layout in the first bytes of out, or 5 RANGE, 6 ROOM.
+// The message of a row of that layout in the first bytes of out, or RANGE, ROOM.
 pub fn encode_by(
     number: u64,
     n: usize,
@@ -407,21 +361,12 @@ pub fn encode_by(
     values: &[i64],
     present: &[u8],
     out: &mut [u8],
-) -> Written
-    ensures answer { result ≡ answered (encode_refusal (layout_by number n m) values.now present.now (length out.old)) (encode_all (layout_by number n m) (row_of values.now present.now)) }
+) -> Result<usize, Refusal>
+    ensures answer { as_written result ≡ answered (encode_refusal (layout_by number n m) values.now present.now (length out.old)) (encode_all (layout_by number n m) (row_of values.now present.now)) }
     ensures output { out.new ≡ stored (encode_refusal (layout_by number n m) values.now present.now (length out.old)) (encode_all (layout_by number n m) (row_of values.now present.now)) out.old }
 {
-    match number {
-        1023 => layout_tables::encode_1023(values, present, out),
-        1024 => layout_tables::encode_1024(values, present, out),
-        1025 => encode_1025(values, present, out),
-        1026 => encode_1026(values, present, out),
-        1027 => encode_1027(values, present, out),
-        _ => {
-            let p = other_plan(number, n, m);
-            let e = p.entries;
-            let k = p.count;
-            layout_writer::encode(&e[..k], values, present, out)
-        }
+    match table(number) {
+        Some(entries) => layout_writer::encode(entries, values, present, out),
+        None => layout_writer::encode(other_plan(number, n, m).layout(), values, present, out),
     }
 }

@@ -1,5 +1,6 @@
 -- A row read part by part.
 -- Assumes nothing.
+use Rattle.std.proofs.Common.{Option}
 use mathlib.Core.Path.{◌≡◌, refl, sym, ap, ◌∙◌}
 use mathlib.Core.List.{List, ◌++◌, map, append-nil, append_assoc, map-append}
 use Prim.Native.Nat.{ℕ, ◌+◌, ◌*◌, ◌≤◌}
@@ -8,7 +9,6 @@ use lib.IntN.{ℤ}
 use lib.ListN.{length, take, drop, length-map, length-append, length-drop, drop_of_length-le}
 use lib.Seq.{take_at, drop_at, drop-drop, length-take-le}
 use borrow.Rule.Slice.PartMut.{mid_of, put_mid}
-use Rattle.field.specs.declared.Reading.{Reading}
 use Rattle.layout.specs.Layout.{total, decode_all, value_in, present_in}
 use Rattle.layout.proofs.Round.{length-decode_all, total-append, decode-append}
 use Rattle.layout_reader.specs.Inner.{values_loaded, present_loaded}
@@ -61,7 +61,7 @@ points-parts : points ≡ nodes ++ behind
 unfolding nodes behind
 points-parts = refl
 
-module _ {A : Type 0} (f : Reading → A) (s : List ℕ) (v : List A) where
+module _ {A : Type 0} (f : Option ℤ → A) (s : List ℕ) (v : List A) where
   joined : (a b : List ℕ) (p q k m : ℕ) (x : List A) → length a ≡ k → q ≡ p + total a → x ≡ map f (decode_all a p s) ++ drop k v
       → take k x ++ (map f (decode_all b q s) ++ drop (k + m) x) ≡ map f (decode_all (a ++ b) p s) ++ drop (k + m) v
   joined a b p q k m x n e g =

@@ -2,13 +2,13 @@
 #![tactic(auto)]
 
 ghost use Rattle.std.specs.Prelude.{◌≡◌, ◌+◌, ◌*◌, ◌≤◌, ◌++◌, map, length, take, drop};
-ghost use Rattle.layout.specs.Layout.{total, decode_all, value_in, present_in, stored, row_takes, row_of, encode_all, answered};
-ghost use Rattle.layout.specs.Inner.{refusal_of, decode_refusal, encode_refusal};
+ghost use Rattle.arith.specs.Refusals.{outcome_number};
+ghost use Rattle.layout.specs.Layout.{as_written, total, decode_all, value_in, present_in, stored};
+ghost use Rattle.layout.specs.Inner.{refusal_of, decode_refusal};
 ghost use Rattle.layout_tables.specs.Layouts.{points, layout1023, layout1024};
 ghost use Rattle.layout_tables.specs.Private.{nodes, behind};
 
-use arith::refusals::ROOM;
-use layout::Written;
+use arith::refusals::Refusal;
 
 pub const DECLARED: u64 = 128;
 
@@ -24,7 +24,7 @@ const GRID_LATITUDE: u64 = 648000 * DECLARED + INT + 21;
 
 const GRID_LONGITUDE: u64 = 1296000 * DECLARED + INT + 22;
 
-const LAYOUT_1023: [u64; 64] = [
+pub const LAYOUT_1023: [u64; 64] = [
     12, // DF002
     8, // DF147
     1, // DF190
@@ -91,7 +91,7 @@ const LAYOUT_1023: [u64; 64] = [
     16, // DF051
 ];
 
-const LAYOUT_1024: [u64; 64] = [
+pub const LAYOUT_1024: [u64; 64] = [
     12, // DF002
     8, // DF147
     1, // DF190
@@ -165,16 +165,16 @@ const HEAD: usize = 11;
 const TAIL: [u64; 5] = [2, 2, 3, 3, 16];
 
 // Why s is no message of a layout: its bits, then its fields with a declared range.
-pub fn check_1023(s: &[u8]) -> u8
-    ensures { result ≡ refusal_of layout1023 s.now }
+pub fn check_1023(s: &[u8]) -> Result<(), Refusal>
+    ensures { outcome_number result ≡ refusal_of layout1023 s.now }
 {
     let r = layout::check_size(s, 578);
     let r = layout::check_place(r, s, 22, GRID_LATITUDE);
     layout::check_place(r, s, 43, GRID_LONGITUDE)
 }
 
-pub fn check_1024(s: &[u8]) -> u8
-    ensures { result ≡ refusal_of layout1024 s.now }
+pub fn check_1024(s: &[u8]) -> Result<(), Refusal>
+    ensures { outcome_number result ≡ refusal_of layout1024 s.now }
 {
     layout::check_size(s, 590)
 }
@@ -208,74 +208,44 @@ fn read_grid(s: &[u8], head: &[u64], p: usize, values: &mut [i64], present: &mut
     read_tail(s, p + 432, values, present);
 }
 
-// What the fields of a grid message say where r, why s is no such message, is 0; or r, or 6 ROOM.
+// What the fields of a grid message say; or why s is no such message, or ROOM.
 fn decode_grid(
-    r: u8,
+    checked: Result<(), Refusal>,
     s: &[u8],
     head: &[u64],
     p: usize,
     values: &mut [i64],
     present: &mut [u8],
-) -> u8
-    requires { (r ≡ refusal_of (head.now ++ points) s.now) × ((length head.now ≡ 11) × ((total head.now ≡ p) × (p ≤ 1000))) }
-    ensures answer { result ≡ decode_refusal (head.now ++ points) s.now (length values.old) (length present.old) }
+) -> Result<(), Refusal>
+    requires { (outcome_number checked ≡ refusal_of (head.now ++ points) s.now) × ((length head.now ≡ 11) × ((total head.now ≡ p) × (p ≤ 1000))) }
+    ensures answer { outcome_number result ≡ decode_refusal (head.now ++ points) s.now (length values.old) (length present.old) }
     ensures values { values.new ≡ stored (decode_refusal (head.now ++ points) s.now (length values.old) (length present.old)) (map value_in (decode_all (head.now ++ points) 0 s.now)) values.old }
     ensures present { present.new ≡ stored (decode_refusal (head.now ++ points) s.now (length values.old) (length present.old)) (map present_in (decode_all (head.now ++ points) 0 s.now)) present.old }
 {
-    if r != 0 {
-        return r;
-    }
+    checked?;
     if values.len() < 64 {
-        return ROOM;
+        return Err(Refusal::Room);
     }
     if present.len() < 64 {
-        return ROOM;
+        return Err(Refusal::Room);
     }
     read_grid(s, head, p, values, present);
-    0
+    Ok(())
 }
 
 // As decode_by, of one layout.
-pub fn decode_1023(s: &[u8], values: &mut [i64], present: &mut [u8]) -> u8
-    ensures answer { result ≡ decode_refusal layout1023 s.now (length values.old) (length present.old) }
+pub fn decode_1023(s: &[u8], values: &mut [i64], present: &mut [u8]) -> Result<(), Refusal>
+    ensures answer { outcome_number result ≡ decode_refusal layout1023 s.now (length values.old) (length present.old) }
     ensures values { values.new ≡ stored (decode_refusal layout1023 s.now (length values.old) (length present.old)) (map value_in (decode_all layout1023 0 s.now)) values.old }
     ensures present { present.new ≡ stored (decode_refusal layout1023 s.now (length values.old) (length present.old)) (map present_in (decode_all layout1023 0 s.now)) present.old }
 {
     decode_grid(check_1023(s), s, &LAYOUT_1023[..HEAD], 120, values, present)
 }
 
-pub fn decode_1024(s: &[u8], values: &mut [i64], present: &mut [u8]) -> u8
-    ensures answer { result ≡ decode_refusal layout1024 s.now (length values.old) (length present.old) }
+pub fn decode_1024(s: &[u8], values: &mut [i64], present: &mut [u8]) -> Result<(), Refusal>
+    ensures answer { outcome_number result ≡ decode_refusal layout1024 s.now (length values.old) (length present.old) }
     ensures values { values.new ≡ stored (decode_refusal layout1024 s.now (length values.old) (length present.old)) (map value_in (decode_all layout1024 0 s.now)) values.old }
     ensures present { present.new ≡ stored (decode_refusal layout1024 s.now (length values.old) (length present.old)) (map present_in (decode_all layout1024 0 s.now)) present.old }
 {
     decode_grid(check_1024(s), s, &LAYOUT_1024[..HEAD], 132, values, present)
-}
-
-// Whether each field takes its place of a row.
-pub fn taken_1023(values: &[i64], present: &[u8]) -> bool
-    ensures { result ≡ row_takes layout1023 values.now present.now }
-{
-    layout_writer::row_taken(&LAYOUT_1023, values, present)
-}
-
-pub fn taken_1024(values: &[i64], present: &[u8]) -> bool
-    ensures { result ≡ row_takes layout1024 values.now present.now }
-{
-    layout_writer::row_taken(&LAYOUT_1024, values, present)
-}
-
-// The message of a row in the first bytes of out, or 5 RANGE, 6 ROOM.
-pub fn encode_1023(values: &[i64], present: &[u8], out: &mut [u8]) -> Written
-    ensures answer { result ≡ answered (encode_refusal layout1023 values.now present.now (length out.old)) (encode_all layout1023 (row_of values.now present.now)) }
-    ensures output { out.new ≡ stored (encode_refusal layout1023 values.now present.now (length out.old)) (encode_all layout1023 (row_of values.now present.now)) out.old }
-{
-    layout_writer::encode(&LAYOUT_1023, values, present, out)
-}
-
-pub fn encode_1024(values: &[i64], present: &[u8], out: &mut [u8]) -> Written
-    ensures answer { result ≡ answered (encode_refusal layout1024 values.now present.now (length out.old)) (encode_all layout1024 (row_of values.now present.now)) }
-    ensures output { out.new ≡ stored (encode_refusal layout1024 values.now present.now (length out.old)) (encode_all layout1024 (row_of values.now present.now)) out.old }
-{
-    layout_writer::encode(&LAYOUT_1024, values, present, out)
 }

@@ -1,5 +1,6 @@
 -- What a writer of a layout leaves, and its answers, one law for each way out.
 -- Assumes nothing.
+use Rattle.std.proofs.Common.{Option}
 use mathlib.Core.Path.{◌≡◌, refl}
 use mathlib.Core.List.{List, [], ◌∷◌, ◌++◌}
 use mathlib.Core.Bool.{true, false}
@@ -9,7 +10,6 @@ use lib.IntN.{ℤ}
 use lib.ListN.{length}
 use borrow.Author.Tests.{lt-ltb, le-ltb}
 use Rattle.field.specs.Field.{pattern_of}
-use Rattle.field.specs.declared.Reading.{Reading}
 use Rattle.field.proofs.Bit.{length-set_field}
 use Rattle.field.proofs.Bytes.{set_field-left}
 use Rattle.layout.specs.Layout.{width, total, size, encode_into, blank, encode_all, row_takes}
@@ -17,7 +17,7 @@ use Rattle.layout.specs.Inner.{bits_of, encode_refusal}
 use Rattle.layout.proofs.Round.{length-blank}
 
 -- bytes behind the message stay
-encode-left : (es : List ℕ) (rs : List Reading) (p : ℕ) (a b : List ℕ) → p + total es ≤ 8 * length a → encode_into es rs p (a ++ b) ≡ encode_into es rs p a ++ b
+encode-left : (es : List ℕ) (rs : List (Option ℤ)) (p : ℕ) (a b : List ℕ) → p + total es ≤ 8 * length a → encode_into es rs p (a ++ b) ≡ encode_into es rs p a ++ b
 unfolding encode_into total
 encode-left [] rs p a b h = refl
 encode-left (e ∷ es) [] p a b h = refl
@@ -26,7 +26,7 @@ encode-left (e ∷ es) (r ∷ rs) p a b h =
     (encode-left es rs (p + width e) _ b (omega (arith, length-set_field a p (width e) (pattern_of (width e) r))))
 
 -- what a writer leaves that clears the first bytes and writes the fields
-pub message-left : (es : List ℕ) (rs : List Reading) (n : ℕ) (b : List ℕ) → n ≡ size es → encode_into es rs 0 (blank n ++ b) ≡ encode_all es rs ++ b
+pub message-left : (es : List ℕ) (rs : List (Option ℤ)) (n : ℕ) (b : List ℕ) → n ≡ size es → encode_into es rs 0 (blank n ++ b) ≡ encode_all es rs ++ b
 unfolding encode_all
 message-left es rs n b e = rw e (encode-left es rs 0 (blank (size es)) b (omega (arith, length-blank (size es))))
 

@@ -3,26 +3,21 @@
 
 ghost use Rattle.std.specs.Prelude.{◌≡◌, ◌+◌, ◌*◌, ◌≤◌, ◌++◌, T, length, drop};
 ghost use Rattle.field.specs.Field.{set_field, pattern_of};
-ghost use Rattle.layout.specs.Layout.{width, total, size, encode_into, blank, encode_all, reading_in, row_of, place_takes, row_takes, stored, answered};
+ghost use Rattle.layout.specs.Layout.{width, total, size, encode_into, blank, encode_all, reading_in, row_of, place_takes, row_takes, stored, answered, as_written};
 ghost use Rattle.layout.specs.Inner.{encode_refusal};
 
-use arith::refusals::{RANGE, ROOM};
-use layout::Written;
+use arith::refusals::Refusal;
 
 // Whether entry e takes what a value and its byte say.
+#[tactic(auto, unfolding(layout::specs::Layout::place_takes, arith::specs::Whole::same_z))]
 fn takes_place(e: u64, z: i64, b: u8) -> bool
     ensures { result ≡ place_takes e z b }
 {
-    if b == 1 {
-        return layout::takes_value(e, z);
+    match b {
+        1 => layout::takes_value(e, z),
+        0 => z == 0 && e / 64 % 2 == 1,
+        _ => false,
     }
-    if b != 0 {
-        return false;
-    }
-    if z != 0 {
-        return false;
-    }
-    e / 64 % 2 == 1
 }
 
 // Whether each field of a layout takes its place of a row.
@@ -35,12 +30,8 @@ pub fn row_taken(layout: &[u64], values: &[i64], present: &[u8]) -> bool
     if layout.len() != present.len() {
         return false;
     }
-    let mut i: usize = 0;
-    while i < layout.len() {
-        let taken = takes_place(layout[i], values[i], present[i]);
-        if taken {
-            i += 1;
-        } else {
+    for i in 0..layout.len() {
+        if !takes_place(layout[i], values[i], present[i]) {
             return false;
         }
     }
@@ -57,7 +48,7 @@ fn write_entry(s: &mut [u8], p: usize, e: u64, z: i64, b: u8)
         field_writer::put_signed(s, p, w, layout::reading_in(z, b));
         return;
     }
-    field_writer::put_field(s, p, w, field::magnitude(z));
+    field_writer::put_field(s, p, w, z.unsigned_abs());
 }
 
 // What a row says into the fields of a layout.
@@ -66,24 +57,10 @@ fn write_all(s: &mut [u8], layout: &[u64], values: &[i64], present: &[u8])
     ensures { s.new ≡ encode_into layout.now (row_of values.now present.now) 0 s.old }
 {
     let mut at: usize = 0;
-    let mut i: usize = 0;
-    while i < layout.len() {
+    for i in 0..layout.len() {
         let e = layout[i];
         write_entry(s, at, e, values[i], present[i]);
         at += (e % 64) as usize;
-        i += 1;
-    }
-}
-
-// The first n bytes of out made zero.
-fn clear(out: &mut [u8], n: usize)
-    requires { n ≤ length out.old }
-    ensures { out.new ≡ blank n ++ drop n out.old }
-{
-    let mut i: usize = 0;
-    while i < n {
-        out[i] = 0;
-        i += 1;
     }
 }
 
@@ -92,37 +69,30 @@ fn write_message(out: &mut [u8], layout: &[u64], values: &[i64], present: &[u8],
     requires { (n ≡ size layout.now) × ((length layout.now ≤ 96) × ((n ≤ length out.old) × (T (row_takes layout.now values.now present.now)))) }
     ensures { out.new ≡ encode_all layout.now (row_of values.now present.now) ++ drop n out.old }
 {
-    clear(out, n);
+    out[..n].fill(0);
     write_all(out, layout, values, present);
 }
 
-// The message of a row in the first bytes of out, or 5 RANGE, 6 ROOM.
-pub fn encode(layout: &[u64], values: &[i64], present: &[u8], out: &mut [u8]) -> Written
-    ensures answer { result ≡ answered (encode_refusal layout.now values.now present.now (length out.old)) (encode_all layout.now (row_of values.now present.now)) }
+// The message of a row in the first bytes of out, or RANGE, ROOM.
+pub fn encode(
+    layout: &[u64],
+    values: &[i64],
+    present: &[u8],
+    out: &mut [u8],
+) -> Result<usize, Refusal>
+    ensures answer { as_written result ≡ answered (encode_refusal layout.now values.now present.now (length out.old)) (encode_all layout.now (row_of values.now present.now)) }
     ensures output { out.new ≡ stored (encode_refusal layout.now values.now present.now (length out.old)) (encode_all layout.now (row_of values.now present.now)) out.old }
 {
     if 96 < layout.len() {
-        return Written {
-            refusal: RANGE,
-            length: 0,
-        };
+        return Err(Refusal::Range);
     }
     if !row_taken(layout, values, present) {
-        return Written {
-            refusal: RANGE,
-            length: 0,
-        };
+        return Err(Refusal::Range);
     }
     let n = (layout::bits_of(layout) + 7) / 8;
     if out.len() < n {
-        return Written {
-            refusal: ROOM,
-            length: 0,
-        };
+        return Err(Refusal::Room);
     }
     write_message(out, layout, values, present, n);
-    Written {
-        refusal: 0,
-        length: n,
-    }
+    Ok(n)
 }

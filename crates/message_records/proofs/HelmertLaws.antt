@@ -1,5 +1,6 @@
 -- Two laws of reading a 1021, on which the datum step rests: its refusal, and the widths of its parameters.
 -- Assumes nothing.
+use Rattle.std.proofs.Common.{ℤ, Option}
 use mathlib.Core.Path.{◌≡◌, refl, ap, ◌∙◌, subst}
 use mathlib.Core.Bool.{true}
 use mathlib.Core.List.{List, ◌++◌}
@@ -10,7 +11,6 @@ use lib.ListN.{length, get_or, length-append, length-replicate}
 use lib.Seq.{get_or-append-add}
 use Rattle.arith.specs.First.{first}
 use Rattle.arith.specs.Whole.{natural}
-use Rattle.field.specs.declared.Reading.{Reading}
 use Rattle.layout.specs.Layout.{all_take, takes, value_in}
 use Rattle.layout.proofs.Taken.{Upto, bounded, takes_at}
 use Rattle.record_rows.specs.Numbers.{says, number_at, counter_at}
@@ -42,7 +42,7 @@ pub record Within (p : Parameters) : Type 0 where
 length-names : (n m : ℕ) → length (names n m) ≡ 3 + n + m
 length-names n m = simp (length-append, length-replicate) (omega arith)
 
-module _ (v : List Reading) (number : natural (number_at (says v) 0) ≡ 1021) (taken : all_take (row_layout v) v ≡ true) where
+module _ (v : List (Option ℤ)) (number : natural (number_at (says v) 0) ≡ 1021) (taken : all_take (row_layout v) v ≡ true) where
   abbrev n : ℕ
   n = counter_at (says v) 1
 
@@ -81,5 +81,5 @@ unfolding read_helmert
 helmert-within s e =
     let d = kind-of 1021 1021 s e in
     let taken : all_take (row_layout (row s)) (row s) ≡ true = rw (row-layout-of s d.accepted) (row-taken s d.accepted) in
-    subst (λ (v : List Reading). Within (helmert_of (says v)).parameters) (kind-read 1021 1021 s d.accepted d.low d.high).1
+    subst (λ (v : List (Option ℤ)). Within (helmert_of (says v)).parameters) (kind-read 1021 1021 s d.accepted d.low d.high).1
     (row_within (row s) (omega (arith, row_number s d.accepted, d.low, d.high)) taken)

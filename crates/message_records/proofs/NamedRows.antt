@@ -1,9 +1,10 @@
 -- What the row of an accepted 1021 or 1022 says of its names and of the unsigned places behind them.
 -- Assumes nothing.
+use Rattle.std.proofs.Common.{ℤ, Option, Some}
 use Prim.Native.Nat.{ℕ, ◌+◌, ◌%◌, ◌<◌}
 use native.Mathlib.Omega.{arith}
 use native.Mathlib.Nat.{mod-eq_of_lt}
-use mathlib.Core.Path.{◌≡◌, refl, sym, ap, ◌∙◌}
+use mathlib.Core.Path.{◌≡◌, sym, ap, ◌∙◌}
 use mathlib.Core.Bool.{false}
 use mathlib.Core.List.{List, [], ◌∷◌, ◌++◌}
 use lib.IntN.{pos}
@@ -11,8 +12,6 @@ use lib.ListN.{length, take, get_or, replicate, length-append, length-replicate,
 use lib.Seq.{get_or-append-add}
 use Rattle.arith.specs.Whole.{natural}
 use Rattle.field.specs.Field.{field}
-use Rattle.field.specs.declared.Reading.{Reading}
-use Rattle.field.specs.declared.Reading.TheVariants.{Value}
 use Rattle.field.proofs.Bit.{field_lt}
 use Rattle.layout.specs.Layout.{uint, width, signed, total, reading_of, value_in, decode_all}
 use Rattle.layout.proofs.Round.{unsigned-value}
@@ -58,19 +57,19 @@ module _ (n m : ℕ) (tail : List ℕ) where
 -- ---- the row
 
 -- names of n and m characters, each a byte
-pub record NamedRow (n m : ℕ) (v : List Reading) : Type 0 where
-  pub source : says v 1 ≡ Value (pos n)
-  pub target : says v (2 + n) ≡ Value (pos m)
-  pub source_chars : (j : ℕ) → j < n → Value (pos (natural (number_at (says v) (2 + j)) % 256)) ≡ says v (2 + j)
-  pub target_chars : (j : ℕ) → j < m → Value (pos (natural (number_at (says v) (3 + n + j)) % 256)) ≡ says v (3 + n + j)
+pub record NamedRow (n m : ℕ) (v : List (Option ℤ)) : Type 0 where
+  pub source : says v 1 ≡ Some (pos n)
+  pub target : says v (2 + n) ≡ Some (pos m)
+  pub source_chars : (j : ℕ) → j < n → Some (pos (natural (number_at (says v) (2 + j)) % 256)) ≡ says v (2 + j)
+  pub target_chars : (j : ℕ) → j < m → Some (pos (natural (number_at (says v) (3 + n + j)) % 256)) ≡ says v (3 + n + j)
 
 module _ (s : List ℕ) (e : refusal s ≡ 0) where
   -- place k, where the layout has a character
-  char-at : (k : ℕ) → k < length (layout s) → get_or (layout s) k 0 ≡ uint 8 → Value (pos (natural (number_at (says (row s)) k) % 256)) ≡ says (row s) k
+  char-at : (k : ℕ) → k < length (layout s) → get_or (layout s) k 0 ≡ uint 8 → Some (pos (natural (number_at (says (row s)) k) % 256)) ≡ says (row s) k
   char-at k l f =
       let p : ℕ = total (take k (layout s)) in
-      let v : says (row s) k ≡ Value (pos (field s p 8)) = row-place s e k l ∙ ap (λ (x : ℕ). reading_of x (field s p (width x))) f in
-      ap (λ (r : Reading). Value (pos (natural (value_in r) % 256))) v ∙ ap (λ (x : ℕ). Value (pos x)) (mod-eq_of_lt (field_lt s p 8)) ∙ sym v
+      let v : says (row s) k ≡ Some (pos (field s p 8)) = row-place s e k l ∙ ap (λ (x : ℕ). reading_of x (field s p (width x))) f in
+      ap (λ (r : Option ℤ). Some (pos (natural (value_in r) % 256))) v ∙ ap (λ (x : ℕ). Some (pos x)) (mod-eq_of_lt (field_lt s p 8)) ∙ sym v
 
   module _ (tail : List ℕ) (f : layout s ≡ names (source_count s) (target_count s) ++ tail) where
     pub named-row : NamedRow (source_count s) (target_count s) (row s)
@@ -80,8 +79,8 @@ module _ (s : List ℕ) (e : refusal s ≡ 0) where
         let l = ap length f ∙ length-names n m tail in
         let r = row_of_lem s e ∙ ap (λ (x : List ℕ). decode_all x 0 s) f in
         record {
-          source = ap (λ (v : List Reading). says v 1) r ∙ source-at n m tail s;
-          target = ap (λ (v : List Reading). says v (2 + n)) r ∙ target_at n m tail s;
+          source = ap (λ (v : List (Option ℤ)). says v 1) r ∙ source-at n m tail s;
+          target = ap (λ (v : List (Option ℤ)). says v (2 + n)) r ∙ target_at n m tail s;
           source_chars = λ j h. char-at (2 + j) (omega arith) (ap (λ (x : List ℕ). get_or x (2 + j) 0) f ∙ source-entry n m tail j h);
           target_chars = λ j h. char-at (3 + n + j) (omega arith) (ap (λ (x : List ℕ). get_or x (3 + n + j) 0) f ∙ target-entry n m tail j h);
         }

@@ -1,6 +1,7 @@
 -- Both round trips of records, for each kind: an accepted message, read as a record and written again, gives the same bytes,
 -- and a record that is written reads back as itself. They rest on the round trips of rows and on the inverse laws of records.
 -- Assumes nothing.
+use Rattle.std.proofs.Common.{Option}
 use Prim.Native.Nat.{ℕ, ◌+◌, ◌≤◌, ◌<◌}
 use native.Mathlib.Omega.{arith}
 use native.Mathlib.Nat.{eq-or-lt_of_le}
@@ -16,7 +17,6 @@ use Rattle.arith.specs.First.{first}
 use Rattle.arith.specs.Whole.{natural}
 use Rattle.arith.proofs.First.{passed, not-false}
 use Rattle.arith.proofs.Tests.{both_first, both-second}
-use Rattle.field.specs.declared.Reading.{Reading}
 use Rattle.field.proofs.Bit.{Bytes}
 use Rattle.layout.specs.Layout.{signed, row_of}
 use Rattle.layout.proofs.Round.{row_in}
@@ -48,32 +48,32 @@ use Rattle.message_rows.proofs.Trips.{message-of-row, row_number, row_written, n
 -- ---- one kind, whatever its record
 
 -- an accepted message of the kind, whose row is v: v is written as that message
-pub kept : (lo hi : ℕ) (s : List ℕ) (v : List Reading) → kind_refusal lo hi s ≡ 0 → Bytes s → v ≡ row s → message v ≡ s
+pub kept : (lo hi : ℕ) (s : List ℕ) (v : List (Option ℤ)) → kind_refusal lo hi s ≡ 0 → Bytes s → v ≡ row s → message v ≡ s
 kept lo hi s v e b f = ap message f ∙ message-of-row s (kind-of lo hi s e).accepted b
 
-pub kept-written : (lo hi : ℕ) (s : List ℕ) (v : List Reading) (n : ℕ) → kind_refusal lo hi s ≡ 0 → v ≡ row s → length s ≤ n
+pub kept-written : (lo hi : ℕ) (s : List ℕ) (v : List (Option ℤ)) (n : ℕ) → kind_refusal lo hi s ≡ 0 → v ≡ row s → length s ≤ n
     → kind_write_refusal lo hi true (values_of v) (present_of v) n ≡ 0
 unfolding kind_write_refusal write_refusal
 kept-written lo hi s v n e f r =
     let k = kind-of lo hi s e in
     let w : first (row_tests (values_of v) (present_of v) n) ≡ 0 =
-    subst (λ (u : List Reading). write_refusal (values_of u) (present_of u) n ≡ 0) (sym f) (row_written s k.accepted n r) in
+    subst (λ (u : List (Option ℤ)). write_refusal (values_of u) (present_of u) n ≡ 0) (sym f) (row_written s k.accepted n r) in
     let m : natural (number_at (says (row_of (values_of v) (present_of v))) 0) ≡ number_of s =
-    ap (λ (u : List Reading). natural (number_at (says u) 0)) (row_in v ∙ f) ∙ row_number s k.accepted in
+    ap (λ (u : List (Option ℤ)). natural (number_at (says u) 0)) (row_in v ∙ f) ∙ row_number s k.accepted in
     rw (m, le-leb lo (number_of s) k.low, le-leb (number_of s) hi k.high) (rw m at w)
 
 -- what a write answered by 0 says of the row
-pub record Fit (lo hi : ℕ) (good : Bool) (v : List Reading) (n : ℕ) : Type 0 where
+pub record Fit (lo hi : ℕ) (good : Bool) (v : List (Option ℤ)) (n : ℕ) : Type 0 where
   pub named : good ≡ true
   pub low : lo ≤ natural (number_at (says v) 0)
   pub high : natural (number_at (says v) 0) ≤ hi
   pub written : write_refusal (values_of v) (present_of v) n ≡ 0
 
-pub fit_of : (lo hi : ℕ) (good : Bool) (v : List Reading) (n : ℕ) → kind_write_refusal lo hi good (values_of v) (present_of v) n ≡ 0 → Fit lo hi good v n
+pub fit_of : (lo hi : ℕ) (good : Bool) (v : List (Option ℤ)) (n : ℕ) → kind_write_refusal lo hi good (values_of v) (present_of v) n ≡ 0 → Fit lo hi good v n
 unfolding kind_write_refusal write_refusal
 fit_of lo hi good v n e =
     let k : ℕ = natural (number_at (says (row_of (values_of v) (present_of v))) 0) in
-    let q : k ≡ natural (number_at (says v) 0) = ap (λ (u : List Reading). natural (number_at (says u) 0)) (row_in v) in
+    let q : k ≡ natural (number_at (says v) 0) = ap (λ (u : List (Option ℤ)). natural (number_at (says u) 0)) (row_in v) in
     let a = passed 4 (not good) _ e in
     let b = passed 4 (not (leb lo k && leb k hi)) _ a.1 in
     let c = not-false (leb lo k && leb k hi) b.0 in
@@ -85,17 +85,17 @@ fit_of lo hi good v n e =
     }
 
 -- a row that was written is the row of its message, which is of the kind
-pub record Back (lo hi : ℕ) (v : List Reading) : Type 0 where
+pub record Back (lo hi : ℕ) (v : List (Option ℤ)) : Type 0 where
   pub accepted : kind_refusal lo hi (message v) ≡ 0
   pub numbers : kind_row lo hi (message v) ≡ v
 
-pub back : (lo hi : ℕ) (good : Bool) (v : List Reading) (n : ℕ) → kind_write_refusal lo hi good (values_of v) (present_of v) n ≡ 0 → Back lo hi v
+pub back : (lo hi : ℕ) (good : Bool) (v : List (Option ℤ)) (n : ℕ) → kind_write_refusal lo hi good (values_of v) (present_of v) n ≡ 0 → Back lo hi v
 back lo hi good v n e =
     let f = fit_of lo hi good v n e in
     let z : List ℤ = values_of v in
     let b : List ℕ = present_of v in
     let m : natural (number_at (says v) 0) ≡ number_of (message (row_of z b)) =
-    ap (λ (u : List Reading). natural (number_at (says u) 0)) (sym (row_in v)) ∙ number-back z b n f.written in
+    ap (λ (u : List (Option ℤ)). natural (number_at (says u) 0)) (sym (row_in v)) ∙ number-back z b n f.written in
     let d =
     kind-read lo hi (message (row_of z b)) (message-accepted z b n f.written)
     (subst (λ (k : ℕ). lo ≤ k) m f.low) (subst (λ (k : ℕ). k ≤ hi) m f.high) in
@@ -193,7 +193,7 @@ helmert-row s e =
     let a = (kind-of 1021 1021 s e).accepted in
     let f : layout s ≡ names n m ++ tail1021 = only-layout s 1021 e ∙ unfold layout_of layout1021 in refl in
     let r = named-row s a tail1021 f in
-    ap (λ (v : List Reading). helmert_row (helmert_of (says v))) (kind_row_lem 1021 1021 s e)
+    ap (λ (v : List (Option ℤ)). helmert_row (helmert_of (says v))) (kind_row_lem 1021 1021 s e)
     ∙ helmert-row-of (row s) n m (omega (arith, source-lt s)) (omega (arith, target-lt s)) r.source r.target r.source_chars r.target_chars
     (only-length s 1021 e (25 + n + m) (unfold layout_of in length-1021 n m)) (helmert-unsigned s a f)
 
@@ -204,7 +204,7 @@ molodenski-badekas-row s e =
     let a = (kind-of 1022 1022 s e).accepted in
     let f : layout s ≡ names n m ++ tail1022 = only-layout s 1022 e ∙ unfold layout_of layout1022 in refl in
     let r = named-row s a tail1022 f in
-    ap (λ (v : List Reading). molodenski_badekas_row (molodenski_badekas_of (says v))) (kind_row_lem 1022 1022 s e)
+    ap (λ (v : List (Option ℤ)). molodenski_badekas_row (molodenski_badekas_of (says v))) (kind_row_lem 1022 1022 s e)
     ∙ molodenski-badekas-row-of (row s) n m (omega (arith, source-lt s)) (omega (arith, target-lt s)) r.source r.target r.source_chars r.target_chars
     (only-length s 1022 e (28 + n + m) (unfold layout_of in length-1022 n m)) (molodenski-badekas-unsigned s a f)
 
@@ -212,7 +212,7 @@ pub grid-row : (s : List ℕ) → kind_refusal 1023 1024 s ≡ 0 → grid_row (g
 unfolding layout1023 layout1024
 grid-row s e =
     let u = grid-valued s e in
-    ap (λ (v : List Reading). grid_row (grid_of (says v))) (kind_row_lem 1023 1024 s e)
+    ap (λ (v : List (Option ℤ)). grid_row (grid_of (says v))) (kind_row_lem 1023 1024 s e)
     ∙ grid-row-of (row s) (grid-length s e)
     (record {
       number = u 0 refl refl;
@@ -228,21 +228,21 @@ pub projection-row : (s : List ℕ) → kind_refusal 1025 1025 s ≡ 0 → proje
 unfolding layout_of layout1025
 projection-row s e =
     let u = only-valued s 1025 e in
-    ap (λ (v : List Reading). projection_row (projection_of (says v))) (kind_row_lem 1025 1025 s e)
+    ap (λ (v : List (Option ℤ)). projection_row (projection_of (says v))) (kind_row_lem 1025 1025 s e)
     ∙ projection-row-of (row s) (only-length s 1025 e 8 refl) (record { number = u 0 refl; sin = u 1 refl; projection = u 2 refl; scale = u 5 refl; easting = u 6 refl })
 
 pub lambert-row : (s : List ℕ) → kind_refusal 1026 1026 s ≡ 0 → lambert_row (lambert_of (says (kind_row 1026 1026 s))) ≡ row s
 unfolding layout_of layout1026
 lambert-row s e =
     let u = only-valued s 1026 e in
-    ap (λ (v : List Reading). lambert_row (lambert_of (says v))) (kind_row_lem 1026 1026 s e)
+    ap (λ (v : List (Option ℤ)). lambert_row (lambert_of (says v))) (kind_row_lem 1026 1026 s e)
     ∙ lambert-row-of (row s) (only-length s 1026 e 9 refl) (record { number = u 0 refl; sin = u 1 refl; projection = u 2 refl; easting = u 7 refl })
 
 pub oblique-mercator-row : (s : List ℕ) → kind_refusal 1027 1027 s ≡ 0 → oblique_mercator_row (oblique_mercator_of (says (kind_row 1027 1027 s))) ≡ row s
 unfolding layout_of layout1027
 oblique-mercator-row s e =
     let u = only-valued s 1027 e in
-    ap (λ (v : List Reading). oblique_mercator_row (oblique_mercator_of (says v))) (kind_row_lem 1027 1027 s e)
+    ap (λ (v : List (Option ℤ)). oblique_mercator_row (oblique_mercator_of (says v))) (kind_row_lem 1027 1027 s e)
     ∙ oblique-mercator-row-of (row s) (only-length s 1027 e 11 refl)
     (record { number = u 0 refl; sin = u 1 refl; projection = u 2 refl; rectified = u 3 refl; azimuth = u 6 refl; scale = u 8 refl; easting = u 9 refl })
 
@@ -258,7 +258,7 @@ module _ (n : ℕ) where
       let k = back 1021 1021 (good_name r.source && good_name r.target) (helmert_row r) n e in
       λ i. record {
         refusal = k.accepted i;
-        value = (ap (λ (v : List Reading). helmert_of (says v)) k.numbers ∙ helmert-of-row r l l' b b' (both_first _ _ g) (both-second (good_name r.source) _ g)) i;
+        value = (ap (λ (v : List (Option ℤ)). helmert_of (says v)) k.numbers ∙ helmert-of-row r l l' b b' (both_first _ _ g) (both-second (good_name r.source) _ g)) i;
       }
 
   pub molodenski-badekas-back : (r : MolodenskiBadekas) → length r.source.chars ≡ 31 → length r.target.chars ≡ 31 → Names.Bytes r.source → Names.Bytes r.target
@@ -270,7 +270,7 @@ module _ (n : ℕ) where
       let k = back 1022 1022 (good_name r.source && good_name r.target) (molodenski_badekas_row r) n e in
       λ i. record {
         refusal = k.accepted i;
-        value = (ap (λ (v : List Reading). molodenski_badekas_of (says v)) k.numbers ∙ molodenski-badekas-of-row r l l' b b' (both_first _ _ g) (both-second (good_name r.source) _ g)) i;
+        value = (ap (λ (v : List (Option ℤ)). molodenski_badekas_of (says v)) k.numbers ∙ molodenski-badekas-of-row r l l' b b' (both_first _ _ g) (both-second (good_name r.source) _ g)) i;
       }
 
   pub grid-back : (r : Grid) → length r.nodes ≡ 16 → kind_write_refusal 1023 1024 true (values_of (grid_row r)) (present_of (grid_row r)) n ≡ 0
@@ -278,25 +278,25 @@ module _ (n : ℕ) where
   unfolding read_grid
   grid-back r l e =
       let k = back 1023 1024 true (grid_row r) n e in
-      λ i. record { refusal = k.accepted i; value = (ap (λ (v : List Reading). grid_of (says v)) k.numbers ∙ grid-of-row r l) i }
+      λ i. record { refusal = k.accepted i; value = (ap (λ (v : List (Option ℤ)). grid_of (says v)) k.numbers ∙ grid-of-row r l) i }
 
   pub projection-back : (r : Projection) → kind_write_refusal 1025 1025 true (values_of (projection_row r)) (present_of (projection_row r)) n ≡ 0
       → read_projection (message (projection_row r)) ≡ record { refusal = 0; value = r }
   unfolding read_projection
   projection-back r e =
       let k = back 1025 1025 true (projection_row r) n e in
-      λ i. record { refusal = k.accepted i; value = (ap (λ (v : List Reading). projection_of (says v)) k.numbers ∙ projection-of-row r) i }
+      λ i. record { refusal = k.accepted i; value = (ap (λ (v : List (Option ℤ)). projection_of (says v)) k.numbers ∙ projection-of-row r) i }
 
   pub lambert-back : (r : Lambert) → kind_write_refusal 1026 1026 true (values_of (lambert_row r)) (present_of (lambert_row r)) n ≡ 0
       → read_lambert (message (lambert_row r)) ≡ record { refusal = 0; value = r }
   unfolding read_lambert
   lambert-back r e =
       let k = back 1026 1026 true (lambert_row r) n e in
-      λ i. record { refusal = k.accepted i; value = (ap (λ (v : List Reading). lambert_of (says v)) k.numbers ∙ lambert-of-row r) i }
+      λ i. record { refusal = k.accepted i; value = (ap (λ (v : List (Option ℤ)). lambert_of (says v)) k.numbers ∙ lambert-of-row r) i }
 
   pub oblique-mercator-back : (r : ObliqueMercator) → kind_write_refusal 1027 1027 true (values_of (oblique_mercator_row r)) (present_of (oblique_mercator_row r)) n ≡ 0
       → read_oblique_mercator (message (oblique_mercator_row r)) ≡ record { refusal = 0; value = r }
   unfolding read_oblique_mercator
   oblique-mercator-back r e =
       let k = back 1027 1027 true (oblique_mercator_row r) n e in
-      λ i. record { refusal = k.accepted i; value = (ap (λ (v : List Reading). oblique_mercator_of (says v)) k.numbers ∙ oblique-mercator-of-row r) i }
+      λ i. record { refusal = k.accepted i; value = (ap (λ (v : List (Option ℤ)). oblique_mercator_of (says v)) k.numbers ∙ oblique-mercator-of-row r) i }

@@ -1,198 +1,229 @@
 // Records of messages 1021 to 1027, read and written, one kind each.
 #![tactic(auto)]
 
-ghost use Rattle.std.specs.Prelude.{◌≡◌, ◌≤◌, length, take};
-ghost use Rattle.message_rows.specs.Message.{write_kind};
-ghost use Rattle.message_records.specs.Kinds.{read_helmert, write_helmert, read_molodenski_badekas, write_molodenski_badekas, read_grid, write_grid, grid_held, read_projection, write_projection, read_lambert, write_lambert, read_oblique_mercator, write_oblique_mercator};
+ghost use Rattle.std.specs.Prelude.{◌≡◌, ℕ, ℤ, List, Bool, true, Option, IfOk};
+ghost use Rattle.arith.specs.Refusals.{outcome_number};
+ghost use Rattle.layout.specs.Layout.{row_of, as_written};
+ghost use Rattle.record_rows.specs.Numbers.{says};
+ghost use Rattle.record_rows.specs.Inner.{numbers};
+ghost use Rattle.record_transformations.specs.Transformations.{helmert_of, helmert_row, molodenski_badekas_of, molodenski_badekas_row};
+ghost use Rattle.record_grids.specs.Grids.{grid_of, grid_row};
+ghost use Rattle.record_projections.specs.Projections.{projection_of, projection_row, lambert_of, lambert_row, oblique_mercator_of, oblique_mercator_row};
+ghost use Rattle.message_records.specs.Kinds.{good_names, grid_held, read_record, write_record};
 
-use layout::Written;
-use record_rows::Numbers;
+use arith::refusals::Refusal;
+use record_grids::Grid;
+use record_projections::{Lambert, ObliqueMercator, Projection};
+use record_rows::Row;
+use record_transformations::{Helmert, MolodenskiBadekas};
 
-// The message of a record's row, where it stands in the first places of both buffers.
-fn write_numbers(n: Numbers, lo: u64, hi: u64, out: &mut [u8]) -> Written
-    requires { (n.count ≤ length n.values) × (n.count ≤ length n.present) }
-    ensures answer { result ≡ (write_kind lo hi n.good (take n.count n.values) (take n.count n.present) out.old).answer }
-    ensures output { out.new ≡ (write_kind lo hi n.good (take n.count n.values) (take n.count n.present) out.old).output }
-{
-    let good = n.good;
-    let values = n.values;
-    let present = n.present;
-    let k = n.count;
-    message_rows::write_kind(good, &values[..k], &present[..k], lo, hi, out)
+// A record of the messages whose numbers are FIRST to LAST.
+pub trait Record: Copy {
+    ghost FIRST: { ℕ };
+
+    ghost LAST: { ℕ };
+
+    // The record of what each place of a row says.
+    ghost made: { (ℕ → Option ℤ) → Self };
+
+    // Whether its names are good.
+    ghost good: { Self → Bool };
+
+    // What each place of its row says.
+    ghost places: { Self → List (Option ℤ) };
+
+    const FIRST: u64;
+
+    const LAST: u64;
+
+    // The record of the row of a message.
+    fn of_row(values: &[i64; 96], present: &[u8; 96]) -> Self
+        ensures { result ≡ made (says (row_of values.now present.now)) };
+
+    // Its row: none where a name is bad.
+    fn row(self) -> Option<Row>
+        ensures { result ≡ numbers (good self) (places self) };
 }
 
-// A 1021 as a record; all zero with a refusal.
-#[derive(Clone, Copy)]
-pub struct HelmertRead {
-    pub refusal: u8,
-    pub value: record_transformations::Helmert,
-}
+impl Record for Helmert {
+    ghost FIRST = { 1021 };
 
-pub fn read_helmert(s: &[u8]) -> HelmertRead
-    ensures { result ≡ read_helmert s.now }
-{
-    let mut values = [0i64; 96];
-    let mut present = [1u8; 96];
-    let refusal = message_rows::read_kind(s, 1021, 1021, &mut values, &mut present);
-    HelmertRead {
-        refusal,
-        value: record_transformations::helmert_of(&values, &present),
+    ghost LAST = { 1021 };
+
+    ghost made = { helmert_of };
+
+    ghost good = { λ r. good_names r.source r.target };
+
+    ghost places = { helmert_row };
+
+    const FIRST: u64 = 1021;
+
+    const LAST: u64 = 1021;
+
+    fn of_row(values: &[i64; 96], present: &[u8; 96]) -> Helmert {
+        record_transformations::helmert_of(values, present)
+    }
+
+    fn row(self) -> Option<Row> {
+        record_transformation_rows::helmert_row(self)
     }
 }
 
-pub fn write_helmert(r: record_transformations::Helmert, out: &mut [u8]) -> Written
-    ensures answer { result ≡ (write_helmert r out.old).answer }
-    ensures output { out.new ≡ (write_helmert r out.old).output }
-{
-    let n = record_transformation_rows::helmert_row(r);
-    write_numbers(n, 1021, 1021, out)
-}
+impl Record for MolodenskiBadekas {
+    ghost FIRST = { 1022 };
 
-// A 1022 as a record; all zero with a refusal.
-#[derive(Clone, Copy)]
-pub struct MolodenskiBadekasRead {
-    pub refusal: u8,
-    pub value: record_transformations::MolodenskiBadekas,
-}
+    ghost LAST = { 1022 };
 
-pub fn read_molodenski_badekas(s: &[u8]) -> MolodenskiBadekasRead
-    ensures { result ≡ read_molodenski_badekas s.now }
-{
-    let mut values = [0i64; 96];
-    let mut present = [1u8; 96];
-    let refusal = message_rows::read_kind(s, 1022, 1022, &mut values, &mut present);
-    MolodenskiBadekasRead {
-        refusal,
-        value: record_transformations::molodenski_badekas_of(&values, &present),
+    ghost made = { molodenski_badekas_of };
+
+    ghost good = { λ r. good_names r.source r.target };
+
+    ghost places = { molodenski_badekas_row };
+
+    const FIRST: u64 = 1022;
+
+    const LAST: u64 = 1022;
+
+    fn of_row(values: &[i64; 96], present: &[u8; 96]) -> MolodenskiBadekas {
+        record_transformations::molodenski_badekas_of(values, present)
+    }
+
+    fn row(self) -> Option<Row> {
+        record_transformation_rows::molodenski_badekas_row(self)
     }
 }
 
-pub fn write_molodenski_badekas(
-    r: record_transformations::MolodenskiBadekas,
-    out: &mut [u8],
-) -> Written
-    ensures answer { result ≡ (write_molodenski_badekas r out.old).answer }
-    ensures output { out.new ≡ (write_molodenski_badekas r out.old).output }
-{
-    let n = record_transformation_rows::molodenski_badekas_row(r);
-    write_numbers(n, 1022, 1022, out)
-}
+impl Record for Grid {
+    ghost FIRST = { 1023 };
 
-// A 1023 or 1024 as a record; all zero with a refusal.
-#[derive(Clone, Copy)]
-pub struct GridRead {
-    pub refusal: u8,
-    pub value: record_grids::Grid,
-}
+    ghost LAST = { 1024 };
 
-pub fn read_grid(s: &[u8]) -> GridRead
-    ensures { result ≡ read_grid s.now }
-{
-    let mut values = [0i64; 96];
-    let mut present = [1u8; 96];
-    let refusal = message_rows::read_kind(s, 1023, 1024, &mut values, &mut present);
-    GridRead {
-        refusal,
-        value: record_grids::grid_of(&values, &present),
+    ghost made = { grid_of };
+
+    ghost good = { λ r. true };
+
+    ghost places = { grid_row };
+
+    const FIRST: u64 = 1023;
+
+    const LAST: u64 = 1024;
+
+    fn of_row(values: &[i64; 96], present: &[u8; 96]) -> Grid {
+        record_grids::grid_of(values, present)
+    }
+
+    fn row(self) -> Option<Row> {
+        record_grids::grid_row(self)
     }
 }
 
-pub fn write_grid(r: record_grids::Grid, out: &mut [u8]) -> Written
-    ensures answer { result ≡ (write_grid r out.old).answer }
-    ensures output { out.new ≡ (write_grid r out.old).output }
+impl Record for Projection {
+    ghost FIRST = { 1025 };
+
+    ghost LAST = { 1025 };
+
+    ghost made = { projection_of };
+
+    ghost good = { λ r. true };
+
+    ghost places = { projection_row };
+
+    const FIRST: u64 = 1025;
+
+    const LAST: u64 = 1025;
+
+    fn of_row(values: &[i64; 96], present: &[u8; 96]) -> Projection {
+        record_projections::projection_of(values, present)
+    }
+
+    fn row(self) -> Option<Row> {
+        record_projections::projection_row(self)
+    }
+}
+
+impl Record for Lambert {
+    ghost FIRST = { 1026 };
+
+    ghost LAST = { 1026 };
+
+    ghost made = { lambert_of };
+
+    ghost good = { λ r. true };
+
+    ghost places = { lambert_row };
+
+    const FIRST: u64 = 1026;
+
+    const LAST: u64 = 1026;
+
+    fn of_row(values: &[i64; 96], present: &[u8; 96]) -> Lambert {
+        record_projections::lambert_of(values, present)
+    }
+
+    fn row(self) -> Option<Row> {
+        record_projections::lambert_row(self)
+    }
+}
+
+impl Record for ObliqueMercator {
+    ghost FIRST = { 1027 };
+
+    ghost LAST = { 1027 };
+
+    ghost made = { oblique_mercator_of };
+
+    ghost good = { λ r. true };
+
+    ghost places = { oblique_mercator_row };
+
+    const FIRST: u64 = 1027;
+
+    const LAST: u64 = 1027;
+
+    fn of_row(values: &[i64; 96], present: &[u8; 96]) -> ObliqueMercator {
+        record_projections::oblique_mercator_of(values, present)
+    }
+
+    fn row(self) -> Option<Row> {
+        record_projections::oblique_mercator_row(self)
+    }
+}
+
+// A message as a record; or 1 to 5, KIND.
+pub fn read_record<R: Record>(s: &[u8]) -> Result<R, Refusal>
+    ensures refused { outcome_number result ≡ (read_record R.FIRST R.LAST R.made s.now).refusal }
+    ensures value { IfOk result (λ r. r ≡ (read_record R.FIRST R.LAST R.made s.now).value) }
 {
-    let n = record_grids::grid_row(r);
-    write_numbers(n, 1023, 1024, out)
+    let mut values = [0i64; 96];
+    let mut present = [1u8; 96];
+    message_rows::read_kind(s, R::FIRST, R::LAST, &mut values, &mut present)?;
+    Ok(R::of_row(&values, &present))
+}
+
+// The message of a record in the first bytes of out; or RANGE, ROOM.
+pub fn write_record<R: Record>(r: R, out: &mut [u8]) -> Result<usize, Refusal>
+    ensures answer { as_written result ≡ (write_record R.FIRST R.LAST (R.good r) (R.places r) out.old).answer }
+    ensures output { out.new ≡ (write_record R.FIRST R.LAST (R.good r) (R.places r) out.old).output }
+{
+    match r.row() {
+        Some(row) => message_rows::write_kind(
+            true,
+            row.values(),
+            row.present(),
+            R::FIRST,
+            R::LAST,
+            out,
+        ),
+        None => message_rows::write_kind(false, &[], &[], R::FIRST, R::LAST, out),
+    }
 }
 
 // Whether a message 1023 or 1024 holds the record.
-pub fn grid_held(r: record_grids::Grid) -> bool
+pub fn grid_held(r: Grid) -> bool
     ensures { result ≡ grid_held r }
 {
-    let n = record_grids::grid_row(r);
-    let values = n.values;
-    let present = n.present;
-    let k = n.count;
-    message_rows::row_held(&values[..k], &present[..k], 1023, 1024)
-}
-
-// A 1025 as a record; all zero with a refusal.
-#[derive(Clone, Copy)]
-pub struct ProjectionRead {
-    pub refusal: u8,
-    pub value: record_projections::Projection,
-}
-
-pub fn read_projection(s: &[u8]) -> ProjectionRead
-    ensures { result ≡ read_projection s.now }
-{
-    let mut values = [0i64; 96];
-    let mut present = [1u8; 96];
-    let refusal = message_rows::read_kind(s, 1025, 1025, &mut values, &mut present);
-    ProjectionRead {
-        refusal,
-        value: record_projections::projection_of(&values, &present),
+    match record_grids::grid_row(r) {
+        Some(row) => message_rows::row_held(row.values(), row.present(), Grid::FIRST, Grid::LAST),
+        None => false,
     }
-}
-
-pub fn write_projection(r: record_projections::Projection, out: &mut [u8]) -> Written
-    ensures answer { result ≡ (write_projection r out.old).answer }
-    ensures output { out.new ≡ (write_projection r out.old).output }
-{
-    let n = record_projections::projection_row(r);
-    write_numbers(n, 1025, 1025, out)
-}
-
-// A 1026 as a record; all zero with a refusal.
-#[derive(Clone, Copy)]
-pub struct LambertRead {
-    pub refusal: u8,
-    pub value: record_projections::Lambert,
-}
-
-pub fn read_lambert(s: &[u8]) -> LambertRead
-    ensures { result ≡ read_lambert s.now }
-{
-    let mut values = [0i64; 96];
-    let mut present = [1u8; 96];
-    let refusal = message_rows::read_kind(s, 1026, 1026, &mut values, &mut present);
-    LambertRead {
-        refusal,
-        value: record_projections::lambert_of(&values, &present),
-    }
-}
-
-pub fn write_lambert(r: record_projections::Lambert, out: &mut [u8]) -> Written
-    ensures answer { result ≡ (write_lambert r out.old).answer }
-    ensures output { out.new ≡ (write_lambert r out.old).output }
-{
-    let n = record_projections::lambert_row(r);
-    write_numbers(n, 1026, 1026, out)
-}
-
-// A 1027 as a record; all zero with a refusal.
-#[derive(Clone, Copy)]
-pub struct ObliqueMercatorRead {
-    pub refusal: u8,
-    pub value: record_projections::ObliqueMercator,
-}
-
-pub fn read_oblique_mercator(s: &[u8]) -> ObliqueMercatorRead
-    ensures { result ≡ read_oblique_mercator s.now }
-{
-    let mut values = [0i64; 96];
-    let mut present = [1u8; 96];
-    let refusal = message_rows::read_kind(s, 1027, 1027, &mut values, &mut present);
-    ObliqueMercatorRead {
-        refusal,
-        value: record_projections::oblique_mercator_of(&values, &present),
-    }
-}
-
-pub fn write_oblique_mercator(r: record_projections::ObliqueMercator, out: &mut [u8]) -> Written
-    ensures answer { result ≡ (write_oblique_mercator r out.old).answer }
-    ensures output { out.new ≡ (write_oblique_mercator r out.old).output }
-{
-    let n = record_projections::oblique_mercator_row(r);
-    write_numbers(n, 1027, 1027, out)
 }

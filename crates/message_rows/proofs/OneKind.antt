@@ -1,5 +1,6 @@
 -- The ways out of reading one kind of record.
 -- Assumes nothing.
+use Rattle.std.proofs.Common.{Option}
 use Prim.Native.Nat.{ℕ, zero, suc, ◌-◌, ◌≤◌, ◌<◌}
 use native.Mathlib.Nat.{lt_irrefl}
 use native.Mathlib.Numerals.{unary_clauses}
@@ -15,7 +16,6 @@ use Rattle.arith.specs.First.{first}
 use Rattle.arith.proofs.First.{first-append, stops, goes_on}
 use native.Mathlib.Decide.{ℕ_discrete}
 use Rattle.field.specs.Inner.{field_at}
-use Rattle.field.specs.declared.Reading.{Reading}
 use Rattle.layout.specs.Layout.{row_of, stored, room_tests}
 use Rattle.record_rows.specs.Numbers.{says, values_of, present_of}
 use Rattle.record_rows.proofs.Rows.{says-filled}
@@ -115,7 +115,7 @@ drop-same x (suc j) zero = let e : 0 ≡ 0 - suc j = omega arith in ap (λ (k : 
 drop-same x (suc j) (suc n) = simp unary_clauses (drop-same x j n)
 
 -- what a row or none says, stored in buffers that say the value 0 at each place
-stored-says : (t : Bool) (v : List Reading) (m n k : ℕ) → let z : List ℤ = replicate m (pos 0) in
+stored-says : (t : Bool) (v : List (Option ℤ)) (m n k : ℕ) → let z : List ℤ = replicate m (pos 0) in
     let b : List ℕ = replicate n 1 in
     says (row_of (cond t (values_of v ++ drop (length (values_of v)) z) z) (cond t (present_of v ++ drop (length (present_of v)) b) b)) k ≡ says (cond t v []) k
 stored-says true v m n k = rw (drop-same (pos 0) (length (values_of v)) m, drop-same {A = ℕ} 1 (length (present_of v)) n) (says-filled v (m - length (values_of v)) (n - length (present_of v)) k)

@@ -1,5 +1,6 @@
 -- Rows: how long they are, and the ways out of reading one.
 -- Assumes nothing.
+use Rattle.std.proofs.Common.{Option}
 use Prim.Native.Nat.{ℕ, zero, suc, ◌+◌, ◌≤◌}
 use native.Mathlib.Omega.{arith}
 use mathlib.Core.Path.{◌≡◌, refl, sym, ap, ◌∙◌}
@@ -10,7 +11,6 @@ use lib.IntN.{ℤ}
 use lib.ListN.{length}
 use Rattle.arith.specs.First.{first}
 use Rattle.arith.proofs.First.{stops, goes_on, passes}
-use Rattle.field.specs.declared.Reading.{Reading}
 use Rattle.layout.specs.Layout.{decode_all, stored, room_tests}
 use Rattle.layout.specs.Inner.{decode_tests, decode_refusal}
 use Rattle.layout.proofs.Round.{length-decode_all}
@@ -21,7 +21,7 @@ use Rattle.layout_tables.proofs.Length.{length-layout}
 use Rattle.message_rows.specs.Message.{head_tests, tests, layout, refusal, row, row_refusal, values_read, present_read, row_layout}
 use Rattle.message_rows.proofs.Head.{row_of_lem, layout-most}
 
-pub row-layout-most : (v : List Reading) → length (row_layout v) ≤ 90
+pub row-layout-most : (v : List (Option ℤ)) → length (row_layout v) ≤ 90
 unfolding row_layout
 row-layout-most v = length-layout _ _ _ (counter-most (says v) 1) (counter-most (says v) (2 + counter_at (says v) 1))
 

@@ -1,5 +1,6 @@
 -- The layout that a row calls for, and the ways out of writing one.
 -- Assumes nothing.
+use Rattle.std.proofs.Common.{Option}
 use Prim.Native.Nat.{ℕ, ◌+◌, ◌≤◌, ◌<◌}
 use native.Mathlib.Omega.{arith}
 use mathlib.Core.Path.{◌≡◌, ◌∙◌}
@@ -9,7 +10,6 @@ use lib.IntN.{ℤ}
 use lib.ListN.{length}
 use borrow.Author.Tests.{lt-leb, le-leb}
 use Rattle.arith.specs.Whole.{natural}
-use Rattle.field.specs.declared.Reading.{Reading}
 use Rattle.layout.specs.Layout.{row_of, row_takes, encode_all, stored, answered}
 use Rattle.layout.specs.Inner.{encode_refusal}
 use Rattle.layout.specs.declared.Written.{Written}
@@ -20,7 +20,7 @@ use Rattle.layout_tables.proofs.Length.{layout-by}
 use Rattle.message_rows.specs.Message.{row_layout, write_refusal, message, write_row, row_held}
 
 -- the layout of a row's number and counters
-pub row-layout-by : (v : List Reading) {k n m : ℕ} → k ≡ natural (number_at (says v) 0) → n ≡ counter_at (says v) 1 → m ≡ counter_at (says v) (2 + n) → layout_by k n m ≡ row_layout v
+pub row-layout-by : (v : List (Option ℤ)) {k n m : ℕ} → k ≡ natural (number_at (says v) 0) → n ≡ counter_at (says v) 1 → m ≡ counter_at (says v) (2 + n) → layout_by k n m ≡ row_layout v
 unfolding row_layout
 row-layout-by v {k} {n} {m} a b c =
     layout-by k n m (omega (arith, counter-most (says v) 1)) (omega (arith, counter-most (says v) (2 + n))) ∙ rw (a, c, b)

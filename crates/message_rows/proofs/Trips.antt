@@ -1,5 +1,6 @@
 -- Both round trips of rows: an accepted message written again gives the same bytes, and a row that is written reads back as itself.
 -- Assumes nothing.
+use Rattle.std.proofs.Common.{Option, Some}
 use Prim.Native.Nat.{ℕ, zero, suc, ◌+◌, ◌*◌, ◌≤◌, ◌<◌}
 use native.Mathlib.Omega.{arith}
 use native.Mathlib.Nat.{zero-add, add-zero, add_assoc, lt_irrefl, eq-or-lt_of_le}
@@ -16,8 +17,6 @@ use Rattle.arith.specs.Whole.{natural}
 use Rattle.arith.proofs.First.{passed, not-false}
 use Rattle.arith.proofs.Tests.{both_first, both-second}
 use Rattle.field.specs.Field.{field}
-use Rattle.field.specs.declared.Reading.{Reading}
-use Rattle.field.specs.declared.Reading.TheVariants.{Value}
 use Rattle.field.proofs.Bit.{Bytes, field_lt}
 use Rattle.layout.specs.Layout.{uint, width, reading_of, all_take, total, size, row_of, decode_all, encode_all}
 use Rattle.layout.specs.Inner.{refusal_of, encode_refusal}
@@ -31,12 +30,12 @@ use Rattle.message_rows.proofs.Sin.{total-least}
 
 -- ---- what the first fields of a message say
 
-pub number-at : (k n m : ℕ) (s : List ℕ) → 1021 ≤ k → k ≤ 1027 → says (decode_all (layout_of k n m) 0 s) 0 ≡ Value (pos (number_of s))
+pub number-at : (k n m : ℕ) (s : List ℕ) → 1021 ≤ k → k ≤ 1027 → says (decode_all (layout_of k n m) 0 s) 0 ≡ Some (pos (number_of s))
 unfolding layout_of layout1021 layout1022 layout1023 layout1024 layout1025 layout1026 layout1027 decode_all
 number-at k n m s lo hi =
-    by_number (λ j. says (decode_all (layout_of j n m) 0 s) 0 ≡ Value (pos (number_of s))) k lo hi refl refl refl refl refl refl refl
+    by_number (λ j. says (decode_all (layout_of j n m) 0 s) 0 ≡ Some (pos (number_of s))) k lo hi refl refl refl refl refl refl refl
 
-pub source-at : (n m : ℕ) (tail s : List ℕ) → says (decode_all (names n m ++ tail) 0 s) 1 ≡ Value (pos (source_count s))
+pub source-at : (n m : ℕ) (tail s : List ℕ) → says (decode_all (names n m ++ tail) 0 s) 1 ≡ Some (pos (source_count s))
 unfolding decode_all
 source-at n m tail s = refl
 
@@ -58,12 +57,12 @@ names-split n m tail =
     ap (λ (l : List ℕ). l ++ tail) (append_assoc (front n) (uint 5 ∷ []) (replicate m (uint 8)))
     ∙ append_assoc (front n) (uint 5 ∷ replicate m (uint 8)) tail
 
-pub target_at : (n m : ℕ) (tail s : List ℕ) → says (decode_all (names n m ++ tail) 0 s) (2 + n) ≡ Value (pos (field s (17 + 8 * n) 5))
+pub target_at : (n m : ℕ) (tail s : List ℕ) → says (decode_all (names n m ++ tail) 0 s) (2 + n) ≡ Some (pos (field s (17 + 8 * n) 5))
 target_at n m tail s =
     ap (λ (l : List ℕ). says (decode_all l 0 s) (2 + n)) (names-split n m tail)
     ∙ ap (says (decode_all (front n ++ (uint 5 ∷ (replicate m (uint 8) ++ tail))) 0 s)) (sym (length_front n))
     ∙ value-at (front n) (uint 5) (replicate m (uint 8) ++ tail) 0 s
-    ∙ ap (λ (q : ℕ). Value (pos (field s q 5))) (zero-add (total (front n)) ∙ total-front n)
+    ∙ ap (λ (q : ℕ). Some (pos (field s q 5))) (zero-add (total (front n)) ∙ total-front n)
 
 -- ---- what any field says
 
@@ -78,13 +77,13 @@ decoded-place (e ∷ es) p s (suc k) h =
 
 -- ---- the layout that a read row calls for
 
-counter-of : (v : ℕ → Reading) (k n : ℕ) → v k ≡ Value (pos n) → n < 32 → counter_at v k ≡ n
+counter-of : (v : ℕ → Option ℤ) (k n : ℕ) → v k ≡ Some (pos n) → n < 32 → counter_at v k ≡ n
 counter-of v k n e h = rw (e, le-leb n 31 (omega arith))
 
 -- of 1021 and 1022: both counters of the bytes
 pub record Counted (k n m : ℕ) (s : List ℕ) : Type 0 where
-  pub source : says (decode_all (layout_of k n m) 0 s) 1 ≡ Value (pos (source_count s))
-  pub target : says (decode_all (layout_of k n m) 0 s) (2 + n) ≡ Value (pos (field s (17 + 8 * n) 5))
+  pub source : says (decode_all (layout_of k n m) 0 s) 1 ≡ Some (pos (source_count s))
+  pub target : says (decode_all (layout_of k n m) 0 s) (2 + n) ≡ Some (pos (field s (17 + 8 * n) 5))
 
 pub counted : (k n m : ℕ) (s : List ℕ) → 1021 ≤ k → k ≤ 1022 → Counted k n m s
 unfolding layout_of layout1021 layout1022
@@ -97,7 +96,7 @@ counted k n m s lo hi =
     (eq-or-lt_of_le lo)
 
 -- the number of a row, where its first field says it
-number-of : (v : ℕ → Reading) (n : ℕ) → v 0 ≡ Value (pos n) → natural (number_at v 0) ≡ n
+number-of : (v : ℕ → Option ℤ) (n : ℕ) → v 0 ≡ Some (pos n) → natural (number_at v 0) ≡ n
 number-of v n e = rw e
 
 -- the row of bytes read by the layout of k, n and m calls for that layout, where the bytes have these counters
@@ -106,7 +105,7 @@ pub same_layout : (k n m : ℕ) (s : List ℕ) → 1021 ≤ k → k ≤ 1027 →
 unfolding row_layout
 same_layout k n m s lo hi e c = by (dec_le k 1022)
   where
-    v : ℕ → Reading
+    v : ℕ → Option ℤ
     v = says (decode_all (layout_of k n m) 0 s)
 
     number : natural (number_at v 0) ≡ k
@@ -135,7 +134,7 @@ module _ (s : List ℕ) (e : refusal s ≡ 0) where
   -- what a place of the row says
   pub row-place : (k : ℕ) → k < length (layout s) → says (row s) k ≡ reading_of (get_or (layout s) k 0) (field s (total (take k (layout s))) (width (get_or (layout s) k 0)))
   row-place k h =
-      ap (λ (v : List Reading). says v k) (row_of_lem s e) ∙ decoded-place (layout s) 0 s k h
+      ap (λ (v : List (Option ℤ)). says v k) (row_of_lem s e) ∙ decoded-place (layout s) 0 s k h
       ∙ ap (λ (q : ℕ). reading_of (get_or (layout s) k 0) (field s q (width (get_or (layout s) k 0)))) (zero-add (total (take k (layout s))))
 
   pub row-layout-of : row_layout (row s) ≡ layout s
@@ -156,7 +155,7 @@ module _ (s : List ℕ) (e : refusal s ≡ 0) where
   unfolding layout
   row_number =
       let h = head_of s (accepted-head s e) in
-      number-of (says (row s)) (number_of s) (ap (λ (v : List Reading). says v 0) (row_of_lem s e) ∙ number-at (number_of s) (source_count s) (target_count s) s h.low h.high)
+      number-of (says (row s)) (number_of s) (ap (λ (v : List (Option ℤ)). says v 0) (row_of_lem s e) ∙ number-at (number_of s) (source_count s) (target_count s) s h.low h.high)
 
   -- and it is written wherever there is room for it
   pub row_written : (n : ℕ) → length s ≤ n → write_refusal (values_of (row s)) (present_of (row s)) n ≡ 0
@@ -199,12 +198,12 @@ sized-head s lo hi n =
       counted = λ m. (omega (arith, sin-least s), omega (arith, sin-named s m));
     }
 
-pub record Known (v : ℕ → Reading) : Type 0 where
+pub record Known (v : ℕ → Option ℤ) : Type 0 where
   pub low : 1021 ≤ natural (number_at v 0)
   pub high : natural (number_at v 0) ≤ 1027
 
 module _ (z : List ℤ) (b : List ℕ) (n : ℕ) (e : write_refusal z b n ≡ 0) where
-  abbrev v : List Reading
+  abbrev v : List (Option ℤ)
   v = row_of z b
 
   abbrev number : ℕ
@@ -234,7 +233,7 @@ module _ (z : List ℤ) (b : List ℕ) (n : ℕ) (e : write_refusal z b n ≡ 0)
   pub number-back : natural (number_at (says (row_of z b)) 0) ≡ number_of (message (row_of z b))
   unfolding row_layout
   number-back =
-      number-of (says v) (number_of (message v)) (ap (λ (w : List Reading). says w 0) (sym fields_back) ∙ number-at _ _ _ (message v) known-row.low known-row.high)
+      number-of (says v) (number_of (message v)) (ap (λ (w : List (Option ℤ)). says w 0) (sym fields_back) ∙ number-at _ _ _ (message v) known-row.low known-row.high)
 
   counters-back : number ≤ 1022 → (counter_at (says v) 1 ≡ source_count (message v)) × (counter_at (says v) (2 + counter_at (says v) 1) ≡ target_count (message v))
   unfolding row_layout
@@ -243,9 +242,9 @@ module _ (z : List ℤ) (b : List ℕ) (n : ℕ) (e : write_refusal z b n ≡ 0)
       let i : ℕ = counter_at (says v) 1 in
       let j : ℕ = counter_at (says v) (2 + i) in
       let d = counted number i j s known-row.low h in
-      let a : i ≡ source_count s = counter-of (says v) 1 (source_count s) (ap (λ (w : List Reading). says w 1) (sym fields_back) ∙ d.source) (source-lt s) in
+      let a : i ≡ source_count s = counter-of (says v) 1 (source_count s) (ap (λ (w : List (Option ℤ)). says w 1) (sym fields_back) ∙ d.source) (source-lt s) in
       let t : j ≡ field s (17 + 8 * i) 5 =
-      counter-of (says v) (2 + i) (field s (17 + 8 * i) 5) (ap (λ (w : List Reading). says w (2 + i)) (sym fields_back) ∙ d.target) (field_lt s (17 + 8 * i) 5) in
+      counter-of (says v) (2 + i) (field s (17 + 8 * i) 5) (ap (λ (w : List (Option ℤ)). says w (2 + i)) (sym fields_back) ∙ d.target) (field_lt s (17 + 8 * i) 5) in
       (a, t ∙ ap (λ (x : ℕ). field s (17 + 8 * x) 5) a)
 
   pub layout-back : layout (message (row_of z b)) ≡ row_layout (row_of z b)

@@ -1,10 +1,9 @@
 -- Reading a message as a row and writing a row as a message: refusals 1 to 7 (document 01, "Refusal numbers").
 -- Assumes nothing.
-use Rattle.std.specs.Prelude.{ℕ, ◌+◌, ◌*◌, Bool, not, cond, ◌&&◌, ◌||◌, List, [], ◌∷◌, ◌++◌, eqb, leb, ltb, length, ℤ}
+use Rattle.std.specs.Prelude.{ℕ, ◌+◌, ◌*◌, Bool, not, cond, ◌&&◌, ◌||◌, List, [], ◌∷◌, ◌++◌, eqb, leb, ltb, length, ℤ, Option}
 use Rattle.arith.specs.First.{Test, first}
 use Rattle.arith.specs.Whole.{natural}
 use Rattle.field.specs.Field.{field}
-use Rattle.field.specs.declared.Reading.{Reading}
 use Rattle.record_rows.specs.Numbers.{says, number_at, counter_at, values_of, present_of}
 use Rattle.layout.specs.Layout.{row_of, row_takes, decode_all, encode_all, read_tests, room_tests, encode_tests, answered, stored}
 use Rattle.layout.specs.declared.Written.{Written}
@@ -45,7 +44,7 @@ unfoldable pub refusal : List ℕ → ℕ
 refusal s = first (tests s)
 
 -- the row of an accepted message: what each field says, in wire order; none with a refusal
-unfoldable pub row : List ℕ → List Reading
+unfoldable pub row : List ℕ → List (Option ℤ)
 row s = cond (eqb (refusal s) 0) (decode_all (layout s) 0 s) []
 
 -- DF147 stands behind DF002, in 1021 and 1022 behind both names
@@ -84,12 +83,12 @@ kind_tests lo hi s = tests s ++ ((7, not (leb lo (number_of s) && leb (number_of
 unfoldable pub kind_refusal : ℕ → ℕ → List ℕ → ℕ
 kind_refusal lo hi s = first (kind_tests lo hi s)
 
-unfoldable pub kind_row : ℕ → ℕ → List ℕ → List Reading
+unfoldable pub kind_row : ℕ → ℕ → List ℕ → List (Option ℤ)
 kind_row lo hi s = cond (eqb (kind_refusal lo hi s) 0) (row s) []
 
 -- ---- writing: z and b are the values and the presence bytes of a row
 
-unfoldable pub row_layout : List Reading → List ℕ
+unfoldable pub row_layout : List (Option ℤ) → List ℕ
 row_layout v =
     layout_of (natural (number_at (says v) 0)) (counter_at (says v) 1) (counter_at (says v) (2 + counter_at (says v) 1))
 
@@ -101,7 +100,7 @@ row_tests z b n =
 unfoldable pub write_refusal : List ℤ → List ℕ → ℕ → ℕ
 write_refusal z b n = first (row_tests z b n)
 
-unfoldable pub message : List Reading → List ℕ
+unfoldable pub message : List (Option ℤ) → List ℕ
 message v = encode_all (row_layout v) v
 
 -- what a writer answers, and the output afterwards
@@ -119,7 +118,7 @@ write_row z b out = outcome_of (write_refusal z b (length out)) (message (row_of
 -- ---- writing the row of a record whose kind has the message numbers lo to hi; good: its names are
 
 -- the number is one of the kind
-abbrev pub of_kind : ℕ → ℕ → List Reading → Bool
+abbrev pub of_kind : ℕ → ℕ → List (Option ℤ) → Bool
 of_kind lo hi v = leb lo (natural (number_at (says v) 0)) && leb (natural (number_at (says v) 0)) hi
 
 -- 5 RANGE: "a field outside its range or width, a number not of the record's kind, or a bad name"; 6 ROOM

@@ -2,14 +2,15 @@
 #![tactic(auto)]
 
 ghost use Rattle.std.specs.Prelude.{◌≡◌, ◌≤◌, length};
+ghost use Rattle.layout.specs.Layout.{as_written};
+ghost use Rattle.arith.specs.Refusals.{outcome_number};
 ghost use Rattle.field.specs.Inner.{field_at};
 ghost use Rattle.arith.specs.First.{first};
 ghost use Rattle.message_rows.specs.Message.{head_tests, refusal, header, row_refusal, values_read, present_read, kind_refusal, write_row, write_kind, row_held};
 ghost use Rattle.message_rows.specs.Inner.{kind_room_refusal};
 ghost use Rattle.message_rows.specs.Private.{source_read, target_read, sin_place, Counted, Coded};
 
-use arith::refusals::{KIND, LENGTH, NUMBER, RANGE, SHORT};
-use layout::Written;
+use arith::refusals::{Refusal, number_of};
 
 // The first name counter of a message of that number; 0 where it carries no names.
 fn source_of(s: &[u8], number: u64) -> usize
@@ -33,77 +34,71 @@ fn target_of(s: &[u8], number: u64, n: usize) -> usize
 }
 
 // SHORT, NUMBER, or LENGTH where a name counter can't be read; else 0.
-fn head_refusal(s: &[u8], number: u64, n: usize) -> u8
+fn head_refusal(s: &[u8], number: u64, n: usize) -> Result<(), Refusal>
     requires { (number ≡ field_at s.now 0 12) × (n ≡ source_read s.now number) }
-    ensures { result ≡ first (head_tests s.now) }
+    ensures { outcome_number result ≡ first (head_tests s.now) }
 {
     let len = s.len();
     if len < 2 {
-        return SHORT;
+        return Err(Refusal::Short);
     }
     if number < 1021 {
-        return NUMBER;
+        return Err(Refusal::Number);
     }
     if 1027 < number {
-        return NUMBER;
+        return Err(Refusal::Number);
     }
     if 1022 < number {
-        return 0;
+        return Ok(());
     }
     if len < 3 {
-        return LENGTH;
+        return Err(Refusal::Length);
     }
     if len < n + 3 {
-        return LENGTH;
+        return Err(Refusal::Length);
     }
-    0
+    Ok(())
 }
 
-// Refusals 1 to 5 of a message whose number and counters were read; or 0.
-fn check_counted(s: &[u8], number: u64, n: usize, m: usize) -> u8
+// Refusals 1 to 5 of a message whose number and counters were read.
+fn check_counted(s: &[u8], number: u64, n: usize, m: usize) -> Result<(), Refusal>
     requires { Counted s.now number n m }
-    ensures { result ≡ refusal s.now }
+    ensures { outcome_number result ≡ refusal s.now }
 {
-    let h = head_refusal(s, number, n);
-    if h != 0 {
-        return h;
-    }
+    head_refusal(s, number, n)?;
     layout_by_number::check_by(s, number, n, m)
 }
 
-// Refusals 1 to 5 of a message of that number; or 0.
-fn check_numbered(s: &[u8], number: u64) -> u8
+// Refusals 1 to 5 of a message of that number.
+fn check_numbered(s: &[u8], number: u64) -> Result<(), Refusal>
     requires { number ≡ field_at s.now 0 12 }
-    ensures { result ≡ refusal s.now }
+    ensures { outcome_number result ≡ refusal s.now }
 {
     let n = source_of(s, number);
     let m = target_of(s, number, n);
     check_counted(s, number, n, m)
 }
 
-// Refusals 1 to 5 of a message; or 0. No value is stored.
-pub fn check_message(s: &[u8]) -> u8
-    ensures { result ≡ refusal s.now }
+// Refusals 1 to 5 of a message. No value is stored.
+pub fn check_message(s: &[u8]) -> Result<(), Refusal>
+    ensures { outcome_number result ≡ refusal s.now }
 {
     check_numbered(s, field::field_at(s, 0, 12))
 }
 
 // The same, then KIND where its number is not lo to hi.
-pub fn check_kind(s: &[u8], lo: u64, hi: u64) -> u8
-    ensures { result ≡ kind_refusal lo hi s.now }
+pub fn check_kind(s: &[u8], lo: u64, hi: u64) -> Result<(), Refusal>
+    ensures { outcome_number result ≡ kind_refusal lo hi s.now }
 {
     let number = field::field_at(s, 0, 12);
-    let r = check_numbered(s, number);
-    if r != 0 {
-        return r;
-    }
+    check_numbered(s, number)?;
     if number < lo {
-        return KIND;
+        return Err(Refusal::Kind);
     }
     if hi < number {
-        return KIND;
+        return Err(Refusal::Kind);
     }
-    0
+    Ok(())
 }
 
 // What a message is; zeros with a refusal.
@@ -134,9 +129,8 @@ fn header_code(s: &[u8]) -> u64
     let number = field::field_at(s, 0, 12);
     let n = source_of(s, number);
     let m = target_of(s, number, n);
-    let refusal = check_counted(s, number, n, m);
-    if refusal != 0 {
-        return refusal as u64;
+    if let Err(refusal) = check_counted(s, number, n, m) {
+        return u64::from(number_of(refusal));
     }
     (number * 256 + field::field_at(s, sin_bit(number, n, m), 8)) * 256
 }
@@ -164,24 +158,27 @@ pub fn read_header(s: &[u8]) -> Header
 }
 
 // The row of a message into the first places of both buffers: refusals 1 to 5, then ROOM.
-pub fn read_row(s: &[u8], values: &mut [i64], present: &mut [u8]) -> u8
-    ensures answer { result ≡ row_refusal s.now (length values.old) (length present.old) }
+pub fn read_row(s: &[u8], values: &mut [i64], present: &mut [u8]) -> Result<(), Refusal>
+    ensures answer { outcome_number result ≡ row_refusal s.now (length values.old) (length present.old) }
     ensures values { values.new ≡ values_read (row_refusal s.now (length values.old) (length present.old)) s.now values.old }
     ensures present { present.new ≡ present_read (row_refusal s.now (length values.old) (length present.old)) s.now present.old }
 {
     let number = field::field_at(s, 0, 12);
     let n = source_of(s, number);
-    let h = head_refusal(s, number, n);
-    if h != 0 {
-        return h;
-    }
+    head_refusal(s, number, n)?;
     let m = target_of(s, number, n);
     layout_by_number::decode_by(s, number, n, m, values, present)
 }
 
 // The row of a message of one kind, whose numbers are lo to hi: refusals 1 to 5, KIND, then ROOM.
-pub fn read_kind(s: &[u8], lo: u64, hi: u64, values: &mut [i64], present: &mut [u8]) -> u8
-    ensures answer { result ≡ kind_room_refusal lo hi s.now (length values.old) (length present.old) }
+pub fn read_kind(
+    s: &[u8],
+    lo: u64,
+    hi: u64,
+    values: &mut [i64],
+    present: &mut [u8],
+) -> Result<(), Refusal>
+    ensures answer { outcome_number result ≡ kind_room_refusal lo hi s.now (length values.old) (length present.old) }
     ensures values { values.new ≡ values_read (kind_room_refusal lo hi s.now (length values.old) (length present.old)) s.now values.old }
     ensures present { present.new ≡ present_read (kind_room_refusal lo hi s.now (length values.old) (length present.old)) s.now present.old }
 {
@@ -198,22 +195,16 @@ pub fn read_kind(s: &[u8], lo: u64, hi: u64, values: &mut [i64], present: &mut [
 // Rows written as messages 1021 to 1027, of any kind or of one.
 
 // The message of a row in the first bytes of out: RANGE, then ROOM.
-pub fn write_row(values: &[i64], present: &[u8], out: &mut [u8]) -> Written
-    ensures answer { result ≡ (write_row values.now present.now out.old).answer }
+pub fn write_row(values: &[i64], present: &[u8], out: &mut [u8]) -> Result<usize, Refusal>
+    ensures answer { as_written result ≡ (write_row values.now present.now out.old).answer }
     ensures output { out.new ≡ (write_row values.now present.now out.old).output }
 {
     let number = record_rows::natural_at(values, present, 0);
     if number < 1021 {
-        return Written {
-            refusal: RANGE,
-            length: 0,
-        };
+        return Err(Refusal::Range);
     }
     if 1027 < number {
-        return Written {
-            refusal: RANGE,
-            length: 0,
-        };
+        return Err(Refusal::Range);
     }
     let n = record_rows::counter_at(values, present, 1);
     let m = record_rows::counter_at(values, present, 2 + n);
@@ -228,28 +219,19 @@ pub fn write_kind(
     lo: u64,
     hi: u64,
     out: &mut [u8],
-) -> Written
-    ensures answer { result ≡ (write_kind lo hi good values.now present.now out.old).answer }
+) -> Result<usize, Refusal>
+    ensures answer { as_written result ≡ (write_kind lo hi good values.now present.now out.old).answer }
     ensures output { out.new ≡ (write_kind lo hi good values.now present.now out.old).output }
 {
     if !good {
-        return Written {
-            refusal: RANGE,
-            length: 0,
-        };
+        return Err(Refusal::Range);
     }
     let number = record_rows::natural_at(values, present, 0);
     if number < lo {
-        return Written {
-            refusal: RANGE,
-            length: 0,
-        };
+        return Err(Refusal::Range);
     }
     if hi < number {
-        return Written {
-            refusal: RANGE,
-            length: 0,
-        };
+        return Err(Refusal::Range);
     }
     write_row(values, present, out)
 }

@@ -1,10 +1,8 @@
 -- The records of messages 1023 and 1024, from the row of a message and back: v k is what place k says in wire order, DF002 standing at place 0.
 -- A signed field of a record is what it says, a value or none; an unsigned one is a number.
 -- Assumes nothing.
-use Rattle.std.specs.Prelude.{ℕ, ◌+◌, ◌*◌, List, [], ◌∷◌, ◌++◌}
+use Rattle.std.specs.Prelude.{ℕ, ◌+◌, ◌*◌, List, [], ◌∷◌, ◌++◌, ℤ, Option, Some}
 use Rattle.arith.specs.Lists.{up_to}
-use Rattle.field.specs.declared.Reading.{Reading}
-use Rattle.field.specs.declared.Reading.TheVariants.{Value}
 use Rattle.record_rows.specs.Numbers.{number_at, pair_at, pair_row}
 use Rattle.record_grids.specs.declared.Origin.{Origin}
 use Rattle.record_grids.specs.declared.Spacing.{Spacing}
@@ -15,35 +13,35 @@ use Rattle.record_grids.specs.declared.Settings.{Settings}
 -- ---- parts of records: from place k on, and as a row
 
 -- DF192 and DF193, or DF202 and DF203: DF203 is unsigned, and its row says a value in every message
-unfoldable pub origin_at : (ℕ → Reading) → ℕ → Origin
+unfoldable pub origin_at : (ℕ → Option ℤ) → ℕ → Origin
 origin_at v k = record { north = v k; east = v (k + 1) }
 
-unfoldable pub origin_row : Origin → List Reading
+unfoldable pub origin_row : Origin → List (Option ℤ)
 origin_row r = r.north ∷ r.east ∷ []
 
-unfoldable pub spacing_at : (ℕ → Reading) → ℕ → Spacing
+unfoldable pub spacing_at : (ℕ → Option ℤ) → ℕ → Spacing
 spacing_at v k = record { north = number_at v k; east = number_at v (k + 1) }
 
-unfoldable pub spacing_row : Spacing → List Reading
-spacing_row r = Value r.north ∷ Value r.east ∷ []
+unfoldable pub spacing_row : Spacing → List (Option ℤ)
+spacing_row r = Some r.north ∷ Some r.east ∷ []
 
-unfoldable pub shifts_at : (ℕ → Reading) → ℕ → Shifts
+unfoldable pub shifts_at : (ℕ → Option ℤ) → ℕ → Shifts
 shifts_at v k = record { north = v k; east = v (k + 1); height = v (k + 2) }
 
-unfoldable pub shifts_row : Shifts → List Reading
+unfoldable pub shifts_row : Shifts → List (Option ℤ)
 shifts_row r = r.north ∷ r.east ∷ r.height ∷ []
 
 -- the sixteen nodes, three places each, from place k on
-unfoldable pub nodes_at : (ℕ → Reading) → ℕ → List Shifts
+unfoldable pub nodes_at : (ℕ → Option ℤ) → ℕ → List Shifts
 nodes_at v k = up_to (λ i. shifts_at v (k + 3 * i)) 16
 
-unfoldable pub nodes_row : List Shifts → List Reading
+unfoldable pub nodes_row : List Shifts → List (Option ℤ)
 nodes_row [] = []
 nodes_row (n ∷ ns) = shifts_row n ++ nodes_row ns
 
 -- ---- the record
 
-unfoldable pub grid_of : (ℕ → Reading) → Grid
+unfoldable pub grid_of : (ℕ → Option ℤ) → Grid
 grid_of v =
     record {
       number = number_at v 0;
@@ -58,9 +56,9 @@ grid_of v =
       day = number_at v 63;
     }
 
-unfoldable pub grid_row : Grid → List Reading
+unfoldable pub grid_row : Grid → List (Option ℤ)
 grid_row r =
-    (Value r.number ∷ Value r.sin ∷ [])
+    (Some r.number ∷ Some r.sin ∷ [])
     ++ pair_row r.indicators
     ++ origin_row r.origin
     ++ spacing_row r.spacing
@@ -68,7 +66,7 @@ grid_row r =
     ++ nodes_row r.nodes
     ++ pair_row r.methods
     ++ pair_row r.quality
-    ++ (Value r.day ∷ [])
+    ++ (Some r.day ∷ [])
 
 -- ---- what a grid says besides its shifts
 

@@ -7,16 +7,15 @@ ghost use Rattle.record_rows.specs.Numbers.{says, values_of, present_of};
 ghost use Rattle.record_rows.specs.Inner.{buffers, numbers};
 ghost use Rattle.record_rows.specs.Private.{Appended};
 ghost use Rattle.record_grids.specs.Grids.{origin_at, spacing_at, shifts_at, shifts_row, nodes_at, nodes_row, grid_of, grid_row, settings_of};
-ghost use Rattle.record_grids.specs.Private.{start_row, start_marks, end_row};
+ghost use Rattle.record_grids.specs.Private.{start_row, end_row};
 
-use field::Reading;
-use record_rows::{Numbers, Pair};
+use record_rows::{Pair, Row};
 
 // The middle of a grid, north-south and east-west: DF192 and DF193 in a 1023, DF202 and DF203 in a 1024.
 #[derive(Clone, Copy)]
 pub struct Origin {
-    pub north: Reading, // DF192, DF202
-    pub east: Reading, // DF193, DF203
+    pub north: Option<i64>, // DF192, DF202
+    pub east: Option<i64>, // DF193, DF203
 }
 
 // The spacing of neighbouring nodes, north-south and east-west.
@@ -29,9 +28,9 @@ pub struct Spacing {
 // A shift of three components: the mean, DF196 to DF198 or DF206 to DF208, or a node.
 #[derive(Clone, Copy)]
 pub struct Shifts {
-    pub north: Reading, // DF196, DF206; of a node DF199, DF209
-    pub east: Reading, // DF197, DF207; of a node DF200, DF210
-    pub height: Reading, // DF198, DF208; of a node DF201, DF211
+    pub north: Option<i64>, // DF196, DF206; of a node DF199, DF209
+    pub east: Option<i64>, // DF197, DF207; of a node DF200, DF210
+    pub height: Option<i64>, // DF198, DF208; of a node DF201, DF211
 }
 
 // 1023 and 1024. Nodes 1 to 16 stand in rows of four, west to east, the northern row first.
@@ -57,22 +56,6 @@ pub struct Settings {
     pub origin: Origin,
     pub spacing: Spacing,
     pub methods: Pair, // DF212, DF213
-}
-
-// Values into dst from place `at` on, where there is room: the place behind them.
-fn append(dst: &mut [i64], at: usize, src: &[i64]) -> usize
-    requires { at + length src.now ≤ length dst.old }
-    ensures { Appended dst.old at src.now result dst.new }
-{
-    record_rows::append(dst, at, src)
-}
-
-// The same of presence bytes.
-fn append_bytes(dst: &mut [u8], at: usize, src: &[u8]) -> usize
-    requires { at + length src.now ≤ length dst.old }
-    ensures { Appended dst.old at src.now result dst.new }
-{
-    record_rows::append_bytes(dst, at, src)
 }
 
 fn origin_at(values: &[i64; 96], present: &[u8; 96], k: usize) -> Origin
@@ -111,9 +94,9 @@ fn nodes_at(values: &[i64; 96], present: &[u8; 96], k: usize) -> [Shifts; 16]
     ensures { result ≡ nodes_at (says (row_of values.now present.now)) k }
 {
     let mut nodes = [Shifts {
-        north: Reading::Value(0),
-        east: Reading::Value(0),
-        height: Reading::Value(0),
+        north: Some(0),
+        east: Some(0),
+        height: Some(0),
     }; 16];
     for i in 0..16 {
         nodes[i] = shifts_at(values, present, k + 3 * i);
@@ -139,59 +122,32 @@ pub fn grid_of(values: &[i64; 96], present: &[u8; 96]) -> Grid
     }
 }
 
-fn shifts_values(r: Shifts) -> [i64; 3]
-    ensures { result ≡ values_of (shifts_row r) }
-{
-    let north = r.north;
-    let east = r.east;
-    let height = r.height;
-    [
-        layout::value_in(north),
-        layout::value_in(east),
-        layout::value_in(height),
-    ]
-}
-
-fn shifts_present(r: Shifts) -> [u8; 3]
-    ensures { result ≡ present_of (shifts_row r) }
-{
-    let north = r.north;
-    let east = r.east;
-    let height = r.height;
-    [
-        layout::present_in(north),
-        layout::present_in(east),
-        layout::present_in(height),
-    ]
-}
-
 // A node into both buffers from place `at` on: the place behind it.
 fn append_shifts(values: &mut [i64], present: &mut [u8], at: usize, r: Shifts) -> usize
     requires { (at + 3 ≤ length values.old) × (at + 3 ≤ length present.old) }
     ensures values { Appended values.old at (values_of (shifts_row r)) result values.new }
     ensures present { Appended present.old at (present_of (shifts_row r)) result present.new }
 {
-    let v = shifts_values(r);
-    append(values, at, &v);
-    let p = shifts_present(r);
-    append_bytes(present, at, &p)
+    let places = [r.north, r.east, r.height];
+    record_rows::append(values, at, &places.map(layout::value_in));
+    record_rows::append(present, at, &places.map(layout::present_in))
 }
 
 // The nodes into both buffers from place `at` on: the place behind them.
-fn append_nodes(values: &mut [i64], present: &mut [u8], at: usize, nodes: [Shifts; 16]) -> usize
+fn append_nodes(values: &mut [i64], present: &mut [u8], at: usize, nodes: &[Shifts; 16]) -> usize
     requires { (at + 48 ≤ length values.old) × (at + 48 ≤ length present.old) }
-    ensures values { Appended values.old at (values_of (nodes_row nodes)) result values.new }
-    ensures present { Appended present.old at (present_of (nodes_row nodes)) result present.new }
+    ensures values { Appended values.old at (values_of (nodes_row nodes.now)) result values.new }
+    ensures present { Appended present.old at (present_of (nodes_row nodes.now)) result present.new }
     ensures place { result ≤ at + 48 }
 {
     let mut place = at;
-    for i in 0..16 {
-        place = append_shifts(values, present, place, nodes[i]);
+    for node in nodes {
+        place = append_shifts(values, present, place, *node);
     }
     place
 }
 
-// The values of a grid before its nodes.
+// What the places of a grid before its nodes say.
 fn start_row(
     number: i64,
     sin: i64,
@@ -199,50 +155,21 @@ fn start_row(
     origin: Origin,
     spacing: Spacing,
     mean: Shifts,
-) -> [i64; 11]
-    ensures { result ≡ values_of (start_row number sin indicators origin spacing mean) }
+) -> [Option<i64>; 11]
+    ensures { result ≡ start_row number sin indicators origin spacing mean }
 {
-    let latitude = origin.north;
-    let longitude = origin.east;
-    let north = mean.north;
-    let east = mean.east;
-    let height = mean.height;
     [
-        number,
-        sin,
-        indicators.horizontal,
-        indicators.vertical,
-        layout::value_in(latitude),
-        layout::value_in(longitude),
-        spacing.north,
-        spacing.east,
-        layout::value_in(north),
-        layout::value_in(east),
-        layout::value_in(height),
-    ]
-}
-
-// Their presence bytes.
-fn start_present(origin: Origin, mean: Shifts) -> [u8; 11]
-    ensures { result ≡ start_marks origin mean }
-{
-    let latitude = origin.north;
-    let longitude = origin.east;
-    let north = mean.north;
-    let east = mean.east;
-    let height = mean.height;
-    [
-        1,
-        1,
-        1,
-        1,
-        layout::present_in(latitude),
-        layout::present_in(longitude),
-        1,
-        1,
-        layout::present_in(north),
-        layout::present_in(east),
-        layout::present_in(height),
+        Some(number),
+        Some(sin),
+        Some(indicators.horizontal),
+        Some(indicators.vertical),
+        origin.north,
+        origin.east,
+        Some(spacing.north),
+        Some(spacing.east),
+        mean.north,
+        mean.east,
+        mean.height,
     ]
 }
 
@@ -260,54 +187,45 @@ fn end_row(methods: Pair, quality: Pair, day: i64) -> [i64; 5]
 }
 
 // The nodes between the values before and behind them. All behind them are present.
-fn numbers_around(start: &[i64], presence: &[u8], nodes: [Shifts; 16], end: &[i64]) -> Numbers
+fn numbers_around(start: &[i64], presence: &[u8], nodes: &[Shifts; 16], end: &[i64]) -> Option<Row>
     requires { (length start.now ≡ length presence.now) × (length start.now + length end.now ≤ 48) }
-    ensures { result ≡ buffers true (start.now ++ values_of (nodes_row nodes) ++ end.now) (presence.now ++ present_of (nodes_row nodes) ++ replicate (length end.now) 1) }
+    ensures { result ≡ buffers true (start.now ++ values_of (nodes_row nodes.now) ++ end.now) (presence.now ++ present_of (nodes_row nodes.now) ++ replicate (length end.now) 1) }
 {
     let mut values = [0i64; 96];
     let mut present = [1u8; 96];
-    append(&mut values, 0, start);
-    let a = append_bytes(&mut present, 0, presence);
+    record_rows::append(&mut values, 0, start);
+    let a = record_rows::append(&mut present, 0, presence);
     let b = append_nodes(&mut values, &mut present, a, nodes);
-    let count = append(&mut values, b, end);
-    Numbers {
-        good: true,
+    let count = record_rows::append(&mut values, b, end);
+    Some(Row {
         count,
         values,
         present,
-    }
+    })
 }
 
 // The row of a 1023 or 1024.
-pub fn grid_row(r: Grid) -> Numbers
+pub fn grid_row(r: Grid) -> Option<Row>
     ensures { result ≡ numbers true (grid_row r) }
 {
-    let indicators = r.indicators;
-    let origin = r.origin;
-    let spacing = r.spacing;
-    let mean = r.mean;
-    let nodes = r.nodes;
-    let methods = r.methods;
-    let quality = r.quality;
-    let start = start_row(r.number, r.sin, indicators, origin, spacing, mean);
-    let presence = start_present(origin, mean);
-    let end = end_row(methods, quality, r.day);
-    numbers_around(&start, &presence, nodes, &end)
+    let start = start_row(r.number, r.sin, r.indicators, r.origin, r.spacing, r.mean);
+    numbers_around(
+        &start.map(layout::value_in),
+        &start.map(layout::present_in),
+        &r.nodes,
+        &end_row(r.methods, r.quality, r.day),
+    )
 }
 
 // What a grid says besides its shifts, its quality and its day.
 pub fn settings_of(r: Grid) -> Settings
     ensures { result ≡ settings_of r }
 {
-    let indicators = r.indicators;
-    let origin = r.origin;
-    let spacing = r.spacing;
-    let methods = r.methods;
     Settings {
         number: r.number,
-        indicators,
-        origin,
-        spacing,
-        methods,
+        indicators: r.indicators,
+        origin: r.origin,
+        spacing: r.spacing,
+        methods: r.methods,
     }
 }

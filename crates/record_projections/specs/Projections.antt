@@ -1,15 +1,13 @@
 -- The records of messages 1025, 1026 and 1027, from the row of a message and back: v k is what place k says in wire order, DF002 standing at place 0.
 -- A signed field of a record is what it says, a value or none; an unsigned one is a number.
 -- Assumes nothing.
-use Rattle.std.specs.Prelude.{ℕ, List, [], ◌∷◌}
-use Rattle.field.specs.declared.Reading.{Reading}
-use Rattle.field.specs.declared.Reading.TheVariants.{Value}
+use Rattle.std.specs.Prelude.{ℕ, List, [], ◌∷◌, ℤ, Option, Some}
 use Rattle.record_rows.specs.Numbers.{number_at}
 use Rattle.record_projections.specs.declared.Projection.{Projection}
 use Rattle.record_projections.specs.declared.Lambert.{Lambert}
 use Rattle.record_projections.specs.declared.ObliqueMercator.{ObliqueMercator}
 
-unfoldable pub projection_of : (ℕ → Reading) → Projection
+unfoldable pub projection_of : (ℕ → Option ℤ) → Projection
 projection_of v =
     record {
       number = number_at v 0;
@@ -22,11 +20,11 @@ projection_of v =
       northing = v 7;
     }
 
-unfoldable pub projection_row : Projection → List Reading
+unfoldable pub projection_row : Projection → List (Option ℤ)
 projection_row r =
-    Value r.number ∷ Value r.sin ∷ Value r.projection ∷ r.latitude ∷ r.longitude ∷ Value r.scale ∷ Value r.easting ∷ r.northing ∷ []
+    Some r.number ∷ Some r.sin ∷ Some r.projection ∷ r.latitude ∷ r.longitude ∷ Some r.scale ∷ Some r.easting ∷ r.northing ∷ []
 
-unfoldable pub lambert_of : (ℕ → Reading) → Lambert
+unfoldable pub lambert_of : (ℕ → Option ℤ) → Lambert
 lambert_of v =
     record {
       number = number_at v 0;
@@ -40,11 +38,11 @@ lambert_of v =
       northing = v 8;
     }
 
-unfoldable pub lambert_row : Lambert → List Reading
+unfoldable pub lambert_row : Lambert → List (Option ℤ)
 lambert_row r =
-    Value r.number ∷ Value r.sin ∷ Value r.projection ∷ r.latitude ∷ r.longitude ∷ r.parallel1 ∷ r.parallel2 ∷ Value r.easting ∷ r.northing ∷ []
+    Some r.number ∷ Some r.sin ∷ Some r.projection ∷ r.latitude ∷ r.longitude ∷ r.parallel1 ∷ r.parallel2 ∷ Some r.easting ∷ r.northing ∷ []
 
-unfoldable pub oblique_mercator_of : (ℕ → Reading) → ObliqueMercator
+unfoldable pub oblique_mercator_of : (ℕ → Option ℤ) → ObliqueMercator
 oblique_mercator_of v =
     record {
       number = number_at v 0;
@@ -60,17 +58,17 @@ oblique_mercator_of v =
       northing = v 10;
     }
 
-unfoldable pub oblique_mercator_row : ObliqueMercator → List Reading
+unfoldable pub oblique_mercator_row : ObliqueMercator → List (Option ℤ)
 oblique_mercator_row r =
-    Value r.number
-    ∷ Value r.sin
-    ∷ Value r.projection
-    ∷ Value r.rectified
+    Some r.number
+    ∷ Some r.sin
+    ∷ Some r.projection
+    ∷ Some r.rectified
     ∷ r.latitude
     ∷ r.longitude
-    ∷ Value r.azimuth
+    ∷ Some r.azimuth
     ∷ r.difference
-    ∷ Value r.scale
-    ∷ Value r.easting
+    ∷ Some r.scale
+    ∷ Some r.easting
     ∷ r.northing
     ∷ []

@@ -7,8 +7,7 @@ ghost use Rattle.record_rows.specs.Numbers.{says};
 ghost use Rattle.record_rows.specs.Inner.{numbers};
 ghost use Rattle.record_projections.specs.Projections.{projection_of, projection_row, lambert_of, lambert_row, oblique_mercator_of, oblique_mercator_row};
 
-use field::Reading;
-use record_rows::Numbers;
+use record_rows::Row;
 
 // 1025.
 #[derive(Clone, Copy)]
@@ -16,11 +15,11 @@ pub struct Projection {
     pub number: i64, // DF002
     pub sin: i64, // DF147
     pub projection: i64, // DF170
-    pub latitude: Reading, // DF171
-    pub longitude: Reading, // DF172
+    pub latitude: Option<i64>, // DF171
+    pub longitude: Option<i64>, // DF172
     pub scale: i64, // DF173
     pub easting: i64, // DF174
-    pub northing: Reading, // DF175
+    pub northing: Option<i64>, // DF175
 }
 
 // 1026.
@@ -29,12 +28,12 @@ pub struct Lambert {
     pub number: i64, // DF002
     pub sin: i64, // DF147
     pub projection: i64, // DF170
-    pub latitude: Reading, // DF176
-    pub longitude: Reading, // DF177
-    pub parallel1: Reading, // DF178
-    pub parallel2: Reading, // DF179
+    pub latitude: Option<i64>, // DF176
+    pub longitude: Option<i64>, // DF177
+    pub parallel1: Option<i64>, // DF178
+    pub parallel2: Option<i64>, // DF179
     pub easting: i64, // DF180
-    pub northing: Reading, // DF181
+    pub northing: Option<i64>, // DF181
 }
 
 // 1027.
@@ -44,13 +43,13 @@ pub struct ObliqueMercator {
     pub sin: i64, // DF147
     pub projection: i64, // DF170
     pub rectified: i64, // DF182
-    pub latitude: Reading, // DF183
-    pub longitude: Reading, // DF184
+    pub latitude: Option<i64>, // DF183
+    pub longitude: Option<i64>, // DF184
     pub azimuth: i64, // DF185
-    pub difference: Reading, // DF186
+    pub difference: Option<i64>, // DF186
     pub scale: i64, // DF187
     pub easting: i64, // DF188
-    pub northing: Reading, // DF189
+    pub northing: Option<i64>, // DF189
 }
 
 // 1025 from the row of a message.
@@ -106,102 +105,65 @@ pub fn oblique_mercator_of(values: &[i64; 96], present: &[u8; 96]) -> ObliqueMer
 }
 
 // The row of a 1025.
-pub fn projection_row(r: Projection) -> Numbers
+pub fn projection_row(r: Projection) -> Option<Row>
     ensures { result ≡ numbers true (projection_row r) }
 {
-    let latitude = r.latitude;
-    let longitude = r.longitude;
-    let northing = r.northing;
-    let values = [
-        r.number,
-        r.sin,
-        r.projection,
-        layout::value_in(latitude),
-        layout::value_in(longitude),
-        r.scale,
-        r.easting,
-        layout::value_in(northing),
+    let places = [
+        Some(r.number),
+        Some(r.sin),
+        Some(r.projection),
+        r.latitude,
+        r.longitude,
+        Some(r.scale),
+        Some(r.easting),
+        r.northing,
     ];
-    let present = [
-        1,
-        1,
-        1,
-        layout::present_in(latitude),
-        layout::present_in(longitude),
-        1,
-        1,
-        layout::present_in(northing),
-    ];
-    record_rows::numbers_of(&values, &present)
+    record_rows::numbers_of(
+        &places.map(layout::value_in),
+        &places.map(layout::present_in),
+    )
 }
 
 // The row of a 1026.
-pub fn lambert_row(r: Lambert) -> Numbers
+pub fn lambert_row(r: Lambert) -> Option<Row>
     ensures { result ≡ numbers true (lambert_row r) }
 {
-    let latitude = r.latitude;
-    let longitude = r.longitude;
-    let parallel1 = r.parallel1;
-    let parallel2 = r.parallel2;
-    let northing = r.northing;
-    let values = [
-        r.number,
-        r.sin,
-        r.projection,
-        layout::value_in(latitude),
-        layout::value_in(longitude),
-        layout::value_in(parallel1),
-        layout::value_in(parallel2),
-        r.easting,
-        layout::value_in(northing),
+    let places = [
+        Some(r.number),
+        Some(r.sin),
+        Some(r.projection),
+        r.latitude,
+        r.longitude,
+        r.parallel1,
+        r.parallel2,
+        Some(r.easting),
+        r.northing,
     ];
-    let present = [
-        1,
-        1,
-        1,
-        layout::present_in(latitude),
-        layout::present_in(longitude),
-        layout::present_in(parallel1),
-        layout::present_in(parallel2),
-        1,
-        layout::present_in(northing),
-    ];
-    record_rows::numbers_of(&values, &present)
+    record_rows::numbers_of(
+        &places.map(layout::value_in),
+        &places.map(layout::present_in),
+    )
 }
 
 // The row of a 1027.
-pub fn oblique_mercator_row(r: ObliqueMercator) -> Numbers
+pub fn oblique_mercator_row(r: ObliqueMercator) -> Option<Row>
     ensures { result ≡ numbers true (oblique_mercator_row r) }
 {
-    let latitude = r.latitude;
-    let longitude = r.longitude;
-    let difference = r.difference;
-    let northing = r.northing;
-    let values = [
-        r.number,
-        r.sin,
-        r.projection,
-        r.rectified,
-        layout::value_in(latitude),
-        layout::value_in(longitude),
-        r.azimuth,
-        layout::value_in(difference),
-        r.scale,
-        r.easting,
-        layout::value_in(northing),
+    let places = [
+        Some(r.number),
+        Some(r.sin),
+        Some(r.projection),
+        Some(r.rectified),
+        r.latitude,
+        r.longitude,
+        Some(r.azimuth),
+        r.difference,
+        Some(r.scale),
+        Some(r.easting),
+        r.northing,
     ];
-    let present = [
-        1,
-        1,
-        1,
-        1,
-        layout::present_in(latitude),
-        layout::present_in(longitude),
-        1,
-        layout::present_in(difference),
-        1,
-        1,
-        layout::present_in(northing),
-    ];
-    record_rows::numbers_of(&values, &present)
+    record_rows::numbers_of(
+        &places.map(layout::value_in),
+        &places.map(layout::present_in),
+    )
 }

@@ -12,7 +12,8 @@ use lib.Seq.{paste, length-paste, paste-zero, take-length}
 use Rattle.arith.specs.Inner.{padded}
 use Rattle.arith.proofs.Store.{paste-paste}
 use Rattle.arith.proofs.Lists.{drop-replicate}
-use Rattle.record_rows.specs.declared.Numbers.{Numbers}
+use Rattle.std.specs.Prelude.{Option, Some}
+use Rattle.record_rows.specs.declared.Row.{Row}
 use Rattle.record_rows.specs.Inner.{present_padded, buffers, appended, place_behind}
 use Rattle.record_rows.specs.Private.{Appended}
 
@@ -77,19 +78,18 @@ paste-filled {A} n x s =
     ap (λ (l : List A). l ++ drop (0 + length s) (replicate n x)) (take-length s)
     ∙ ap (λ (l : List A). s ++ l) (drop-replicate n (0 + length s) x ∙ ap (λ (m : ℕ). replicate m x) e)
 
-pub none : (g : Bool) (z : List ℤ) (b : List ℕ) {n : Numbers} → n ≡ buffers false [] [] → g ≡ false → n ≡ buffers g z b
+pub none : (g : Bool) (z : List ℤ) (b : List ℕ) {n : Option Row} → n ≡ buffers false [] [] → g ≡ false → n ≡ buffers g z b
 unfolding buffers
 none g z b p q = p ∙ rw q
 
 -- values from place 0 of 96 zeros on, and presence bytes from place 0 of 96 ones on
 pub all-good : (z : List ℤ) (b : List ℕ) {k l : ℕ} {e : List ℤ} {f : List ℕ} → Appended (padded []) 0 z k e → Appended (present_padded []) 0 b l f
-    → ◌≡◌ {A = Numbers} (record { good = true; count = k; values = e; present = f }) (buffers true z b)
+    → ◌≡◌ {A = Option Row} (Some (record { count = k; values = e; present = f })) (buffers true z b)
 unfolding buffers padded present_padded
 all-good z b {k} {l} {e} {f} p q =
     let n : k ≡ length z = omega (arith, p.place) in
-    λ i. record {
-      good = true;
+    λ i. Some (record {
       count = n i;
       values = (p.stored ∙ paste-filled 96 (pos 0) z) i;
       present = (q.stored ∙ paste-filled 96 1 b) i;
-    }
+    })

@@ -1,14 +1,12 @@
 // What the records of all messages share over a row, two buffers side by side: what a place says, numbers, a pair of indicators and counters.
 #![tactic(auto)]
 
-ghost use Rattle.std.specs.Prelude.{◌≡◌, false, ◌&&◌, [], ◌+◌, ◌≤◌, leb, eqb, length};
+ghost use Rattle.std.specs.Prelude.{◌≡◌, false, ◌&&◌, [], ◌+◌, ◌≤◌, leb, eqb, length, take};
 ghost use Rattle.arith.specs.Whole.{natural};
 ghost use Rattle.layout.specs.Layout.{row_of};
 ghost use Rattle.record_rows.specs.Numbers.{says, number_at, counter_at, pair_at};
 ghost use Rattle.record_rows.specs.Inner.{buffers, numbers, appended, place_behind};
 ghost use Rattle.record_rows.specs.Private.{Appended};
-
-use field::Reading;
 
 // An indicator for the horizontal and one for the vertical: DF190 and DF191, DF212 and DF213, DF214 and DF215, DF216 and DF217.
 #[derive(Clone, Copy)]
@@ -18,14 +16,14 @@ pub struct Pair {
 }
 
 // What place k of a row says, the value 0 behind its end.
-pub fn says_at(values: &[i64], present: &[u8], k: usize) -> Reading
+pub fn says_at(values: &[i64], present: &[u8], k: usize) -> Option<i64>
     ensures { result ≡ says (row_of values.now present.now) k }
 {
     if values.len() <= k {
-        return Reading::Value(0);
+        return Some(0);
     }
     if present.len() <= k {
-        return Reading::Value(0);
+        return Some(0);
     }
     layout::reading_in(values[k], present[k])
 }
@@ -42,15 +40,13 @@ pub fn natural_at(values: &[i64], present: &[u8], k: usize) -> u64
     ensures { result ≡ natural (number_at (says (row_of values.now present.now)) k) }
 {
     let z = number_at(values, present, k);
-    if z < 0 {
-        return 0;
-    }
-    z as u64
+    z.max(0) as u64
 }
 
 // A name counter at place k of a row, 0 where no counter has that value.
 pub fn counter_at(values: &[i64], present: &[u8], k: usize) -> usize
-    ensures { result ≡ counter_at (says (row_of values.now present.now)) k }
+    ensures value { result ≡ counter_at (says (row_of values.now present.now)) k }
+    ensures upper_bound { result ≤ 31 }
 {
     let n = natural_at(values, present, k);
     if 31 < n {
@@ -77,101 +73,75 @@ pub fn pair_at(values: &[i64], present: &[u8], k: usize) -> Pair
 
 // The row of a record in two buffers side by side, and one list stored in another.
 
-// The row of a record in both buffers: how many places, and behind them values 0 that are present. A record with a bad name has none.
+// The row of a record in both buffers: how many places, and behind them values 0 that are present.
 #[derive(Clone, Copy)]
-pub struct Numbers {
-    pub good: bool,
+pub struct Row {
     pub count: usize,
     pub values: [i64; 96],
     pub present: [u8; 96],
 }
 
-// src into dst from place `at` on, where there is room: the place behind it.
-fn store(dst: &mut [i64], at: usize, src: &[i64]) -> usize
-    requires { at + length src.now ≤ length dst.old }
-    ensures { Appended dst.old at src.now result dst.new }
-{
-    let mut k: usize = 0;
-    while k < src.len() {
-        let i = at + k;
-        dst[i] = src[k];
-        k += 1;
+impl Row {
+    // The values of its places.
+    pub fn values(&self) -> &[i64]
+        ensures { result.now ≡ take self.now.count self.now.values }
+    {
+        &self.values[..self.count.min(96)]
     }
-    at + k
+
+    // Their presence bytes.
+    pub fn present(&self) -> &[u8]
+        ensures { result.now ≡ take self.now.count self.now.present }
+    {
+        &self.present[..self.count.min(96)]
+    }
 }
 
-// The same of bytes.
-fn store_bytes(dst: &mut [u8], at: usize, src: &[u8]) -> usize
+// src into dst from place `at` on, where there is room: the place behind it.
+fn store<T: Copy>(dst: &mut [T], at: usize, src: &[T]) -> usize
     requires { at + length src.now ≤ length dst.old }
     ensures { Appended dst.old at src.now result dst.new }
 {
-    let mut k: usize = 0;
-    while k < src.len() {
-        let i = at + k;
-        dst[i] = src[k];
-        k += 1;
-    }
-    at + k
+    let end = at + src.len();
+    dst[at..end].copy_from_slice(src);
+    end
 }
 
 // src into dst from place `at` on: the place behind it. Where dst has no room for it, nothing is stored.
-pub fn append(dst: &mut [i64], at: usize, src: &[i64]) -> usize
+#[tactic(auto, unfolding(crate::specs::Inner::appended, crate::specs::Inner::place_behind))]
+pub fn append<T: Copy>(dst: &mut [T], at: usize, src: &[T]) -> usize
     ensures answer { result ≡ place_behind dst.old at src.now }
     ensures output { dst.new ≡ appended dst.old at src.now }
 {
-    if dst.len() < src.len() {
-        return at;
-    }
-    if dst.len() - src.len() < at {
+    if dst.len() < src.len() || dst.len() - src.len() < at {
         return at;
     }
     store(dst, at, src)
 }
 
-// The same of presence bytes.
-pub fn append_bytes(dst: &mut [u8], at: usize, src: &[u8]) -> usize
-    ensures answer { result ≡ place_behind dst.old at src.now }
-    ensures output { dst.new ≡ appended dst.old at src.now }
-{
-    if dst.len() < src.len() {
-        return at;
-    }
-    if dst.len() - src.len() < at {
-        return at;
-    }
-    store_bytes(dst, at, src)
-}
-
 // The answer of a record with a bad name.
-pub fn no_numbers() -> Numbers
+#[tactic(auto, unfolding(crate::specs::Inner::buffers))]
+pub fn no_numbers() -> Option<Row>
     ensures { result ≡ numbers false [] }
 {
-    Numbers {
-        good: false,
-        count: 0,
-        values: [0i64; 96],
-        present: [1u8; 96],
-    }
+    None
 }
 
 // The answer of a record that is one row: none for buffers of different counts, and for more places than any message has.
-pub fn numbers_of(values: &[i64], present: &[u8]) -> Numbers
+#[tactic(auto, unfolding(crate::specs::Inner::buffers))]
+pub fn numbers_of(values: &[i64], present: &[u8]) -> Option<Row>
     ensures { result ≡ buffers (eqb (length values.now) (length present.now) && leb (length values.now) 96) values.now present.now }
 {
-    if values.len() != present.len() {
-        return no_numbers();
-    }
-    if 96 < values.len() {
-        return no_numbers();
+    if values.len() != present.len() || 96 < values.len() {
+        return None;
     }
     let mut v = [0i64; 96];
     let mut p = [1u8; 96];
     let count = store(&mut v, 0, values);
-    store_bytes(&mut p, 0, present);
-    Numbers {
-        good: true,
+    store(&mut p, 0, present);
+    Some(Row {
         count,
         values: v,
         present: p,
-    }
+    })
 }

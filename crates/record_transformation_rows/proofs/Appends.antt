@@ -8,22 +8,20 @@ use native.Mathlib.Nat.{not-suc-le-zero, le_of_suc-le-suc, sub-zero, suc-sub-suc
 use native.Mathlib.Omega.{arith}
 use lib.IntN.{ℤ, pos}
 use lib.ListN.{length, length-map, length-replicate, replicate}
+use Rattle.std.specs.Prelude.{Option, Some}
 use Rattle.arith.specs.Lists.{up_to}
 use Rattle.arith.specs.Inner.{padded}
 use Rattle.arith.proofs.Lists.{length-up_to}
 use Rattle.arith.proofs.Tests.{both_first, both-second}
-use Rattle.field.specs.declared.Reading.{Reading}
 use Rattle.layout.specs.Layout.{value_in, present_in}
-use Rattle.record_rows.specs.declared.Numbers.{Numbers}
-use Rattle.record_rows.specs.declared.Pair.{Pair}
+use Rattle.record_rows.specs.declared.Row.{Row}
 use Rattle.record_rows.specs.Private.{Appended}
-use Rattle.record_rows.specs.Numbers.{pair_row, values_of, present_of}
+use Rattle.record_rows.specs.Numbers.{values_of, present_of}
 use Rattle.record_rows.specs.Inner.{numbers, buffers, present_padded}
 use Rattle.record_rows.proofs.Appends.{behind, all-good, paste-filled}
 use Rattle.record_transformations.specs.declared.Name.{Name}
-use Rattle.record_transformations.specs.declared.Ellipsoids.{Ellipsoids}
-use Rattle.record_transformations.specs.Private.{names, last}
-use Rattle.record_transformations.specs.Transformations.{name_row, char_at, good_name, ellipsoids_row}
+use Rattle.record_transformations.specs.Private.{names}
+use Rattle.record_transformations.specs.Transformations.{name_row, char_at, good_name}
 use Rattle.record_transformations.proofs.Parts.{good_length, length-names}
 use Rattle.record_transformation_rows.specs.Private.{char_value}
 
@@ -106,18 +104,13 @@ good-lengths s t g = (good_length s (both_first (good_name s) (good_name t) g), 
 
 -- a row from place 0 of fresh buffers on
 pub answer : (g : Bool) {z : List ℤ} {b : List ℕ} {k l : ℕ} {e : List ℤ} {f : List ℕ} → g ≡ true → Appended (padded []) 0 z k e → Appended (present_padded []) 0 b l f
-    → ◌≡◌ {A = Numbers} (record { good = true; count = k; values = e; present = f }) (buffers g z b)
+    → ◌≡◌ {A = Option Row} (Some (record { count = k; values = e; present = f })) (buffers g z b)
 answer g {z} {b} p v w = all-good z b v w ∙ ap (λ (x : Bool). buffers x z b) (sym p)
 
 -- the buffers of a row in three parts
-pub three-parts : (g : Bool) (y z : ℤ) (s t : Name) (a b : List Reading) {v w : List ℤ} {p q : List ℕ} {n : Numbers} → y ≡ z → v ≡ values_of a → w ≡ values_of b → p ≡ present_of a → q ≡ present_of b
+pub three-parts : (g : Bool) (y z : ℤ) (s t : Name) (a b : List (Option ℤ)) {v w : List ℤ} {p q : List ℕ} {n : Option Row} → y ≡ z → v ≡ values_of a → w ≡ values_of b → p ≡ present_of a → q ≡ present_of b
     → n ≡ buffers g (values_of (names y s t) ++ v ++ w) (present_of (names y s t) ++ p ++ q) → n ≡ numbers g (names z s t ++ a ++ b)
 three-parts g y z s t a b h k l m o e =
     e
     ∙ (λ i. buffers g (values_of (names (h i) s t) ++ k i ++ l i) (present_of (names (h i) s t) ++ m i ++ o i))
     ∙ (λ i. buffers g (joined value_in (names z s t) a b i) (joined present_in (names z s t) a b i))
-
--- the last six places say values
-pub ones-last : (e : Ellipsoids) (q : Pair) → replicate 6 1 ≡ present_of (last e q)
-unfolding ellipsoids_row pair_row
-ones-last e q = refl

@@ -1,5 +1,6 @@
 -- Each record of 1021 and 1022 and its row are each other's inverse.
 -- Assumes nothing.
+use Rattle.std.proofs.Common.{Option, Some}
 use Prim.Native.Nat.{ℕ, ◌+◌, ◌%◌, ◌≤◌, ◌<◌}
 use native.Mathlib.Nat.{add-zero, add_assoc}
 use native.Mathlib.Omega.{arith}
@@ -12,8 +13,6 @@ use lib.Seq.{get_or-append-add}
 use Rattle.arith.specs.Lists.{up_to}
 use Rattle.arith.specs.Whole.{natural}
 use Rattle.arith.proofs.Lists.{is-up_to}
-use Rattle.field.specs.declared.Reading.{Reading}
-use Rattle.field.specs.declared.Reading.TheVariants.{Value}
 use Rattle.layout.specs.Layout.{value_in}
 use Rattle.record_rows.specs.Numbers.{says, number_at, counter_at, pair_at, pair_row}
 use Rattle.record_rows.proofs.Rows.{all_of, Valued}
@@ -26,18 +25,18 @@ use Rattle.record_transformations.proofs.Parts.{length-name_row, length-names, h
 use Rattle.record_transformations.proofs.Names.{Bytes, part, name_at-good, name_in, counter-is, name_row-is, grow}
 
 -- any names that are read are good
-pub helmert-good : (v : ℕ → Reading) → (good_name (helmert_of v).source ≡ true) × (good_name (helmert_of v).target ≡ true)
+pub helmert-good : (v : ℕ → Option ℤ) → (good_name (helmert_of v).source ≡ true) × (good_name (helmert_of v).target ≡ true)
 unfolding helmert_of
 helmert-good v = (name_at-good v 1, name_at-good v (2 + counter_at v 1))
 
-pub molodenski-badekas-good : (v : ℕ → Reading) → (good_name (molodenski_badekas_of v).source ≡ true) × (good_name (molodenski_badekas_of v).target ≡ true)
+pub molodenski-badekas-good : (v : ℕ → Option ℤ) → (good_name (molodenski_badekas_of v).source ≡ true) × (good_name (molodenski_badekas_of v).target ≡ true)
 unfolding molodenski_badekas_of
 molodenski-badekas-good v = (name_at-good v 1, name_at-good v (2 + counter_at v 1))
 
 -- ---- from a row to its record and back
 
 -- the unsigned fields say values: DF002, and those behind the names, which end at place b; the ellipsoids begin d places behind it
-pub record Unsigned (v : ℕ → Reading) (b d : ℕ) : Type 0 where
+pub record Unsigned (v : ℕ → Option ℤ) (b d : ℕ) : Type 0 where
   pub number : Valued (v 0)
   pub sin : Valued (v (b + 0))
   pub messages : Valued (v (b + 1))
@@ -54,10 +53,10 @@ pub record Unsigned (v : ℕ → Reading) (b d : ℕ) : Type 0 where
   pub vertical : Valued (v (b + (d + 5)))
 
 -- the unsigned field at place k
-abbrev number : (ℕ → Reading) → ℕ → Reading
-number v k = Value (number_at v k)
+abbrev number : (ℕ → Option ℤ) → ℕ → Option ℤ
+number v k = Some (number_at v k)
 
-module _ (v : ℕ → Reading) (b d : ℕ) (u : Unsigned v b d) where
+module _ (v : ℕ → Option ℤ) (b d : ℕ) (u : Unsigned v b d) where
   shared-is : shared (system_at v b) (area_at v (b + 5)) (parameters_at v (b + 9)) ≡ part v b 16
   unfolding system_row system_at area_row area_at parameters_row parameters_at
   shared-is =
@@ -79,19 +78,19 @@ module _ (v : ℕ → Reading) (b d : ℕ) (u : Unsigned v b d) where
       ∙ sym (λ i. u.source-major i ∷ u.source-minor i ∷ u.target-major i ∷ u.target-minor i ∷ u.horizontal i ∷ u.vertical i ∷ [])
       ∙ f
 
-point-is : (v : ℕ → Reading) (b : ℕ) → point_row (point_at v b) ≡ part v b 3
+point-is : (v : ℕ → Option ℤ) (b : ℕ) → point_row (point_at v b) ≡ part v b 3
 unfolding point_row point_at
 point-is v b = simp add-zero
 
 module _
-    (v : List Reading)
+    (v : List (Option ℤ))
     (n m : ℕ)
     (small : n ≤ 31)
     (small' : m ≤ 31)
-    (p : says v 1 ≡ Value (pos n))
-    (q : says v (2 + n) ≡ Value (pos m))
-    (f : (j : ℕ) → j < n → Value (pos (natural (number_at (says v) (2 + j)) % 256)) ≡ says v (2 + j))
-    (g : (j : ℕ) → j < m → Value (pos (natural (number_at (says v) (3 + n + j)) % 256)) ≡ says v (3 + n + j))
+    (p : says v 1 ≡ Some (pos n))
+    (q : says v (2 + n) ≡ Some (pos m))
+    (f : (j : ℕ) → j < n → Some (pos (natural (number_at (says v) (2 + j)) % 256)) ≡ says v (2 + j))
+    (g : (j : ℕ) → j < m → Some (pos (natural (number_at (says v) (3 + n + j)) % 256)) ≡ says v (3 + n + j))
   where
     source-counter : counter_at (says v) 1 ≡ n
     source-counter = counter-is (says v) 1 n p small
@@ -109,7 +108,7 @@ module _
         let a = name_row-is w 1 n small p f in
         let b : name_row (name_at w (2 + n)) ≡ up_to (λ j. w (2 + n + j)) (1 + m) =
         name_row-is w (2 + n) m small' q
-        (λ j l. let z : 3 + n + j ≡ 2 + n + 1 + j = omega arith in subst (λ (k : ℕ). Value (pos (natural (number_at w k) % 256)) ≡ w k) z (g j l)) in
+        (λ j l. let z : 3 + n + j ≡ 2 + n + 1 + j = omega arith in subst (λ (k : ℕ). Some (pos (natural (number_at w k) % 256)) ≡ w k) z (g j l)) in
         grow w _ _ (2 + n) (1 + m) (2 + n) (3 + n + m)
         (grow w _ _ 1 (1 + n) 1 (2 + n) (λ i. sym z i ∷ []) a refl (omega arith))
         (ap (λ (k : ℕ). name_row (name_at w (2 + k))) source-counter ∙ b) refl (omega arith)
@@ -150,8 +149,8 @@ module _
 -- ---- from a record to its row and back
 
 -- a part of the places behind b is that part of the row
-module _ (v : ℕ → Reading) (b : ℕ) where
-  abbrev rest : ℕ → Reading
+module _ (v : ℕ → Option ℤ) (b : ℕ) where
+  abbrev rest : ℕ → Option ℤ
   rest j = v (b + j)
 
   system-rest : system_at v b ≡ system_at rest 0
@@ -178,14 +177,14 @@ module _ (v : ℕ → Reading) (b : ℕ) where
   unfolding pair_at
   pair-rest d = simp add_assoc
 
-three : (a b c d : List Reading) → a ++ b ++ c ++ d ≡ a ++ (b ++ (c ++ d))
+three : (a b c d : List (Option ℤ)) → a ++ b ++ c ++ d ≡ a ++ (b ++ (c ++ d))
 three a b c d = simp append_assoc
 
 -- a row v of two names, with a tail behind them
 module _
     (z : ℤ)
     (s t : Name)
-    (tail v : List Reading)
+    (tail v : List (Option ℤ))
     (d : v ≡ names z s t ++ tail)
     (long : length s.chars ≡ 31)
     (long' : length t.chars ≡ 31)
@@ -195,7 +194,7 @@ module _
     (good' : good_name t ≡ true)
   where
     source_is : name_at (says v) 1 ≡ s
-    source_is = name_in s long bytes good (Value z ∷ []) (name_row t ++ tail) v 1 (d ∙ three (Value z ∷ []) (name_row s) (name_row t) tail) refl
+    source_is = name_in s long bytes good (Some z ∷ []) (name_row t ++ tail) v 1 (d ∙ three (Some z ∷ []) (name_row s) (name_row t) tail) refl
 
     source-count : counter_at (says v) 1 ≡ s.length
     unfolding name_at
@@ -204,7 +203,7 @@ module _
     target_is : name_at (says v) (2 + counter_at (says v) 1) ≡ t
     target_is =
         ap (λ (k : ℕ). name_at (says v) (2 + k)) source-count
-        ∙ name_in t long' bytes' good' ((Value z ∷ []) ++ name_row s) tail v (2 + s.length) (d ∙ append_assoc ((Value z ∷ []) ++ name_row s) (name_row t) tail) (omega (arith, length-name_row s))
+        ∙ name_in t long' bytes' good' ((Some z ∷ []) ++ name_row s) tail v (2 + s.length) (d ∙ append_assoc ((Some z ∷ []) ++ name_row s) (name_row t) tail) (omega (arith, length-name_row s))
 
     target-count : counter_at (says v) (2 + counter_at (says v) 1) ≡ t.length
     unfolding name_at
@@ -216,17 +215,17 @@ module _
     tail-is : (c : ℕ) → length tail ≡ c → part (says v) (behind_names (says v)) c ≡ tail
     tail-is c e =
         sym
-        (is-up_to (λ j. says v (behind_names (says v) + j)) c (Value (pos 0)) tail e
+        (is-up_to (λ j. says v (behind_names (says v) + j)) c (Some (pos 0)) tail e
         (λ j l.
         sym
         (ap (λ (k : ℕ). says v (k + j)) behind-is
-        ∙ ap (λ (x : List Reading). says x (length (names z s t) + j)) d
-        ∙ get_or-append-add (names z s t) tail j (Value (pos 0)))))
+        ∙ ap (λ (x : List (Option ℤ)). says x (length (names z s t) + j)) d
+        ∙ get_or-append-add (names z s t) tail j (Some (pos 0)))))
 
-abbrev helmert_tail : Helmert → List Reading
+abbrev helmert_tail : Helmert → List (Option ℤ)
 helmert_tail r = shared r.system r.area r.parameters ++ last r.ellipsoids r.quality
 
-abbrev molodenski_badekas_tail : MolodenskiBadekas → List Reading
+abbrev molodenski_badekas_tail : MolodenskiBadekas → List (Option ℤ)
 molodenski_badekas_tail r = shared r.system r.area r.parameters ++ (point_row r.point ++ last r.ellipsoids r.quality)
 
 helmert-split : (r : Helmert) → helmert_row r ≡ names r.number r.source r.target ++ helmert_tail r

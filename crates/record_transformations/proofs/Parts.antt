@@ -1,5 +1,6 @@
 -- A row of a 1021 or 1022 is its parts, one behind another.
 -- Assumes nothing.
+use Rattle.std.proofs.Common.{Option}
 use Prim.Native.Nat.{◌+◌, ◌≤◌}
 use native.Mathlib.Omega.{arith}
 use mathlib.Core.Path.{◌≡◌}
@@ -12,7 +13,6 @@ use lib.ListN.{length, length-append}
 use Rattle.arith.specs.Lists.{all_below}
 use Rattle.arith.proofs.Tests.{both_first}
 use Rattle.arith.proofs.Lists.{length-up_to}
-use Rattle.field.specs.declared.Reading.{Reading}
 use Rattle.record_rows.specs.Numbers.{pair_row}
 use Rattle.record_transformations.specs.declared.Name.{Name}
 use Rattle.record_transformations.specs.declared.Helmert.{Helmert}
@@ -35,10 +35,10 @@ length-names z s t = omega (arith, length-append (name_row s) (name_row t), leng
 
 -- ---- rows
 
-five : (n a b c d e : List Reading) → n ++ (a ++ b ++ c) ++ (d ++ e) ≡ n ++ a ++ b ++ c ++ d ++ e
+five : (n a b c d e : List (Option ℤ)) → n ++ (a ++ b ++ c) ++ (d ++ e) ≡ n ++ a ++ b ++ c ++ d ++ e
 five n a b c d e = simp append_assoc
 
-six : (n a b c o d e : List Reading) → n ++ (a ++ b ++ c) ++ (o ++ (d ++ e)) ≡ n ++ a ++ b ++ c ++ o ++ d ++ e
+six : (n a b c o d e : List (Option ℤ)) → n ++ (a ++ b ++ c) ++ (o ++ (d ++ e)) ≡ n ++ a ++ b ++ c ++ o ++ d ++ e
 six n a b c o d e = simp append_assoc
 
 pub helmert-joined : (r : Helmert) → names r.number r.source r.target ++ shared r.system r.area r.parameters ++ last r.ellipsoids r.quality ≡ helmert_row r

@@ -1,11 +1,9 @@
 -- The records of messages 1021 and 1022, from the row of a message and back: v k is what place k says in wire order, DF002 standing at place 0.
 -- A signed field of a record is what it says, a value or none; an unsigned one is a number.
 -- Assumes nothing.
-use Rattle.std.specs.Prelude.{ℕ, ◌+◌, ◌-◌, ◌%◌, Bool, ◌&&◌, ◌||◌, List, [], ◌∷◌, ◌++◌, eqb, leb, ltb, length, get_or, replicate, pos}
+use Rattle.std.specs.Prelude.{ℕ, ◌+◌, ◌-◌, ◌%◌, Bool, ◌&&◌, ◌||◌, List, [], ◌∷◌, ◌++◌, eqb, leb, ltb, get_or, replicate, pos, ℤ, Option, Some}
 use Rattle.arith.specs.Lists.{up_to, all_below}
 use Rattle.arith.specs.Whole.{natural}
-use Rattle.field.specs.declared.Reading.{Reading}
-use Rattle.field.specs.declared.Reading.TheVariants.{Value}
 use Rattle.record_rows.specs.Numbers.{number_at, counter_at, pair_at, pair_row}
 use Rattle.record_transformations.specs.declared.Name.{Name}
 use Rattle.record_transformations.specs.declared.System.{System}
@@ -19,7 +17,7 @@ use Rattle.record_transformations.specs.declared.MolodenskiBadekas.{MolodenskiBa
 -- ---- names: "a length of 0 to 31, and its unused characters are zero"
 
 -- the name whose counter stands at place k, its characters behind it: each is its number modulo 256, and 0 for a negative number
-unfoldable pub name_at : (ℕ → Reading) → ℕ → Name
+unfoldable pub name_at : (ℕ → Option ℤ) → ℕ → Name
 name_at v k =
     record {
       length = counter_at v k;
@@ -27,11 +25,11 @@ name_at v k =
     }
 
 -- character j as a place of a row
-abbrev pub char_at : List ℕ → ℕ → Reading
-char_at chars j = Value (pos (get_or chars j 0))
+abbrev pub char_at : List ℕ → ℕ → Option ℤ
+char_at chars j = Some (pos (get_or chars j 0))
 
-unfoldable pub name_row : Name → List Reading
-name_row n = Value (pos n.length) ∷ up_to (char_at n.chars) n.length
+unfoldable pub name_row : Name → List (Option ℤ)
+name_row n = Some (pos n.length) ∷ up_to (char_at n.chars) n.length
 
 -- character j is used, or zero
 abbrev pub char_good : Name → ℕ → Bool
@@ -42,46 +40,46 @@ good_name n = leb n.length 31 && all_below (char_good n) 31
 
 -- ---- parts of records: from place k on, and as a row
 
-unfoldable pub system_at : (ℕ → Reading) → ℕ → System
+unfoldable pub system_at : (ℕ → Option ℤ) → ℕ → System
 system_at v k =
     record { sin = number_at v k; messages = number_at v (k + 1); plate = number_at v (k + 2); computation = number_at v (k + 3); height = number_at v (k + 4) }
 
-unfoldable pub system_row : System → List Reading
-system_row r = Value r.sin ∷ Value r.messages ∷ Value r.plate ∷ Value r.computation ∷ Value r.height ∷ []
+unfoldable pub system_row : System → List (Option ℤ)
+system_row r = Some r.sin ∷ Some r.messages ∷ Some r.plate ∷ Some r.computation ∷ Some r.height ∷ []
 
-unfoldable pub area_at : (ℕ → Reading) → ℕ → Area
+unfoldable pub area_at : (ℕ → Option ℤ) → ℕ → Area
 area_at v k = record { latitude = v k; longitude = v (k + 1); north = number_at v (k + 2); east = number_at v (k + 3) }
 
-unfoldable pub area_row : Area → List Reading
-area_row r = r.latitude ∷ r.longitude ∷ Value r.north ∷ Value r.east ∷ []
+unfoldable pub area_row : Area → List (Option ℤ)
+area_row r = r.latitude ∷ r.longitude ∷ Some r.north ∷ Some r.east ∷ []
 
-unfoldable pub parameters_at : (ℕ → Reading) → ℕ → Parameters
+unfoldable pub parameters_at : (ℕ → Option ℤ) → ℕ → Parameters
 parameters_at v k =
     record { dx = v k; dy = v (k + 1); dz = v (k + 2); rx = v (k + 3); ry = v (k + 4); rz = v (k + 5); ds = v (k + 6) }
 
-unfoldable pub parameters_row : Parameters → List Reading
+unfoldable pub parameters_row : Parameters → List (Option ℤ)
 parameters_row r = r.dx ∷ r.dy ∷ r.dz ∷ r.rx ∷ r.ry ∷ r.rz ∷ r.ds ∷ []
 
-unfoldable pub point_at : (ℕ → Reading) → ℕ → RotationPoint
+unfoldable pub point_at : (ℕ → Option ℤ) → ℕ → RotationPoint
 point_at v k = record { x = v k; y = v (k + 1); z = v (k + 2) }
 
-unfoldable pub point_row : RotationPoint → List Reading
+unfoldable pub point_row : RotationPoint → List (Option ℤ)
 point_row r = r.x ∷ r.y ∷ r.z ∷ []
 
-unfoldable pub ellipsoids_at : (ℕ → Reading) → ℕ → Ellipsoids
+unfoldable pub ellipsoids_at : (ℕ → Option ℤ) → ℕ → Ellipsoids
 ellipsoids_at v k =
     record { source_major = number_at v k; source_minor = number_at v (k + 1); target_major = number_at v (k + 2); target_minor = number_at v (k + 3) }
 
-unfoldable pub ellipsoids_row : Ellipsoids → List Reading
-ellipsoids_row r = Value r.source_major ∷ Value r.source_minor ∷ Value r.target_major ∷ Value r.target_minor ∷ []
+unfoldable pub ellipsoids_row : Ellipsoids → List (Option ℤ)
+ellipsoids_row r = Some r.source_major ∷ Some r.source_minor ∷ Some r.target_major ∷ Some r.target_minor ∷ []
 
 -- ---- the records
 
 -- where the fields behind both names begin
-abbrev pub behind_names : (ℕ → Reading) → ℕ
+abbrev pub behind_names : (ℕ → Option ℤ) → ℕ
 behind_names v = 3 + counter_at v 1 + counter_at v (2 + counter_at v 1)
 
-unfoldable pub helmert_of : (ℕ → Reading) → Helmert
+unfoldable pub helmert_of : (ℕ → Option ℤ) → Helmert
 helmert_of v =
     let b = behind_names v in
     record {
@@ -95,9 +93,9 @@ helmert_of v =
       quality = pair_at v (b + 20);
     }
 
-unfoldable pub helmert_row : Helmert → List Reading
+unfoldable pub helmert_row : Helmert → List (Option ℤ)
 helmert_row r =
-    (Value r.number ∷ [])
+    (Some r.number ∷ [])
     ++ name_row r.source
     ++ name_row r.target
     ++ system_row r.system
@@ -106,7 +104,7 @@ helmert_row r =
     ++ ellipsoids_row r.ellipsoids
     ++ pair_row r.quality
 
-unfoldable pub molodenski_badekas_of : (ℕ → Reading) → MolodenskiBadekas
+unfoldable pub molodenski_badekas_of : (ℕ → Option ℤ) → MolodenskiBadekas
 molodenski_badekas_of v =
     let b = behind_names v in
     record {
@@ -121,9 +119,9 @@ molodenski_badekas_of v =
       quality = pair_at v (b + 23);
     }
 
-unfoldable pub molodenski_badekas_row : MolodenskiBadekas → List Reading
+unfoldable pub molodenski_badekas_row : MolodenskiBadekas → List (Option ℤ)
 molodenski_badekas_row r =
-    (Value r.number ∷ [])
+    (Some r.number ∷ [])
     ++ name_row r.source
     ++ name_row r.target
     ++ system_row r.system

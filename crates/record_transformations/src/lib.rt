@@ -7,7 +7,6 @@ ghost use Rattle.layout.specs.Layout.{row_of};
 ghost use Rattle.record_rows.specs.Numbers.{says, number_at, counter_at};
 ghost use Rattle.record_transformations.specs.Transformations.{name_at, system_at, area_at, parameters_at, point_at, ellipsoids_at, behind_names, helmert_of, molodenski_badekas_of};
 
-use field::Reading;
 use record_rows::Pair;
 
 // DF143 and DF144, or DF145 and DF146: a length of 0 to 31; the unused characters are zero.
@@ -30,8 +29,8 @@ pub struct System {
 // The area of validity: its origin and its extension from there.
 #[derive(Clone, Copy)]
 pub struct Area {
-    pub latitude: Reading, // DF152
-    pub longitude: Reading, // DF153
+    pub latitude: Option<i64>, // DF152
+    pub longitude: Option<i64>, // DF153
     pub north: i64, // DF154
     pub east: i64, // DF155
 }
@@ -39,21 +38,21 @@ pub struct Area {
 // Translation, rotation and scale.
 #[derive(Clone, Copy)]
 pub struct Parameters {
-    pub dx: Reading, // DF156
-    pub dy: Reading, // DF157
-    pub dz: Reading, // DF158
-    pub rx: Reading, // DF159
-    pub ry: Reading, // DF160
-    pub rz: Reading, // DF161
-    pub ds: Reading, // DF162
+    pub dx: Option<i64>, // DF156
+    pub dy: Option<i64>, // DF157
+    pub dz: Option<i64>, // DF158
+    pub rx: Option<i64>, // DF159
+    pub ry: Option<i64>, // DF160
+    pub rz: Option<i64>, // DF161
+    pub ds: Option<i64>, // DF162
 }
 
 // The rotation point.
 #[derive(Clone, Copy)]
 pub struct RotationPoint {
-    pub x: Reading, // DF163
-    pub y: Reading, // DF164
-    pub z: Reading, // DF165
+    pub x: Option<i64>, // DF163
+    pub y: Option<i64>, // DF164
+    pub z: Option<i64>, // DF165
 }
 
 // The axes of the source and of the target ellipsoid.
@@ -92,36 +91,18 @@ pub struct MolodenskiBadekas {
     pub quality: Pair, // DF214, DF215
 }
 
-// A name counter at place k, 0 where no counter has that value.
-fn counter_at(values: &[i64], present: &[u8], k: usize) -> usize
-    ensures value { result ≡ counter_at (says (row_of values.now present.now)) k }
-    ensures upper_bound { result ≤ 31 }
-{
-    record_rows::counter_at(values, present, k)
-}
-
-// The character that a number stands for.
-fn char_of(n: i64) -> u8
-    ensures { result ≡ natural n % 256 }
-{
-    if n < 0 {
-        return 0;
-    }
-    (n % 256) as u8
-}
-
 // The character at place k.
 fn char_at(values: &[i64], present: &[u8], k: usize) -> u8
     ensures { result ≡ natural (number_at (says (row_of values.now present.now)) k) % 256 }
 {
-    char_of(record_rows::number_at(values, present, k))
+    (record_rows::natural_at(values, present, k) % 256) as u8
 }
 
 fn name_at(values: &[i64], present: &[u8], k: usize) -> Name
     requires { k < 64 }
     ensures { result ≡ name_at (says (row_of values.now present.now)) k }
 {
-    let length = counter_at(values, present, k);
+    let length = record_rows::counter_at(values, present, k);
     let mut chars = [0u8; 31];
     for j in 0..length {
         chars[j] = char_at(values, present, k + 1 + j);
@@ -196,7 +177,7 @@ fn ellipsoids_at(values: &[i64], present: &[u8], k: usize) -> Ellipsoids
 fn target_of(values: &[i64], present: &[u8]) -> Name
     ensures { result ≡ name_at (says (row_of values.now present.now)) (2 + counter_at (says (row_of values.now present.now)) 1) }
 {
-    let n = counter_at(values, present, 1);
+    let n = record_rows::counter_at(values, present, 1);
     name_at(values, present, 2 + n)
 }
 
@@ -205,13 +186,13 @@ fn behind_names(values: &[i64], present: &[u8]) -> usize
     ensures value { result ≡ behind_names (says (row_of values.now present.now)) }
     ensures upper_bound { result ≤ 65 }
 {
-    let n = counter_at(values, present, 1);
-    let m = counter_at(values, present, 2 + n);
+    let n = record_rows::counter_at(values, present, 1);
+    let m = record_rows::counter_at(values, present, 2 + n);
     3 + n + m
 }
 
-// 1021 from a row.
-fn helmert_in(values: &[i64], present: &[u8]) -> Helmert
+// 1021 from the row of a message.
+pub fn helmert_of(values: &[i64; 96], present: &[u8; 96]) -> Helmert
     ensures { result ≡ helmert_of (says (row_of values.now present.now)) }
 {
     let b = behind_names(values, present);
@@ -227,8 +208,8 @@ fn helmert_in(values: &[i64], present: &[u8]) -> Helmert
     }
 }
 
-// 1022 from a row.
-fn molodenski_badekas_in(values: &[i64], present: &[u8]) -> MolodenskiBadekas
+// 1022 from the row of a message.
+pub fn molodenski_badekas_of(values: &[i64; 96], present: &[u8; 96]) -> MolodenskiBadekas
     ensures { result ≡ molodenski_badekas_of (says (row_of values.now present.now)) }
 {
     let b = behind_names(values, present);
@@ -243,18 +224,4 @@ fn molodenski_badekas_in(values: &[i64], present: &[u8]) -> MolodenskiBadekas
         ellipsoids: ellipsoids_at(values, present, b + 19),
         quality: record_rows::pair_at(values, present, b + 23),
     }
-}
-
-// 1021 from the row of a message.
-pub fn helmert_of(values: &[i64; 96], present: &[u8; 96]) -> Helmert
-    ensures { result ≡ helmert_of (says (row_of values.now present.now)) }
-{
-    helmert_in(values, present)
-}
-
-// 1022 from the row of a message.
-pub fn molodenski_badekas_of(values: &[i64; 96], present: &[u8; 96]) -> MolodenskiBadekas
-    ensures { result ≡ molodenski_badekas_of (says (row_of values.now present.now)) }
-{
-    molodenski_badekas_in(values, present)
 }

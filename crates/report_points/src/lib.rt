@@ -6,6 +6,7 @@ ghost use Rattle.report_points.specs.Reports.{report_of, points_of, lists_report
 ghost use Rattle.report_points.specs.Private.{start_of, step_of, report_from};
 ghost use Rattle.report_prepared.specs.Private.{Serves};
 
+use arith::refusals::Refusal;
 use grid_component::Kept;
 use report_prepared::Prepared;
 use report_update::Report;
@@ -25,10 +26,10 @@ fn start(component: u8, points: usize) -> Report
     ensures { result ≡ start_of component points }
 {
     if 2 < component {
-        return report_update::empty(8);
+        return report_update::empty(Refusal::Component as u8);
     }
     if 10000 < points {
-        return report_update::empty(3);
+        return report_update::empty(Refusal::Length as u8);
     }
     report_update::empty(0)
 }
@@ -86,22 +87,12 @@ fn steps(
     ensures { result ≡ report_from message.now kept component 0 (points_of north.now east.now) r }
 {
     let mut x = r;
-    let mut i = 0;
-    while i < north.len() {
-        x = prepared_step(
-            x,
-            message,
-            kept,
-            component,
-            ready,
-            nodes,
-            Point {
-                north: north[i],
-                east: east[i],
-            },
-            i,
-        );
-        i += 1;
+    for i in 0..north.len() {
+        let p = Point {
+            north: north[i],
+            east: east[i],
+        };
+        x = prepared_step(x, message, kept, component, ready, nodes, p, i);
     }
     x
 }
@@ -115,7 +106,7 @@ pub fn report_lists(message: &[u8], component: u8, north: &[i64], east: &[i64]) 
         return r;
     }
     if north.len() != east.len() {
-        return report_update::empty(3);
+        return report_update::empty(Refusal::Length as u8);
     }
     let kept = grid_component::keep(message);
     let nodes = report_prepared::nodes_of(message, component);
@@ -129,10 +120,8 @@ pub fn report_points(message: &[u8], component: u8, points: &[Point]) -> Report
 {
     let kept = grid_component::keep(message);
     let mut r = start(component, points.len());
-    let mut i = 0;
-    while i < points.len() {
-        r = step(r, message, kept, component, points[i], i);
-        i += 1;
+    for (i, p) in points.iter().enumerate() {
+        r = step(r, message, kept, component, *p, i);
     }
     r
 }

@@ -1,7 +1,7 @@
 // A count by the numbers of a message and a component that are the same at all points.
-ghost use Rattle.std.specs.Prelude.{◌≡◌, ◌≤◌, ◌<◌};
+ghost use Rattle.std.specs.Prelude.{◌≡◌, true, ◌≤◌, ◌<◌};
 ghost use Rattle.grid_component.specs.Inner.{counted_by};
-ghost use Rattle.report_prepared.specs.Private.{count_in, Serves};
+ghost use Rattle.report_prepared.specs.Private.{count_in, Between, Serves};
 
 use grid_cell::Corners;
 use grid_component::Kept;
@@ -27,6 +27,13 @@ fn count_in(p: Prepared, nodes: &[i64; 16], y: u64, x: u64) -> i64
     grid_cell::count_by(p.mean, p.factor, n, k)
 }
 
+// Whether a position is on or between the edges.
+fn is_between(p: Prepared, north: i64, east: i64) -> bool
+    ensures { result ≡ true → Between p north east }
+{
+    p.south <= north && north <= p.north && p.west <= east && east <= p.east
+}
+
 // The shift at a position: by the prepared numbers between their edges, else by the message.
 pub(crate) fn count_at(
     message: &[u8],
@@ -40,16 +47,7 @@ pub(crate) fn count_at(
     requires { Serves message.now kept component p nodes.now }
     ensures { result ≡ counted_by message.now kept component north east }
 {
-    if north < p.south {
-        return grid_component::count_at(message, kept, component, north, east);
-    }
-    if p.north < north {
-        return grid_component::count_at(message, kept, component, north, east);
-    }
-    if east < p.west {
-        return grid_component::count_at(message, kept, component, north, east);
-    }
-    if p.east < east {
+    if !is_between(p, north, east) {
         return grid_component::count_at(message, kept, component, north, east);
     }
     let y = (north - p.south) as u64;

@@ -1,2 +1,4 @@
+pub mod Filled
 pub mod Means
+pub mod Ranges
 pub mod Served

@@ -1,6 +1,6 @@
 -- What private functions ask: `around` of a place, and those of report_points of prepared numbers and how these serve.
 -- Assumes nothing.
-use Rattle.std.specs.Prelude.{◌≡◌, List, ℕ, ◌+◌, ◌-◌, ◌*◌, ◌≤◌, ◌<◌, ℤ, nat_abs, ◌-ℤ◌, ◌≤ℤ◌}
+use Rattle.std.specs.Prelude.{◌≡◌, Bool, ◌&&◌, eqb, List, ℕ, ◌+◌, ◌-◌, ◌*◌, ◌≤◌, ◌<◌, ℤ, nat_abs, ◌-ℤ◌, ◌≤ℤ◌}
 use Rattle.arith.specs.Lists.{at}
 use Rattle.grid_bilinear.specs.Bilinear.{cell}
 use Rattle.grid_cell.specs.Inner.{weights_in, count_by}
@@ -9,6 +9,7 @@ use Rattle.grid_place.specs.declared.Located.{Located}
 use Rattle.grid_component.specs.Inner.{counted_by}
 use Rattle.grid_component.specs.declared.Kept.{Kept}
 use Rattle.report_prepared.specs.declared.Prepared.{Prepared}
+use Rattle.report_prepared.specs.Inner.{refusal_at}
 
 -- ---- the edges
 
@@ -19,6 +20,10 @@ pub record Near (q : Located) (n e : ℤ) : Type 0 where
   pub cell : (q.row ≤ 2) × (q.column ≤ 2)
   pub steps : (q.north ≤ q.height) × (q.east ≤ q.width)
   pub sizes : (q.height ≤ 40950000) × (q.width ≤ 40950000)
+
+-- the south-western and the north-eastern corner are within document 01's limits
+abbrev pub corners_held : ℤ → ℕ → Prepared → Bool
+corners_held number c p = eqb (refusal_at number c p.south p.west) 0 && eqb (refusal_at number c p.north p.east) 0
 
 -- a position on or between edges
 pub record Between (p : Prepared) (n e : ℤ) : Type 0 where

@@ -1,14 +1,16 @@
 // The numbers of a grid message and a component that are the same at all positions: its nodes, its edges and the others.
 #![tactic(auto)]
 
-ghost use Rattle.std.specs.Prelude.{◌≡◌};
+ghost use Rattle.std.specs.Prelude.{◌≡◌, ◌&&◌, eqb};
 ghost use Rattle.layout.specs.Layout.{available};
+ghost use Rattle.grid_fields.specs.Inner.{mean_says};
 ghost use Rattle.report_prepared.specs.Inner.{node_value, nodes_available, node_values, middle_of, no_edges, around_of, edges_at, prepared_of};
-ghost use Rattle.report_prepared.specs.Private.{Near};
+ghost use Rattle.report_prepared.specs.Private.{Near, corners_held};
 
-use field::Reading;
+use arith::refusals::outcome_number;
 use grid_component::Kept;
 use grid_place::Located;
+use std::array;
 
 // The edges of a grid in steps, the height and the width of a cell, the mean in counts, and the counts in a raw number of a node.
 #[derive(Clone, Copy)]
@@ -31,45 +33,26 @@ fn node_value(message: &[u8], component: u8, node: usize) -> i64
 }
 
 // The values of the sixteen nodes.
+#[tactic(auto, unfolding(crate::specs::Inner::node_values))]
 pub fn nodes_of(message: &[u8], component: u8) -> [i64; 16]
     ensures { result ≡ node_values message.now component }
 {
-    let mut nodes = [0i64; 16];
-    for k in 0..16 {
-        nodes[k] = node_value(message, component, k);
-    }
-    nodes
-}
-
-// Whether a field has a value.
-fn is_available(r: Reading) -> bool
-    ensures { result ≡ available r }
-{
-    let Reading::Value(_) = r else {
-        return false;
-    };
-    true
+    array::from_fn(|k| node_value(message, component, k))
 }
 
 // Whether all sixteen nodes have values.
+#[tactic(auto, unfolding(crate::specs::Inner::nodes_available))]
 fn nodes_available(message: &[u8], component: u8) -> bool
     ensures { result ≡ nodes_available message.now component }
 {
-    let mut k = 0;
-    while k < 16 {
-        if !is_available(grid_fields::node_at(message, component, k)) {
-            return false;
-        }
-        k += 1;
-    }
-    true
+    (0..16).all(|k| grid_fields::node_at(message, component, k).is_some())
 }
 
 // The origin in steps along one direction, or 0 where no message has such a one.
 fn middle(number: i64, raw: i64) -> i64
     ensures { result ≡ middle_of number raw }
 {
-    if 67108864 < field::magnitude(raw) {
+    if 67108864 < raw.unsigned_abs() {
         return 0;
     }
     if number == 1023 {
@@ -113,6 +96,14 @@ fn around(q: Located, north: i64, east: i64, mean: i64, factor: u64) -> Prepared
     }
 }
 
+// Whether the south-western and the north-eastern corner are within the limits.
+fn corners_held(p: Prepared, component: u8, number: i64) -> bool
+    ensures { result ≡ corners_held number component p }
+{
+    outcome_number(grid_refusals::position_refusal(component, number, p.south, p.west)) == 0
+        && outcome_number(grid_refusals::position_refusal(component, number, p.north, p.east)) == 0
+}
+
 // The prepared numbers, by a position in the grid.
 fn prepare_at(message: &[u8], kept: Kept, component: u8, north: i64, east: i64) -> Prepared
     ensures { result ≡ edges_at message.now kept.settings component north east }
@@ -122,38 +113,33 @@ fn prepare_at(message: &[u8], kept: Kept, component: u8, north: i64, east: i64) 
     if q.refusal != 0 {
         return no_edges();
     }
-    let number = f.number;
-    let mean = grid_fields::mean_at(message, component);
-    let factor = grid_counts::factor_of(number, component);
-    let p = around(q, north, east, 100 * layout::value_in(mean), factor);
-    if grid_refusals::position_refusal(component, number, p.south, p.west) != 0 {
-        return no_edges();
-    }
-    if grid_refusals::position_refusal(component, number, p.north, p.east) != 0 {
+    let mean = 100 * layout::value_in(grid_fields::mean_at(message, component));
+    let factor = grid_counts::factor_of(f.number, component);
+    let p = around(q, north, east, mean, factor);
+    if !corners_held(p, component, f.number) {
         return no_edges();
     }
     p
+}
+
+// Whether a grid message was kept that has values of the mean and of all nodes.
+fn is_ready(message: &[u8], kept: Kept, component: u8) -> bool
+    ensures { result ≡ (eqb kept.refusal 0 && available (mean_says message.now component) && nodes_available message.now component) }
+{
+    kept.refusal == 0
+        && grid_fields::mean_at(message, component).is_some()
+        && nodes_available(message, component)
 }
 
 // The prepared numbers; with edges between which there is no position where every count has to go by the message.
 pub fn prepare(message: &[u8], kept: Kept, component: u8) -> Prepared
     ensures { result ≡ prepared_of message.now kept component }
 {
-    if kept.refusal != 0 {
-        return no_edges();
-    }
-    if !is_available(grid_fields::mean_at(message, component)) {
-        return no_edges();
-    }
-    if !nodes_available(message, component) {
+    if !is_ready(message, kept, component) {
         return no_edges();
     }
     let f = kept.settings;
-    let number = f.number;
-    let origin = f.origin;
-    let latitude = origin.north;
-    let longitude = origin.east;
-    let north = middle(number, layout::value_in(latitude));
-    let east = middle(number, layout::value_in(longitude));
+    let north = middle(f.number, layout::value_in(f.origin.north));
+    let east = middle(f.number, layout::value_in(f.origin.east));
     prepare_at(message, kept, component, north, east)
 }

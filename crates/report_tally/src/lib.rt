@@ -1,29 +1,26 @@
 // A running tally of points and one component, updated point by point.
 #![tactic(auto)]
 
-ghost use Rattle.std.specs.Prelude.{◌≡◌, cond, ◌+◌, ltb};
-ghost use Rattle.report_update.specs.Numbers.{total};
+ghost use Rattle.std.specs.Prelude.{◌≡◌, min};
+ghost use Rattle.report_update.specs.Numbers.{points_in};
 ghost use Rattle.report_tally.specs.Next.{next_of};
 
-use arith::refusals::{COMPONENT, LENGTH};
+use arith::refusals::Refusal;
 use report_update::{Report, Tally};
 
-// The points answered and refused, or 10,000 where there are more.
-fn points_in(answered: u64, refused: [u64; 15]) -> u64
-    ensures { result ≡ cond (ltb (answered + total refused) 10000) (answered + total refused) 10000 }
+// The points of a tally, or 10,000 where there are more.
+fn points_in(t: &Tally) -> u64
+    ensures { result ≡ min (points_in t.now) 10000 }
 {
-    let mut n = answered;
+    let mut n = t.answered;
     if 10000 <= n {
         return 10000;
     }
-    let mut i: usize = 0;
-    while i < 15 {
-        let k = refused[i];
+    for k in t.refused {
         if 10000 - n <= k {
             return 10000;
         }
-        n = n + k;
-        i += 1;
+        n += k;
     }
     n
 }
@@ -35,21 +32,14 @@ pub fn tally_next(t: Tally, message: &[u8], component: u8, north: i64, east: i64
 {
     if 2 < component {
         return Report {
-            refusal: COMPONENT,
+            refusal: Refusal::Component as u8,
             tally: t,
         };
     }
-    let refused = t.refused;
-    let n = points_in(t.answered, refused);
-    if 10000 <= n {
+    let n = points_in(&t);
+    if 10000 <= n || 100000000000 < t.sum.unsigned_abs() {
         return Report {
-            refusal: LENGTH,
-            tally: t,
-        };
-    }
-    if 100000000000 < field::magnitude(t.sum) {
-        return Report {
-            refusal: LENGTH,
+            refusal: Refusal::Length as u8,
             tally: t,
         };
     }

@@ -7,8 +7,8 @@ use mathlib.Core.List.{List, [], ◌∷◌, ◌++◌}
 use Prim.Native.Nat.{ℕ, zero, suc, ◌+◌, ◌*◌, ◌-◌, ◌≤◌, ◌<◌, zero-le}
 use native.Mathlib.Nat.{eq-or-lt_of_le}
 use native.Mathlib.Omega.{arith}
-use lib.Dec.{eqb, leb, ltb}
-use lib.IntN.{ℤ, nat_abs, ◌+ℤ◌}
+use lib.Dec.{eqb}
+use lib.IntN.{ℤ, nat_abs}
 use lib.ListN.{length, get_or, set, length-set}
 use lib.Seq.{get_or-set_same, get_or-set_other}
 use borrow.Author.Tests.{eqb-true, eqb-false, eq-eqb, ne_eqb, lt-ltb, le-leb}
@@ -18,7 +18,7 @@ use Rattle.arith.proofs.Int.{abs-add}
 use Rattle.grid_counts.specs.declared.Counted.{Counted}
 use Rattle.report_update.specs.declared.Tally.{Tally}
 use Rattle.report_update.specs.Numbers.{how_many, counts, sum_of, extreme, below, above, ahead, place_of, refused_under, tally_of, total, points_in}
-use Rattle.report_update.specs.Update.{as_read, with_refused, is_new, with_answered, with_outcome}
+use Rattle.report_update.specs.Update.{as_read, with_refused, with_answered, with_outcome}
 use Rattle.report_update.specs.Inner.{countable, refusable, grown_by}
 use Rattle.report_update.proofs.Laws.{yes, no, by-test}
 use Rattle.report_update.proofs.Behind.{one, many_more, counts-answered, counts-refused, sum_more}

@@ -48,24 +48,14 @@ pub fn empty(refusal: u8) -> Report
 fn is_new(answered: u64, low: i64, high: i64) -> bool
     ensures { result ≡ (eqb answered 0 || lt_z low high) }
 {
-    if answered == 0 {
-        return true;
-    }
-    low < high
+    answered == 0 || low < high
 }
 
-// The new count, or the old one.
-fn count_of(new: bool, count: i64, old: i64) -> i64
-    ensures { result ≡ cond new count old }
+// The new value, or the old one.
+fn chosen<T: Copy>(new: bool, value: T, old: T) -> T
+    ensures { result ≡ cond new value old }
 {
-    if new { count } else { old }
-}
-
-// The new place, or the old one.
-fn place_of(new: bool, place: u64, old: u64) -> u64
-    ensures { result ≡ cond new place old }
-{
-    if new { place } else { old }
+    if new { value } else { old }
 }
 
 // One point more, answered.
@@ -76,10 +66,10 @@ fn with_answered(t: Tally, count: i64, place: u64) -> Tally
     let refused = t.refused;
     let low = is_new(t.answered, count, t.smallest);
     let high = is_new(t.answered, t.greatest, count);
-    let smallest = count_of(low, count, t.smallest);
-    let greatest = count_of(high, count, t.greatest);
-    let smallest_place = place_of(low, place, t.smallest_place);
-    let greatest_place = place_of(high, place, t.greatest_place);
+    let smallest = chosen(low, count, t.smallest);
+    let greatest = chosen(high, count, t.greatest);
+    let smallest_place = chosen(low, place, t.smallest_place);
+    let greatest_place = chosen(high, place, t.greatest_place);
     Tally {
         answered: t.answered + 1,
         refused,
@@ -91,17 +81,18 @@ fn with_answered(t: Tally, count: i64, place: u64) -> Tally
     }
 }
 
+// One point more with the count is within the limits of a tally.
+fn countable(t: Tally, count: i64) -> bool
+    ensures { result ≡ countable t count }
+{
+    t.answered < 10000 && t.sum.unsigned_abs() <= 100000000000 && count.unsigned_abs() <= 10000000
+}
+
 // The same, or the tally as it was where a number would be past its limit.
 fn with_count(t: Tally, count: i64, place: u64) -> Tally
     ensures { result ≡ cond (countable t count) (with_answered t count place) t }
 {
-    if 10000 <= t.answered {
-        return t;
-    }
-    if 100000000000 < field::magnitude(t.sum) {
-        return t;
-    }
-    if 10000000 < field::magnitude(count) {
+    if !countable(t, count) {
         return t;
     }
     with_answered(t, count, place)
@@ -132,10 +123,7 @@ fn with_refused(t: Tally, n: u8) -> Tally
     ensures { result ≡ with_refused t n }
 {
     let mut u = t;
-    let mut refused = t.refused;
-    let i = (n - 1) as usize;
-    refused[i] = refused[i] + 1;
-    u.refused = refused;
+    u.refused[(n - 1) as usize] += 1;
     u
 }
 

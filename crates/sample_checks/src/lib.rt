@@ -6,11 +6,11 @@ ghost use Rattle.grid_component.specs.Inner.{kept_of};
 ghost use Rattle.sample_files.specs.File.{points_of};
 ghost use Rattle.sample_checks.specs.Check.{right, first_bad, checked};
 
-use arith::refusals::{CLAIM, LAYOUT};
+use arith::refusals::Refusal;
 use grid_component::Kept;
 use sample_files::SamplePoint;
 
-// A refusal number, or 0; and with CLAIM the place, from 1, of the first bad point.
+// A refusal number, or 0; and with CLAIM the place, from 1, of the first bad point. The C interface hands it out as it is.
 #[repr(C)]
 #[derive(Clone, Copy)]
 pub struct Checked {
@@ -24,24 +24,19 @@ fn right_point(message: &[u8], kept: Kept, p: SamplePoint) -> bool
     ensures { result ≡ right message.now p }
 {
     let answer = grid_component::count_at(message, kept, p.component, p.north, p.east);
-    if answer.refusal != 0 {
-        return false;
-    }
-    answer.count == p.claim
+    answer.refusal == 0 && answer.count == p.claim
 }
 
-// The place, from 1, of the first bad point of a file, 0 where there is none.
+// The place, from 1, of the first bad point of a file, 0 where there is none, as the C interface answers it.
 fn first_bad(message: &[u8], kept: Kept, file: &[u8]) -> usize
     requires { kept ≡ kept_of message.now }
     ensures { result ≡ first_bad message.now (points_of file.now) }
 {
     let n = sample_files::point_count(file);
-    let mut i: usize = 0;
-    while i < n {
+    for i in 0..n {
         if !right_point(message, kept, sample_files::point_at(file, i)) {
             return i + 1;
         }
-        i += 1;
     }
     0
 }
@@ -52,7 +47,7 @@ pub fn check_samples(file: &[u8]) -> Checked
 {
     if !sample_files::right_shape(file) {
         return Checked {
-            refusal: LAYOUT,
+            refusal: Refusal::Layout as u8,
             place: 0,
         };
     }
@@ -68,7 +63,7 @@ pub fn check_samples(file: &[u8]) -> Checked
     let place = first_bad(message, kept, file);
     if place != 0 {
         return Checked {
-            refusal: CLAIM,
+            refusal: Refusal::Claim as u8,
             place,
         };
     }

@@ -1,14 +1,21 @@
 -- The loop over the fields of a file, the place of its points, and where its message ends.
 -- Assumes nothing.
 use mathlib.Core.Path.{◌≡◌, refl, sym, ap, ◌∙◌}
-use mathlib.Core.Bool.{true, false, ◌&&◌}
+use mathlib.Core.Bool.{Bool, true, false, cond}
 use mathlib.Core.List.{List, [], ◌∷◌}
-use Prim.Native.Nat.{ℕ, zero, suc, ◌+◌, ◌-◌, ◌*◌, ◌/◌, ◌≤◌, ◌<◌}
-use native.Mathlib.Nat.{sub-zero, not-suc-le-zero, le_of_suc-le-suc, min-eq_left, min-eq_right}
+use Prim.Native.Nat.{ℕ, zero, suc, ◌+◌, ◌-◌, ◌*◌, ◌/◌, ◌≤◌, ◌<◌, min}
+use native.Mathlib.Nat.{not-suc-le-zero, le_of_suc-le-suc, min-eq_left, min-eq_right}
 use native.Mathlib.Decide.{dec_le}
 use native.Mathlib.Omega.{arith}
 use lib.ListN.{length, get_or, take, drop, length-drop, drop_of_length-le}
-use lib.Seq.{take_all, drop-drop}
+use lib.Seq.{take_all, drop-drop, get_or-take, get_or-drop}
+use lib.Dec.{leb}
+use borrow.Author.Tests.{le-leb, lt-leb}
+use Rattle.std.specs.List.{list_all}
+use Rattle.std.specs.Simd.{first_chunks}
+use Rattle.sample_numbers.specs.Number.{number}
+use Rattle.sample_numbers.specs.Inner.{number_at}
+use Rattle.sample_numbers.proofs.Number.{number_lt}
 use Rattle.sample_files.specs.declared.SamplePoint.{SamplePoint}
 use Rattle.sample_files.specs.File.{point_size, message_end, rest_of, point_of, points_in, points_of, no_point}
 use Rattle.sample_files.specs.Inner.{end_in, point_at}
@@ -18,37 +25,17 @@ use Rattle.sample_files.specs.Private.{point_head, point_heads}
 pub tail : (s : List ℕ) (a : ℕ) → take (length s - a) (drop a s) ≡ drop a s
 tail s a = take_all (length s - a) (drop a s) (omega (arith, length-drop a s))
 
--- a field's place in a part
-pub field_in : (s : List ℕ) (n i : ℕ) → i < n → point_size * n ≤ length s → point_size ≤ length (take (length s - point_size * i) (drop (point_size * i) s))
-field_in s n i h l = rw (tail s (point_size * i)) (omega (arith, length-drop (point_size * i) s))
+-- ---- the fields, one chunk each
 
--- ---- the loop over fields: its start, its rounds and its end
+head-of : (s : List ℕ) → point_head (take point_size s) ≡ point_head s
+unfolding point_head number
+head-of s =
+    rw (get_or-take point_size s 0 0 (omega arith), get_or-drop 1 (take point_size s) 0 0, get_or-drop 1 (take point_size s) 1 0, get_or-take point_size s 1 0 (omega arith), get_or-take point_size s 2 0 (omega arith), get_or-drop 1 s 0 0, get_or-drop 1 s 1 0)
 
-pub start-heads : (s : List ℕ) (n : ℕ) → point_heads n s ≡ point_heads (n - 0) (drop (point_size * 0) s)
-start-heads s n = rw sub-zero
-
-module _ (s : List ℕ) (n i : ℕ) (h : i < n) where
-  left : n - i ≡ suc (n - (i + 1))
-  left = omega arith
-
-  next : drop point_size (drop (point_size * i) s) ≡ drop (point_size * (i + 1)) s
-  next =
-      let e : point_size * i + point_size ≡ point_size * (i + 1) = omega arith in
-      drop-drop point_size (point_size * i) s ∙ ap (λ (k : ℕ). drop k s) e
-
-  round-heads : point_heads (n - i) (drop (point_size * i) s) ≡ (point_head (drop (point_size * i) s) && point_heads (n - (i + 1)) (drop (point_size * (i + 1)) s))
-  unfolding point_heads
-  round-heads = rw left (ap (λ (l : List ℕ). point_head (drop (point_size * i) s) && point_heads (n - (i + 1)) l) next)
-
-  pub head-fails : point_head (drop (point_size * i) s) ≡ false → point_heads (n - i) (drop (point_size * i) s) ≡ false
-  head-fails e = round-heads ∙ rw e
-
-  pub head-holds : point_head (drop (point_size * i) s) ≡ true → point_heads (n - i) (drop (point_size * i) s) ≡ point_heads (n - (i + 1)) (drop (point_size * (i + 1)) s)
-  head-holds e = round-heads ∙ rw e
-
-pub end-heads : (s : List ℕ) (n i : ℕ) → n ≤ i → point_heads (n - i) (drop (point_size * i) s) ≡ true
+pub heads_are : (n : ℕ) (s : List ℕ) → list_all point_head (first_chunks point_size n s) ≡ point_heads n s
 unfolding point_heads
-end-heads s n i h = let e : n - i ≡ 0 = omega arith in rw e
+heads_are zero s = refl
+heads_are (suc n) s = rw (head-of s, heads_are n (drop point_size s))
 
 -- ---- where the message ends, and the points behind it
 
@@ -60,6 +47,22 @@ module _ (f : List ℕ) where
   pub end_whole : message_end f ≤ length f → end_in f ≡ message_end f
   unfolding end_in
   end_whole h = min-eq_left h
+
+  pub end-is : min (length f) (3 + number_at f 1 2) ≡ end_in f
+  unfolding end_in number_at
+  end-is = by (dec_le 3 (length f))
+    where
+      by : Dec (3 ≤ length f) → min (length f) (3 + cond (leb 3 (length f)) (number 2 (drop 1 f)) 0) ≡ min (3 + number 2 (drop 1 f)) (length f)
+      by (yes h) = rw (le-leb 3 (length f) h) (omega arith)
+      by (no h) = rw (lt-leb 3 (length f) (omega arith)) (omega arith)
+
+  pub size-low : ((i : ℕ) → get_or f i 0 < 256) → number_at f 1 2 < 65536
+  unfolding number_at
+  size-low b = by (leb 3 (length f))
+    where
+      by : (t : Bool) → cond t (number 2 (drop 1 f)) 0 < 65536
+      by true = number_lt (drop 1 f) (λ i. rw (get_or-drop 1 f i 0) (b (1 + i))) 2
+      by false = omega arith
 
   pub rest-is : drop (end_in f) f ≡ rest_of f
   unfolding rest_of

@@ -1,14 +1,16 @@
 // Files of sample answers: a grid message, and points each with the count that it claims. The functions with a requires are private.
 #![tactic(auto)]
 
-ghost use Rattle.std.specs.Prelude.{◌≡◌, ◌+◌, ◌*◌, ◌≤◌, length, drop};
+ghost use Rattle.std.specs.Prelude.{◌≡◌, ◌+◌, ◌≤◌, length, drop};
+ghost use Rattle.std.specs.List.{list_all};
 ghost use Rattle.sample_files.specs.File.{point_size, point_of, points_of, shape};
 ghost use Rattle.sample_files.specs.Inner.{end_in, point_at};
-ghost use Rattle.sample_files.specs.Private.{message_first, point_head, point_heads, only_points};
+ghost use Rattle.sample_files.specs.Private.{message_first, point_head, only_points};
 
-const POINT_SIZE: usize = 28;
+// The bytes of a point's field, and the most points of a file.
+pub const POINT_SIZE: usize = 28;
 
-const MOST_POINTS: usize = 1000;
+pub const MOST_POINTS: usize = 1000;
 
 // A component, a position and the count that is claimed there.
 #[derive(Clone, Copy)]
@@ -20,87 +22,56 @@ pub struct SamplePoint {
 }
 
 // Whether a file begins with a whole field of tag 1.
+#[tactic(auto, unfolding(crate::specs::Private::message_first, sample_numbers::specs::Inner::number_at))]
 fn message_first(file: &[u8]) -> bool
     ensures { result ≡ message_first file.now }
 {
-    if file.len() < 3 {
-        return false;
-    }
-    if file[0] != 1 {
-        return false;
-    }
-    let n = sample_numbers::number_at(file, 1, 2) as usize;
-    if file.len() - 3 < n {
-        return false;
-    }
-    true
+    3 <= file.len()
+        && file[0] == 1
+        && sample_numbers::number_at(file, 1, 2) as usize <= file.len() - 3
 }
 
 // Where the message of a file ends, or the file where that is earlier.
 pub fn message_end(file: &[u8]) -> usize
     ensures { result ≡ end_in file.now }
 {
-    let length = file.len();
-    if length < 3 {
-        return length;
-    }
     let n = sample_numbers::number_at(file, 1, 2) as usize;
-    if length - 3 < n {
-        return length;
-    }
-    3 + n
+    file.len().min(3 + n)
 }
 
 // Whether s begins with the tag and the length of a point.
+#[tactic(auto, unfolding(crate::specs::Private::point_head, sample_numbers::specs::Inner::number_at))]
 fn point_head(s: &[u8]) -> bool
     requires { point_size ≤ length s.now }
     ensures { result ≡ point_head s.now }
 {
-    if s[0] != 2 {
-        return false;
-    }
-    sample_numbers::number_at(s, 1, 2) == 25
+    s[0] == 2 && sample_numbers::number_at(s, 1, 2) == 25
 }
 
-// Whether each of the n fields of s has the tag and the length of a point.
-fn point_heads(s: &[u8], n: usize) -> bool
-    requires { point_size * n ≤ length s.now }
-    ensures { result ≡ point_heads n s.now }
+// Whether each field has the tag and the length of a point.
+fn point_heads(fields: &[[u8; POINT_SIZE]]) -> bool
+    ensures { result ≡ list_all point_head fields.now }
 {
-    let mut i: usize = 0;
-    while i < n {
-        let a = POINT_SIZE * i;
-        if !point_head(&s[a..]) {
-            return false;
-        }
-        i += 1;
-    }
-    true
+    fields.iter().all(|field| point_head(field))
 }
 
 // Whether s is the fields of at most 1,000 points and nothing else.
+#[tactic(auto, using(crate::proofs::Fields::heads_are), unfolding(crate::specs::Private::only_points))]
 fn only_points(s: &[u8]) -> bool
     ensures { result ≡ only_points s.now }
 {
-    let n = s.len() / POINT_SIZE;
-    if s.len() % POINT_SIZE != 0 {
+    let (fields, rest) = s.as_chunks::<POINT_SIZE>();
+    if !rest.is_empty() {
         return false;
     }
-    if MOST_POINTS < n {
-        return false;
-    }
-    point_heads(s, n)
+    fields.len() <= MOST_POINTS && point_heads(fields)
 }
 
 // Whether a file is a message and at most 1,000 points, as bytes.
 pub fn right_shape(file: &[u8]) -> bool
     ensures { result ≡ shape file.now }
 {
-    if !message_first(file) {
-        return false;
-    }
-    let e = message_end(file);
-    only_points(&file[e..])
+    message_first(file) && only_points(&file[message_end(file)..])
 }
 
 // The number of points of a file.

@@ -1,5 +1,6 @@
 -- Numbers in bytes: both ways they are inverse, over any number of bytes, and for whole numbers in 8 bytes.
 -- Assumes nothing.
+use Rattle.std.proofs.Common.{Some}
 use mathlib.Core.Path.{◌≡◌, refl, sym, ap, ◌∙◌}
 use mathlib.Core.Bool.{cond}
 use mathlib.Core.List.{List, [], ◌∷◌, ◌++◌, append_assoc}
@@ -16,7 +17,6 @@ use lib.Pow.{pow-add}
 use lib.Seq.{get_or_at, take-suc}
 use lib.Signed.{mag}
 use Rattle.field.specs.Field.{twos, pattern_of}
-use Rattle.field.specs.declared.Reading.TheVariants.{Value}
 use Rattle.sample_numbers.specs.Number.{number, bytes_of, whole, whole_bytes, put_bytes}
 use Rattle.sample_numbers.specs.Inner.{number_at, whole_at}
 
@@ -60,21 +60,21 @@ bytes_of-number s b (suc k) h =
 
 -- ---- whole numbers
 
-pattern-low : (z : ℤ) → mag z < 2 ^ 63 → pattern_of 64 (Value z) < 2 ^ 64
+pattern-low : (z : ℤ) → mag z < 2 ^ 63 → pattern_of 64 (Some z) < 2 ^ 64
 pattern-low (pos n) h = omega arith
 pattern-low (negsuc n) h = omega arith
 
-twos-pattern : (z : ℤ) → mag z < 2 ^ 63 → twos 64 (pattern_of 64 (Value z)) ≡ z
+twos-pattern : (z : ℤ) → mag z < 2 ^ 63 → twos 64 (pattern_of 64 (Some z)) ≡ z
 unfolding twos
 twos-pattern (pos n) h = rw (lt-ltb (n * 2) (2 ^ 64) (omega arith))
 twos-pattern (negsuc n) h = rw (le-ltb ((2 ^ 64 - suc n) * 2) (2 ^ 64) (omega arith)) (ap negsuc (omega arith))
 
 module _ (u : ℕ) (h : u < 2 ^ 64) where
-  pattern-twos : pattern_of 64 (Value (twos 64 u)) ≡ u
+  pattern-twos : pattern_of 64 (Some (twos 64 u)) ≡ u
   unfolding twos
   pattern-twos = by (dec_lt (u * 2) (2 ^ 64))
     where
-      by : Dec (u * 2 < 2 ^ 64) → pattern_of 64 (Value (cond (ltb (u * 2) (2 ^ 64)) (pos u) (negsuc (2 ^ 64 - suc u)))) ≡ u
+      by : Dec (u * 2 < 2 ^ 64) → pattern_of 64 (Some (cond (ltb (u * 2) (2 ^ 64)) (pos u) (negsuc (2 ^ 64 - suc u)))) ≡ u
       by (yes l) = rw (lt-ltb (u * 2) (2 ^ 64) l)
       by (no l) = rw (le-ltb (u * 2) (2 ^ 64) (omega arith)) (omega arith)
 
@@ -88,12 +88,12 @@ module _ (u : ℕ) (h : u < 2 ^ 64) where
 
 pub length_whole : (z : ℤ) → length (whole_bytes z) ≡ 8
 unfolding whole_bytes
-length_whole z = length-bytes_of 8 (pattern_of 64 (Value z))
+length_whole z = length-bytes_of 8 (pattern_of 64 (Some z))
 
 -- law: the whole number of its bytes
 pub whole_back : (z : ℤ) (t : List ℕ) → mag z < 2 ^ 63 → whole (whole_bytes z ++ t) ≡ z
 unfolding whole whole_bytes
-whole_back z t h = ap (twos 64) (number-bytes_of 8 (pattern_of 64 (Value z)) t (pattern-low z h)) ∙ twos-pattern z h
+whole_back z t h = ap (twos 64) (number-bytes_of 8 (pattern_of 64 (Some z)) t (pattern-low z h)) ∙ twos-pattern z h
 
 module _ (s : List ℕ) (b : (i : ℕ) → get_or s i 0 < 256) where
   -- law: the bytes of the whole number of 8 bytes

@@ -1,23 +1,20 @@
 -- What the loops and tests of the code do with numbers in bytes.
 -- Assumes nothing.
 use mathlib.Core.Path.{◌≡◌, refl, sym, ap, ◌∙◌}
-use mathlib.Core.List.{List, [], ◌∷◌, ◌++◌, append_assoc, append-nil}
+use mathlib.Core.Bool.{true}
+use lib.Dec.{leb}
+use Rattle.sample_numbers.specs.Inner.{number_at}
+use mathlib.Core.List.{List, [], ◌∷◌, ◌++◌, append_assoc}
 use Prim.Native.Nat.{ℕ, zero, suc, ◌+◌, ◌-◌, ◌*◌, ◌/◌, ◌%◌, ◌^◌, ◌≤◌, ◌<◌}
-use native.Mathlib.Nat.{zero-add}
 use native.Mathlib.Numerals.{add-one}
 use native.Mathlib.Omega.{arith}
-use borrow.Author.Tests.{lt-ltb, le-ltb}
+use borrow.Author.Tests.{leb-true}
 use borrow.Rule.Slice.PartMut.{put_mid, Post-is}
-use lib.IntN.{pos, negsuc, ◌-ℤ◌}
-use lib.ListN.{length, get_or, take, drop, set, length-drop}
+use lib.ListN.{length, take, drop, set, length-drop}
 use lib.Pow.{pow_mono}
-use lib.Seq.{get_or-drop, set_split, drop_at, length-take-le, drop-length}
-use mir.Syntax.{w64}
-use mir.Val.{SFits, to_z, of_z}
-use mir.ValLaws.{to_z_pos, to_z-of_z}
-use Rattle.field.specs.Field.{twos}
+use lib.Seq.{get_or-take, set_split, drop_at, length-take-le}
 use Rattle.sample_numbers.specs.Number.{number, bytes_of, put_bytes}
-use Rattle.sample_numbers.proofs.Number.{room-suc, length-bytes_of, put-within}
+use Rattle.sample_numbers.proofs.Number.{room-suc, length-bytes_of, put-within, number-within}
 
 -- ---- a loop that reads a number, byte by byte
 
@@ -27,31 +24,17 @@ fits_word x i h l = let p : 2 ^ (8 * i) ≤ 2 ^ 64 = pow_mono {i = 8 * i} {j = 6
 pub round_room : (r b i : ℕ) → r < 2 ^ (8 * i) → b < 256 → r * 256 + b < 2 ^ (8 * (i + 1))
 round_room r b i h l = rw (add-one i, room-suc i) (omega arith)
 
-pub round_number : (s : List ℕ) (a r i : ℕ) → r ≡ number i (drop a s) → r * 256 + get_or s (a + i) 0 ≡ number (i + 1) (drop a s)
+number-take : (n k : ℕ) (s : List ℕ) → k ≤ n → number k (take n s) ≡ number k s
 unfolding number
-round_number s a r i e = rw (add-one i, e, get_or-drop a s i 0)
+number-take n zero s h = refl
+number-take n (suc k) s h = rw (number-take n k s (omega arith), get_or-take n s k 0 (omega arith))
 
--- ---- two's complement of 64 bits
-
-flip-pos : (x : ℕ) → negsuc 0 -ℤ pos x ≡ negsuc x
-flip-pos zero = refl
-flip-pos (suc x) = ap (λ (y : ℕ). negsuc (suc y)) (zero-add x)
-
-pub signed_low : (u : ℕ) → u < 2 ^ 63 → to_z w64 u ≡ twos 64 u
-unfolding twos
-signed_low u h = rw (lt-ltb (u * 2) (2 ^ 64) (omega arith)) (to_z_pos w64 u h)
-
-flipped : (u : ℕ) → 2 ^ 63 ≤ u → negsuc 0 -ℤ to_z w64 (18446744073709551615 - u) ≡ negsuc (18446744073709551615 - u)
-flipped u h = rw (to_z_pos w64 (18446744073709551615 - u) (omega arith)) (flip-pos (18446744073709551615 - u))
-
-pub signed-fits : (u : ℕ) → 2 ^ 63 ≤ u → SFits w64 (negsuc 0 -ℤ to_z w64 (18446744073709551615 - u))
-signed-fits u h = rw (flipped u h) (record { sfits = omega arith })
-
-pub signed_high : (u : ℕ) → 2 ^ 63 ≤ u → u < 2 ^ 64 → to_z w64 (of_z w64 (negsuc 0 -ℤ to_z w64 (18446744073709551615 - u))) ≡ twos 64 u
-unfolding twos
-signed_high u h l =
-    to_z-of_z w64 (negsuc 0 -ℤ to_z w64 (18446744073709551615 - u)) (signed-fits u h)
-    ∙ rw (le-ltb (u * 2) (2 ^ 64) (omega arith), flipped u h) (ap negsuc (omega arith))
+pub read-part : (s : List ℕ) (a k r : ℕ) → k ≤ 8 → leb (a + k) (length s) ≡ true
+    → r ≡ number (length (take (a + k - a) (drop a s))) (take (a + k - a) (drop a s)) → r ≡ number_at s a k
+read-part s a k r h l e =
+    let room : a + k ≤ length s = leb-true (a + k) (length s) l in
+    let n : length (take (a + k - a) (drop a s)) ≡ k = length-take-le (a + k - a) (drop a s) (omega (arith, length-drop a s)) ∙ omega arith in
+    e ∙ ap (λ (j : ℕ). number j (take (a + k - a) (drop a s))) n ∙ number-take (a + k - a) k (drop a s) (omega arith) ∙ sym (number-within s a k h room)
 
 -- ---- a loop that stores a number, last byte first
 
@@ -66,9 +49,6 @@ pub round-byte : (out : List ℕ) (v k : ℕ) → 0 < k → k ≤ length out →
 round-byte out v k p h =
     let e : k ≡ suc (k - 1) = omega arith in
     ap (λ (n : ℕ). bytes_of n v ++ drop n out) e ∙ store_byte out v (k - 1) (omega arith)
-
-pub start-bytes : (out : List ℕ) (v : ℕ) → bytes_of (length out) v ≡ bytes_of (length out) v ++ drop (length out) out
-start-bytes out v = rw (drop-length out, append-nil)
 
 pub end-bytes : (out : List ℕ) (v k : ℕ) → k ≤ 0 → bytes_of k v ++ drop k out ≡ out
 unfolding bytes_of

@@ -1,8 +1,7 @@
 -- Numbers in bytes, high byte first: request A13, "two bytes length (high byte first)" and "8 bytes two's complement, high byte first".
 -- Assumes nothing.
-use Rattle.std.specs.Prelude.{ℕ, zero, suc, ◌+◌, ◌*◌, ◌/◌, ◌%◌, cond, List, [], ◌∷◌, ◌++◌, leb, length, get_or, take, drop, ℤ}
+use Rattle.std.specs.Prelude.{ℕ, zero, suc, ◌+◌, ◌*◌, ◌/◌, ◌%◌, cond, List, [], ◌∷◌, ◌++◌, leb, length, get_or, take, drop, ℤ, Some}
 use Rattle.field.specs.Field.{twos, pattern_of}
-use Rattle.field.specs.declared.Reading.TheVariants.{Value}
 
 -- ---- over the number of bytes
 
@@ -23,7 +22,7 @@ unfoldable pub whole : List ℕ → ℤ
 whole s = twos 64 (number 8 s)
 
 unfoldable pub whole_bytes : ℤ → List ℕ
-whole_bytes z = bytes_of 8 (pattern_of 64 (Value z))
+whole_bytes z = bytes_of 8 (pattern_of 64 (Some z))
 
 -- ---- at a place of lent bytes
 

@@ -1,4 +1,4 @@
-// Why no samples are made of a message and points. The functions with a requires are private.
+// Files of sample answers made of a message and points, and why none is made. The functions with a requires are private.
 #![tactic(auto)]
 
 ghost use Rattle.std.specs.Prelude.{◌≡◌, length, map, ◌+◌, ◌*◌};
@@ -8,19 +8,17 @@ ghost use Rattle.layout.specs.Layout.{answered, stored};
 ghost use Rattle.sample_files.specs.File.{point_size, point_field, point_fields};
 ghost use Rattle.sample_writer.specs.Write.{sample, samples_file, write_refusal};
 
-use arith::refusals::{LENGTH, ROOM};
+use arith::refusals::Refusal;
 use grid_component::Kept;
 use layout::Written;
+use sample_files::{MOST_POINTS, POINT_SIZE};
 
-const MOST_POINTS: usize = 1000;
-
-// The refusal of the first point that is refused, 0 where none is.
+// The refusal of the first point that is refused, 0 where none is. The points stand in three slices of one count, as the C interface lends them.
 fn first_refused(message: &[u8], kept: Kept, components: &[u8], north: &[i64], east: &[i64]) -> u8
     requires { (kept ≡ kept_of message.now) × ((length components.now ≡ length north.now) × (length components.now ≡ length east.now)) }
     ensures { result ≡ first_refused message.now (asked_of components.now north.now east.now) }
 {
-    let mut i: usize = 0;
-    while i < components.len() {
+    for i in 0..components.len() {
         let refusal = grid_component::count_at(
             message,
             kept,
@@ -31,7 +29,6 @@ fn first_refused(message: &[u8], kept: Kept, components: &[u8], north: &[i64], e
         if refusal != 0 {
             return refusal;
         }
-        i += 1;
     }
     0
 }
@@ -47,24 +44,20 @@ pub fn points_refusal(message: &[u8], components: &[u8], north: &[i64], east: &[
     }
     let n = components.len();
     if n != north.len() {
-        return LENGTH;
+        return Refusal::Length as u8;
     }
     if n != east.len() {
-        return LENGTH;
+        return Refusal::Length as u8;
     }
     let point = first_refused(message, kept, components, north, east);
     if point != 0 {
         return point;
     }
     if MOST_POINTS < n {
-        return LENGTH;
+        return Refusal::Length as u8;
     }
     0
 }
-
-// Writing a file of sample answers from a message and points. The functions with a requires are private.
-
-const POINT_SIZE: usize = 28;
 
 // Fills out with the field of a point.
 fn put_point(out: &mut [u8], component: u8, north: i64, east: i64, claim: i64)
@@ -73,7 +66,7 @@ fn put_point(out: &mut [u8], component: u8, north: i64, east: i64, claim: i64)
 {
     sample_numbers::put_at(out, 0, 1, 2);
     sample_numbers::put_at(out, 1, 2, 25);
-    sample_numbers::put_at(out, 3, 1, component as u64);
+    sample_numbers::put_at(out, 3, 1, u64::from(component));
     sample_numbers::put_whole(out, 4, north);
     sample_numbers::put_whole(out, 12, east);
     sample_numbers::put_whole(out, 20, claim);
@@ -100,8 +93,7 @@ fn put_samples(
     requires { (kept ≡ kept_of message.now) × ((length components.now ≡ length north.now) × ((length components.now ≡ length east.now) × (length out.old ≡ point_size * length components.now))) }
     ensures { out.new ≡ point_fields (map (sample message.now) (asked_of components.now north.now east.now)) }
 {
-    let mut i: usize = 0;
-    while i < components.len() {
+    for i in 0..components.len() {
         let a = POINT_SIZE * i;
         let e = a + POINT_SIZE;
         put_sample(
@@ -112,7 +104,6 @@ fn put_samples(
             north[i],
             east[i],
         );
-        i += 1;
     }
 }
 
@@ -158,7 +149,7 @@ pub fn write_samples(
     }
     let length = 3 + message.len() + POINT_SIZE * components.len();
     if out.len() < length {
-        return refused(ROOM);
+        return refused(Refusal::Room as u8);
     }
     put_file(
         &mut out[..length],

@@ -16,19 +16,10 @@ fn main(rt: HostRuntime) -> io::Result<()> {
 fn show(writer: &mut impl Write, file: &[u8]) -> io::Result<()> {
     let c = sample_checks::check_samples(file);
     if c.refusal == 0 {
-        writer.write_all(b"accepted ")?;
-        return print(writer, sample_files::point_count(file), b"\n");
+        return writeln!(writer, "accepted {}", sample_files::point_count(file));
     }
-    writer.write_all(b"refused ")?;
     if c.place == 0 {
-        return print(writer, c.refusal as usize, b"\n");
+        return writeln!(writer, "refused {}", c.refusal);
     }
-    print(writer, c.refusal as usize, b" ")?;
-    print(writer, c.place, b"\n")
-}
-
-// A number, and what stands behind it.
-fn print(writer: &mut impl Write, n: usize, end: &[u8]) -> io::Result<()> {
-    write!(writer, "{n}")?;
-    writer.write_all(end)
+    writeln!(writer, "refused {} {}", c.refusal, c.place)
 }

@@ -5,12 +5,13 @@ use mathlib.Core.Bool.{Bool, true, false, cond, ◌||◌}
 use mathlib.Core.Path.{◌≡◌, refl, sym, ap, ◌∙◌}
 use native.Mathlib.Omega.{arith}
 use native.Mathlib.Decide.{ℕ_discrete}
+use mathlib.Core.List.{[], ◌∷◌, ◌++◌}
+use lib.ListN.{length, length-append}
+use native.Mathlib.Numerals.{add-one}
+use Rattle.std.proofs.lemmas.List.{map-id}
+use Rattle.std.specs.List.{filter, range_with_len}
+use Rattle.std.proofs.lemmas.List.FromFn.{filter_of_map_range_with_len_more}
 use Rattle.table.specs.Table.{count_of}
-
--- a loop's round
-pub count_turn : (p : ℕ → Bool) (i : ℕ) → count_of p (i + 1) ≡ cond (p i) (suc (count_of p i)) (count_of p i)
-unfolding count_of
-count_turn p i = let e : i + 1 ≡ suc i = omega arith in rw e
 
 pub count_same : (p r : ℕ → Bool) (n : ℕ) → ((j : ℕ) → j < n → p j ≡ r j) → count_of p n ≡ count_of r n
 unfolding count_of
@@ -84,3 +85,18 @@ count-sum p q r (suc n) h o = rw (h n (omega arith)) (by (q n) (r n) (o n (omega
     by true b u e = rw (u refl) (omega arith)
     by false true u e = omega arith
     by false false u e = e
+
+-- the numbers below n that pass
+pub count-filter : (p : ℕ → Bool) (n : ℕ) → length (filter p (range_with_len 0 n)) ≡ count_of p n
+unfolding count_of
+count-filter p zero = refl
+count-filter p (suc n) =
+    let e : filter p (range_with_len 0 (n + 1)) ≡ filter p (range_with_len 0 n) ++ cond (p n) (n ∷ []) [] =
+    simp map-id at (filter_of_map_range_with_len_more p (λ (x : ℕ). x) 0 n n (omega arith)) in
+    ap (λ (k : ℕ). length (filter p (range_with_len 0 k))) (sym (add-one n)) ∙ ap length e
+    ∙ length-append (filter p (range_with_len 0 n)) (cond (p n) (n ∷ []) [])
+    ∙ by (p n) (count-filter p n)
+  where
+    by : (b : Bool) → length (filter p (range_with_len 0 n)) ≡ count_of p n → length (filter p (range_with_len 0 n)) + length (cond b (n ∷ []) []) ≡ cond b (suc (count_of p n)) (count_of p n)
+    by true e = omega arith
+    by false e = omega arith

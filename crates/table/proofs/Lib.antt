@@ -2,3 +2,4 @@ pub mod Count
 pub mod Whole
 pub mod Marks
 pub mod Calls
+pub mod Filled

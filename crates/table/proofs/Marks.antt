@@ -13,6 +13,8 @@ use Rattle.arith.specs.Places.{first_of}
 use Rattle.table_slots.specs.Slots.{slots, table_size, key_of, joined, slot, well_slot, tag}
 use Rattle.table.specs.Table.{has_tag, place, new_key, flawed, well_slots, holding, well_formed, store_place}
 use Rattle.table_slots.specs.Inner.{no_tag, marks, has_mark, mark_place, flawed_mark, sound_marks, mark_or_free}
+use Rattle.table.specs.Inner.{checked_marks, Marked}
+use Rattle.std.specs.Prelude.{Some, None}
 use Rattle.arith.proofs.Places.{agree}
 use Rattle.table_slots.proofs.Marks.{mark-well, mark-ill, tag-most, mark-in}
 use Rattle.table.proofs.Whole.{unflawed, slots-first, formed}
@@ -78,3 +80,21 @@ module _ (t row : List ℕ) (is : row ≡ marks t) where
   pub row-store : well_formed t ≡ true → (o : ℕ) (m : List ℕ) → mark_or_free row (suc (joined o (key_of m))) (holding t o) ≡ store_place t o m
   unfolding mark_or_free store_place
   row-store w o m = rw (row-place w (suc (joined o (key_of m))), row-place w 0)
+
+-- ---- the marks of a well-formed table
+
+pub marked : {t row : List ℕ} → Some row ≡ checked_marks t → Marked row t
+unfolding checked_marks
+marked {t} {row} e = by (well_formed t) refl
+  where
+    by : (b : Bool) → well_formed t ≡ b → Marked row t
+    by true w = let z : Some row ≡ Some (marks t) = e ∙ rw w in record { row_is = cc; whole = w }
+    by false w = let z : Some row ≡ None = e ∙ rw w in cc
+
+pub unmarked : (t : List ℕ) → ((row : List ℕ) → checked_marks t ≡ Some row → ⊥) → well_formed t ≡ false
+unfolding checked_marks
+unmarked t n = by (well_formed t) refl
+  where
+    by : (b : Bool) → well_formed t ≡ b → well_formed t ≡ false
+    by true w = absurd (n (marks t) (rw w))
+    by false w = w

@@ -1,8 +1,7 @@
 -- What only promises between crates name.
 -- Assumes nothing.
-use Rattle.std.specs.Prelude.{ℕ, ◌+◌, ◌≡◌, true, cond, List, replicate, take, drop}
-use Rattle.table_slots.specs.Slots.{slots}
-use Rattle.table_slots.specs.Inner.{no_tag, marks}
+use Rattle.std.specs.Prelude.{ℕ, ◌+◌, ◌≡◌, true, cond, List, take, drop, Option, Some, None}
+use Rattle.table_slots.specs.Inner.{marks}
 use Rattle.table.specs.Table.{well_formed, found_at, found_length}
 use Rattle.std.specs.Borrow.{Bor}
 
@@ -10,9 +9,9 @@ use Rattle.std.specs.Borrow.{Bor}
 unfoldable pub found : List ℕ → ℕ → ℕ → ℕ → List ℕ
 found t o sin group = take (found_length t o sin group) (drop (found_at t o sin group) t)
 
--- a table that is not well formed has no tags
-unfoldable pub checked_marks : List ℕ → List ℕ
-checked_marks t = cond (well_formed t) (marks t) (replicate slots no_tag)
+-- the marks of a table that is well formed
+unfoldable pub checked_marks : List ℕ → Option (List ℕ)
+checked_marks t = cond (well_formed t) (Some (marks t)) None
 
 -- a table that is well formed, and its row of marks
 pub record Marked (row t : List ℕ) : Type 0 where

@@ -20,7 +20,7 @@ use Rattle.table_history.specs.History.{fresh, Ask, store, find, remove, Call, a
 use Rattle.table_history.specs.Private.{walk}
 use Rattle.table_history.proofs.Replies.{fresh-formed}
 use Rattle.table_index_search.specs.Index.{index_size}
-use Rattle.table_index_search.specs.Search.{named, searched, entries_at}
+use Rattle.table_index_search.specs.Search.{named, is_found, slot_found, searched, entries_at}
 use Rattle.table_index_search.specs.Agree.{agree}
 use Rattle.table_index_search.specs.Means.{mark_in}
 use Rattle.table_index_search.specs.declared.Probe.{Probe}
@@ -118,44 +118,44 @@ probes-count t x o s g e = rw (eq-eqb (find_number t x o s g) 0 e) (searched-cou
 abbrev number_from : ℕ → ℕ → ℕ → ℕ → ℕ → Probe → List ℕ → ℕ
 number_from o s g size sized p l =
     first
-    ((18, not (eqb size table_size)) ∷ (22, not (eqb sized index_size)) ∷ (21, not (is_owner o)) ∷ (17, not (ltb g 3)) ∷ (17, not p.found) ∷ (22, not (ltb p.slot slots)) ∷ (22, not (used_by l o s g)) ∷ [])
+    ((18, not (eqb size table_size)) ∷ (22, not (eqb sized index_size)) ∷ (21, not (is_owner o)) ∷ (17, not (ltb g 3)) ∷ (17, not (is_found p)) ∷ (22, not (ltb (slot_found p) slots)) ∷ (22, not (used_by l o s g)) ∷ [])
 
 abbrev answer_from : ℕ → ℕ → ℕ → ℕ → ℕ → Probe → List ℕ → Found
 answer_from o s g size sized p l =
     record {
       refusal = number_from o s g size sized p l;
-      at = cond (eqb (number_from o s g size sized p l) 0) (p.slot * slot_size + 2) 0;
+      at = cond (eqb (number_from o s g size sized p l) 0) (slot_found p * slot_size + 2) 0;
       length = cond (eqb (number_from o s g size sized p l) 0) (get_or l 1 0) 0;
       probes = cond (eqb (number_from o s g size sized p l) 0) p.probes 0;
     }
 
 pub find-local : (t t' x x' : List ℕ) (o s g : ℕ) → length t ≡ length t' → length x ≡ length x'
     → entries_at x (named x (entry_key o s g)) ≡ entries_at x' (named x (entry_key o s g))
-    → ((searched x (entry_key o s g)).found ≡ true → slot t (searched x (entry_key o s g)).slot ≡ slot t' (searched x (entry_key o s g)).slot)
+    → (is_found (searched x (entry_key o s g)) ≡ true → slot t (slot_found (searched x (entry_key o s g))) ≡ slot t' (slot_found (searched x (entry_key o s g))))
     → found_by t x o s g ≡ found_by t' x' o s g
 unfolding found_by find_number given part_at part_length probed
-find-local t t' x x' o s g p q r u = by (searched x (entry_key o s g)).found refl
+find-local t t' x x' o s g p q r u = by (is_found (searched x (entry_key o s g))) refl
   where
     e : searched x (entry_key o s g) ≡ searched x' (entry_key o s g)
     e = searched-local x x' (entry_key o s g) q r
 
     -- without an entry no slot counts
-    none : (size sized : ℕ) (y : Probe) (l l' : List ℕ) → y.found ≡ false → answer_from o s g size sized y l ≡ answer_from o s g size sized y l'
+    none : (size sized : ℕ) (y : Probe) (l l' : List ℕ) → is_found y ≡ false → answer_from o s g size sized y l ≡ answer_from o s g size sized y l'
     none size sized y l l' z = rw z (early (not (eqb size table_size)) (not (eqb sized index_size)) (not (is_owner o)) (not (ltb g 3)))
       where
         early : (a b c d : Bool) → ◌≡◌ {A = Found}
-            (record { refusal = cond a 18 (cond b 22 (cond c 21 (cond d 17 17))); at = cond (eqb (cond a 18 (cond b 22 (cond c 21 (cond d 17 17)))) 0) (y.slot * slot_size + 2) 0; length = cond (eqb (cond a 18 (cond b 22 (cond c 21 (cond d 17 17)))) 0) (get_or l 1 0) 0; probes = cond (eqb (cond a 18 (cond b 22 (cond c 21 (cond d 17 17)))) 0) y.probes 0 })
-            (record { refusal = cond a 18 (cond b 22 (cond c 21 (cond d 17 17))); at = cond (eqb (cond a 18 (cond b 22 (cond c 21 (cond d 17 17)))) 0) (y.slot * slot_size + 2) 0; length = cond (eqb (cond a 18 (cond b 22 (cond c 21 (cond d 17 17)))) 0) (get_or l' 1 0) 0; probes = cond (eqb (cond a 18 (cond b 22 (cond c 21 (cond d 17 17)))) 0) y.probes 0 })
+            (record { refusal = cond a 18 (cond b 22 (cond c 21 (cond d 17 17))); at = cond (eqb (cond a 18 (cond b 22 (cond c 21 (cond d 17 17)))) 0) (slot_found y * slot_size + 2) 0; length = cond (eqb (cond a 18 (cond b 22 (cond c 21 (cond d 17 17)))) 0) (get_or l 1 0) 0; probes = cond (eqb (cond a 18 (cond b 22 (cond c 21 (cond d 17 17)))) 0) y.probes 0 })
+            (record { refusal = cond a 18 (cond b 22 (cond c 21 (cond d 17 17))); at = cond (eqb (cond a 18 (cond b 22 (cond c 21 (cond d 17 17)))) 0) (slot_found y * slot_size + 2) 0; length = cond (eqb (cond a 18 (cond b 22 (cond c 21 (cond d 17 17)))) 0) (get_or l' 1 0) 0; probes = cond (eqb (cond a 18 (cond b 22 (cond c 21 (cond d 17 17)))) 0) y.probes 0 })
         early true b c d = refl
         early false true c d = refl
         early false false true d = refl
         early false false false true = refl
         early false false false false = refl
 
-    by : (b : Bool) → (searched x (entry_key o s g)).found ≡ b → answer_from o s g (length t) (length x) (searched x (entry_key o s g)) (slot t (searched x (entry_key o s g)).slot) ≡ answer_from o s g (length t') (length x') (searched x' (entry_key o s g)) (slot t' (searched x' (entry_key o s g)).slot)
+    by : (b : Bool) → is_found (searched x (entry_key o s g)) ≡ b → answer_from o s g (length t) (length x) (searched x (entry_key o s g)) (slot t (slot_found (searched x (entry_key o s g)))) ≡ answer_from o s g (length t') (length x') (searched x' (entry_key o s g)) (slot t' (slot_found (searched x' (entry_key o s g))))
     by true h =
-        let v : slot t (searched x (entry_key o s g)).slot ≡ slot t' (searched x' (entry_key o s g)).slot = u h ∙ ap (λ (y : Probe). slot t' y.slot) e in
+        let v : slot t (slot_found (searched x (entry_key o s g))) ≡ slot t' (slot_found (searched x' (entry_key o s g))) = u h ∙ ap (λ (y : Probe). slot t' (slot_found y)) e in
         λ i. answer_from o s g (p i) (q i) (e i) (v i)
     by false h =
-        none (length t) (length x) (searched x (entry_key o s g)) (slot t (searched x (entry_key o s g)).slot) (slot t' (searched x' (entry_key o s g)).slot) h
-        ∙ (λ i. answer_from o s g (p i) (q i) (e i) (slot t' (searched x' (entry_key o s g)).slot))
+        none (length t) (length x) (searched x (entry_key o s g)) (slot t (slot_found (searched x (entry_key o s g)))) (slot t' (slot_found (searched x' (entry_key o s g)))) h
+        ∙ (λ i. answer_from o s g (p i) (q i) (e i) (slot t' (slot_found (searched x' (entry_key o s g)))))

@@ -4,3 +4,4 @@ pub mod Tests
 pub mod Agree
 pub mod Found
 pub mod Standing
+pub mod Ranges

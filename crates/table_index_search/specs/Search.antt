@@ -1,6 +1,6 @@
 -- The halving rule: request A9, "Find reads only the entries that this halving rule names".
 -- Assumes nothing.
-use Rattle.std.specs.Prelude.{ℕ, zero, suc, ◌+◌, ◌-◌, ◌*◌, ◌/◌, true, false, cond, List, [], ◌∷◌, length, take, drop, eqb, ltb}
+use Rattle.std.specs.Prelude.{ℕ, zero, suc, ◌+◌, ◌-◌, ◌*◌, ◌/◌, Bool, true, false, cond, Some, None, is_some, unwrap_or, List, [], ◌∷◌, length, take, drop, eqb, ltb}
 use Rattle.table_index_search.specs.Index.{entries, entry_size, index_size, slot_at, key_at}
 use Rattle.table_index_search.specs.declared.Probe.{Probe}
 
@@ -28,10 +28,17 @@ unfoldable pub named : List ℕ → ℕ → List ℕ
 named x key = cond (eqb (length x) index_size) (named_among entries x key 0 entries) []
 
 abbrev pub missed_after : ℕ → Probe
-missed_after n = record { found = false; slot = 0; probes = n }
+missed_after n = record { slot = None; probes = n }
 
 abbrev pub met_after : ℕ → ℕ → Probe
-met_after slot n = record { found = true; slot = slot; probes = n }
+met_after slot n = record { slot = Some slot; probes = n }
+
+-- whether a search found the key, and the slot that it gives, 0 where it found none
+abbrev pub is_found : Probe → Bool
+is_found p = is_some p.slot
+
+abbrev pub slot_found : Probe → ℕ
+slot_found p = unwrap_or p.slot 0
 
 -- the last of n places named decides: its slot, where it has the key
 unfoldable pub last_named : List ℕ → ℕ → List ℕ → ℕ → Probe

@@ -4,10 +4,10 @@
 ghost use Rattle.std.specs.Prelude.{◌≡◌, ◌<◌, length, eqb, ltb};
 ghost use Rattle.arith.specs.Lists.{all_below};
 ghost use Rattle.table_index_search.specs.Index.{entries, entry_size, index_size, byte_at, number_at, key_at};
-ghost use Rattle.table_index_search.specs.Search.{missed_after, met_after, searched};
+ghost use Rattle.table_index_search.specs.Search.{searched};
 ghost use Rattle.table_index_search.specs.Private.{binary_search};
-ghost use Rattle.table_index_search.specs.Agree.{blank_at, in_order, is_true, is_entry, entry_place, is_listed, agree_at, agree};
-ghost use Rattle.table_index_search.specs.Place.{key_place, has_key};
+ghost use Rattle.table_index_search.specs.Agree.{blank_at, in_order, is_true, is_entry, is_listed, agree_at, agree};
+ghost use Rattle.table_index_search.specs.Place.{key_place};
 ghost use Rattle.table_index_search.specs.Inner.{placed};
 
 pub const ENTRIES: usize = 32;
@@ -16,38 +16,16 @@ pub const ENTRY_SIZE: usize = 4;
 
 pub const INDEX_SIZE: usize = ENTRIES * ENTRY_SIZE;
 
-// What a search gives: the slot of the entry that has the key, 0 where none has it, and how many entries were looked at.
-#[repr(C)]
+// What a search gives: the slot of the entry that has the key, and how many entries were looked at.
 #[derive(Clone, Copy)]
 pub struct Probe {
-    pub found: bool,
-    pub slot: u8,
+    pub slot: Option<u8>,
     pub probes: u8,
 }
 
-fn missed(probes: u8) -> Probe
-    ensures { result ≡ missed_after probes }
-{
-    Probe {
-        found: false,
-        slot: 0,
-        probes,
-    }
-}
-
-fn met(slot: u8, probes: u8) -> Probe
-    ensures { result ≡ met_after slot probes }
-{
-    Probe {
-        found: true,
-        slot,
-        probes,
-    }
-}
-
 // Byte b of entry j: owner, SIN, group, slot.
-fn byte_at(index: &[u8], j: usize, b: usize) -> u8
-    requires { (length index.now ≡ index_size) × ((j < entries) × (b < entry_size)) }
+fn byte_at(index: &[u8; INDEX_SIZE], j: usize, b: usize) -> u8
+    requires { (j < entries) × (b < entry_size) }
     ensures { result ≡ byte_at index.now j b }
 {
     let a = j * ENTRY_SIZE + b;
@@ -55,8 +33,8 @@ fn byte_at(index: &[u8], j: usize, b: usize) -> u8
 }
 
 // Owner, SIN and group of entry j as one number.
-fn number_at(index: &[u8], j: usize) -> u64
-    requires { (length index.now ≡ index_size) × (j < entries) }
+fn number_at(index: &[u8; INDEX_SIZE], j: usize) -> u64
+    requires { j < entries }
     ensures { result ≡ number_at index.now j }
 {
     let owner = byte_at(index, j, 0) as u64;
@@ -65,8 +43,8 @@ fn number_at(index: &[u8], j: usize) -> u64
 }
 
 // Whether entry j has the key.
-fn is_key(index: &[u8], j: usize, key: u64) -> bool
-    requires { (length index.now ≡ index_size) × (j < entries) }
+fn is_key(index: &[u8; INDEX_SIZE], j: usize, key: u64) -> bool
+    requires { j < entries }
     ensures { result ≡ eqb (key_at index.now j) key }
 {
     if byte_at(index, j, 0) == 0 {
@@ -76,8 +54,8 @@ fn is_key(index: &[u8], j: usize, key: u64) -> bool
 }
 
 // Whether entry j is below the key.
-fn is_below(index: &[u8], j: usize, key: u64) -> bool
-    requires { (length index.now ≡ index_size) × (j < entries) }
+fn is_below(index: &[u8; INDEX_SIZE], j: usize, key: u64) -> bool
+    requires { j < entries }
     ensures { result ≡ ltb (key_at index.now j) key }
 {
     if byte_at(index, j, 0) == 0 {
@@ -86,9 +64,8 @@ fn is_below(index: &[u8], j: usize, key: u64) -> bool
     number_at(index, j) < key
 }
 
-// Looks for a key among all entries.
-fn binary_search(index: &[u8], key: u64) -> Probe
-    requires { length index.now ≡ index_size }
+// Looks for a key among all entries. A while: the search halves, and counts the entries that it looks at.
+fn binary_search(index: &[u8; INDEX_SIZE], key: u64) -> Probe
     ensures { result ≡ binary_search entries index.now key 0 entries 0 }
 {
     let mut lo = 0;
@@ -98,7 +75,8 @@ fn binary_search(index: &[u8], key: u64) -> Probe
         let mid = (lo + (end - 1)) / 2;
         probes += 1;
         if is_key(index, mid, key) {
-            return met(byte_at(index, mid, 3), probes);
+            let slot = Some(byte_at(index, mid, 3));
+            return Probe { slot, probes };
         }
         if is_below(index, mid, key) {
             lo = mid + 1;
@@ -106,37 +84,33 @@ fn binary_search(index: &[u8], key: u64) -> Probe
             end = mid;
         }
     }
-    missed(probes)
+    Probe { slot: None, probes }
 }
 
 // Looks for a key by binary search; an index of another size has none.
 pub fn search(index: &[u8], key: u64) -> Probe
     ensures { result ≡ searched index.now key }
 {
-    if index.len() != INDEX_SIZE {
-        return missed(0);
-    }
+    let Ok(index) = <&[u8; INDEX_SIZE]>::try_from(index) else {
+        return Probe {
+            slot: None,
+            probes: 0,
+        };
+    };
     binary_search(index, key)
 }
 
 // Whether all bytes of entry j are zero.
-fn is_blank(index: &[u8], j: usize) -> bool
-    requires { (length index.now ≡ index_size) × (j < entries) }
+fn is_blank(index: &[u8; INDEX_SIZE], j: usize) -> bool
+    requires { j < entries }
     ensures { result ≡ blank_at index.now j }
 {
-    let mut b = 0;
-    while b < ENTRY_SIZE {
-        if byte_at(index, j, b) != 0 {
-            return false;
-        }
-        b += 1;
-    }
-    true
+    (0..ENTRY_SIZE).all(|b| byte_at(index, j, b) == 0)
 }
 
 // Whether entry j is unused, the first, or above the one before it.
-fn in_order(index: &[u8], j: usize) -> bool
-    requires { (length index.now ≡ index_size) × (j < entries) }
+fn in_order(index: &[u8; INDEX_SIZE], j: usize) -> bool
+    requires { j < entries }
     ensures { result ≡ in_order index.now j }
 {
     if byte_at(index, j, 0) == 0 {
@@ -149,8 +123,8 @@ fn in_order(index: &[u8], j: usize) -> bool
 }
 
 // Whether entry j is zero where it is unused, and else its slot has its key.
-fn is_true(marks: &[u64], index: &[u8], j: usize) -> bool
-    requires { (length marks.now ≡ entries) × ((length index.now ≡ index_size) × (j < entries)) }
+fn is_true(marks: &[u64; ENTRIES], index: &[u8; INDEX_SIZE], j: usize) -> bool
+    requires { j < entries }
     ensures { result ≡ is_true marks.now index.now j }
 {
     if byte_at(index, j, 0) == 0 {
@@ -164,8 +138,8 @@ fn is_true(marks: &[u64], index: &[u8], j: usize) -> bool
 }
 
 // Whether entry j has the key and the slot.
-fn is_entry(index: &[u8], key: u64, slot: usize, j: usize) -> bool
-    requires { (length index.now ≡ index_size) × (j < entries) }
+fn is_entry(index: &[u8; INDEX_SIZE], key: u64, slot: usize, j: usize) -> bool
+    requires { j < entries }
     ensures { result ≡ is_entry index.now key slot j }
 {
     if !is_key(index, j, key) {
@@ -174,36 +148,21 @@ fn is_entry(index: &[u8], key: u64, slot: usize, j: usize) -> bool
     byte_at(index, j, 3) as usize == slot
 }
 
-// The first entry with the key and the slot, 32 where there is none.
-fn entry_place(index: &[u8], key: u64, slot: usize) -> usize
-    requires { length index.now ≡ index_size }
-    ensures { result ≡ entry_place index.now key slot }
-{
-    let mut j = 0;
-    while j < ENTRIES {
-        if is_entry(index, key, slot, j) {
-            return j;
-        }
-        j += 1;
-    }
-    ENTRIES
-}
-
 // Whether slot i is free or has an entry.
-fn is_listed(marks: &[u64], index: &[u8], i: usize) -> bool
-    requires { (length marks.now ≡ entries) × ((length index.now ≡ index_size) × (i < entries)) }
+fn is_listed(marks: &[u64; ENTRIES], index: &[u8; INDEX_SIZE], i: usize) -> bool
+    requires { i < entries }
     ensures { result ≡ is_listed marks.now index.now i }
 {
     let key = marks[i];
     if key == 0 {
         return true;
     }
-    entry_place(index, key, i) < ENTRIES
+    (0..ENTRIES).any(|j| is_entry(index, key, i, j))
 }
 
 // Whether entry i and slot i are as in an index and a table that agree.
-fn agree_at(marks: &[u64], index: &[u8], i: usize) -> bool
-    requires { (length marks.now ≡ entries) × ((length index.now ≡ index_size) × (i < entries)) }
+fn agree_at(marks: &[u64; ENTRIES], index: &[u8; INDEX_SIZE], i: usize) -> bool
+    requires { i < entries }
     ensures { result ≡ agree_at marks.now index.now i }
 {
     if !in_order(index, i) {
@@ -216,80 +175,44 @@ fn agree_at(marks: &[u64], index: &[u8], i: usize) -> bool
 }
 
 // Whether all entries and slots are as in an index and a table that agree.
-fn all_agree(marks: &[u64], index: &[u8]) -> bool
-    requires { (length marks.now ≡ entries) × (length index.now ≡ index_size) }
+fn all_agree(marks: &[u64; ENTRIES], index: &[u8; INDEX_SIZE]) -> bool
     ensures { result ≡ all_below (agree_at marks.now index.now) entries }
 {
-    let mut i = 0;
-    while i < ENTRIES {
-        if !agree_at(marks, index, i) {
-            return false;
-        }
-        i += 1;
-    }
-    true
+    (0..ENTRIES).all(|i| agree_at(marks, index, i))
 }
 
 // Whether the index agrees with a table that has the marks.
 pub fn agrees(marks: &[u64], index: &[u8]) -> bool
     ensures { result ≡ agree marks.now index.now }
 {
-    if marks.len() != ENTRIES {
+    let Ok(marks) = <&[u64; ENTRIES]>::try_from(marks) else {
         return false;
-    }
-    if index.len() != INDEX_SIZE {
+    };
+    let Ok(index) = <&[u8; INDEX_SIZE]>::try_from(index) else {
         return false;
-    }
+    };
     all_agree(marks, index)
 }
 
 // The first entry that is not below the key, 32 where all are.
-fn key_place(index: &[u8], key: u64) -> usize
-    requires { length index.now ≡ index_size }
+fn key_place(index: &[u8; INDEX_SIZE], key: u64) -> usize
     ensures { result ≡ key_place index.now key }
 {
-    let mut place = 0;
-    while place < ENTRIES {
-        if !is_below(index, place, key) {
-            return place;
-        }
-        place += 1;
-    }
-    ENTRIES
+    (0..ENTRIES)
+        .position(|j| !is_below(index, j, key))
+        .unwrap_or(ENTRIES)
 }
 
-// Whether the key stands at its place.
-fn has_key(index: &[u8], j: usize, key: u64) -> bool
-    requires { (length index.now ≡ index_size) × (j ≡ key_place index.now key) }
-    ensures { result ≡ has_key index.now key }
-{
-    if ENTRIES <= j {
-        return false;
-    }
-    is_key(index, j, key)
-}
-
-// Where a key stands or belongs: the first entry that is not below it, 32 where all are; and whether it stands there.
-#[repr(C)]
-#[derive(Clone, Copy)]
-pub struct KeyPlace {
-    pub at: usize,
-    pub has: bool,
-}
-
-// The place of a key; an index of another size has none.
-pub fn place_of(index: &[u8], key: u64) -> KeyPlace
+// Where a key stands, or else where it belongs: the first entry that is not below it, 32 where all are. An index of another size has none.
+pub fn place_of(index: &[u8], key: u64) -> Result<usize, usize>
     ensures { result ≡ placed index.now key }
 {
-    if index.len() != INDEX_SIZE {
-        return KeyPlace {
-            at: ENTRIES,
-            has: false,
-        };
-    }
+    let Ok(index) = <&[u8; INDEX_SIZE]>::try_from(index) else {
+        return Err(ENTRIES);
+    };
     let at = key_place(index, key);
-    KeyPlace {
-        at,
-        has: has_key(index, at, key),
+    if at < ENTRIES && is_key(index, at, key) {
+        return Ok(at);
     }
+    Err(at)
 }

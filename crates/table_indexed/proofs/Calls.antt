@@ -22,6 +22,7 @@ use Rattle.table.specs.Table.{place, holding, well_formed, store_place, store_re
 use Rattle.table.proofs.Marks.{row-place}
 use Rattle.table.proofs.Calls.{store-order, store_kept, remove-kept, store_place-old, store_place-new, store_place-most}
 use Rattle.table_index_search.specs.Index.{index_size}
+use Rattle.table_index_search.specs.Search.{is_found, slot_found}
 use Rattle.table_index_search.specs.Agree.{agree}
 use Rattle.table_index.specs.Change.{inserted, deleted, rebuilt}
 use Rattle.table_indexed.specs.Indexed.{entry_key, message_key, slot_keys, agrees_refusal, write_refusal, write_index, behind, store_number, stored_table, stored_index, remove_number, removed_table, removed_index}
@@ -213,22 +214,22 @@ module _ (t x : List ℕ) (o s g : ℕ) where
           d : ltb g 3 ≡ true
           d = lt-ltb g 3 (omega arith)
 
-          pub find_none : (probed x o s g).found ≡ false → found_by t x o s g ≡ missing 17
+          pub find_none : is_found (probed x o s g) ≡ false → found_by t x o s g ≡ missing 17
           unfolding find_number
           find_none n = refused 17 (rw (a, b, v, d, n)) (λ e. omega arith)
 
-          pub find-slot : s < 256 → (probed x o s g).found ≡ true → found_by t x o s g ≡ in_slot t (probed x o s g).slot (suc (joined o (key s g))) (probed x o s g).probes
+          pub find-slot : s < 256 → is_found (probed x o s g) ≡ true → found_by t x o s g ≡ in_slot t (slot_found (probed x o s g)) (suc (joined o (key s g))) (probed x o s g).probes
           unfolding find_number found_by part_at part_length given in_slot
-          find-slot h f = rw (a, b, v, d, f, used-mark (slot t (probed x o s g).slot) o s g (owner-range o v).1 h low) (by (ltb (probed x o s g).slot slots) (used_by (slot t (probed x o s g).slot) o s g))
+          find-slot h f = rw (a, b, v, d, f, used-mark (slot t (slot_found (probed x o s g))) o s g (owner-range o v).1 h low) (by (ltb (slot_found (probed x o s g)) slots) (used_by (slot t (slot_found (probed x o s g))) o s g))
             where
               by : (p q : Bool) → ◌≡◌ {A = Found}
                   (record {
                     refusal = cond (not p) 22 (cond (not q) 22 0);
-                    at = cond (eqb (cond (not p) 22 (cond (not q) 22 0)) 0) ((probed x o s g).slot * slot_size + 2) 0;
-                    length = cond (eqb (cond (not p) 22 (cond (not q) 22 0)) 0) (get_or (slot t (probed x o s g).slot) 1 0) 0;
+                    at = cond (eqb (cond (not p) 22 (cond (not q) 22 0)) 0) (slot_found (probed x o s g) * slot_size + 2) 0;
+                    length = cond (eqb (cond (not p) 22 (cond (not q) 22 0)) 0) (get_or (slot t (slot_found (probed x o s g))) 1 0) 0;
                     probes = cond (eqb (cond (not p) 22 (cond (not q) 22 0)) 0) (probed x o s g).probes 0;
                   })
-                  (cond p (cond q (record { refusal = 0; at = (probed x o s g).slot * slot_size + 2; length = get_or (slot t (probed x o s g).slot) 1 0; probes = (probed x o s g).probes }) (missing 22)) (missing 22))
+                  (cond p (cond q (record { refusal = 0; at = slot_found (probed x o s g) * slot_size + 2; length = get_or (slot t (slot_found (probed x o s g))) 1 0; probes = (probed x o s g).probes }) (missing 22)) (missing 22))
               by true true = refl
               by true false = refl
               by false q = refl
@@ -239,19 +240,19 @@ pub record Passed (t x : List ℕ) (o s g : ℕ) : Type 0 where
   pub sized : length x ≡ index_size
   pub owner : is_owner o ≡ true
   pub group : g < 3
-  pub met : (probed x o s g).found ≡ true
-  pub low : (probed x o s g).slot < slots
-  pub has : used_by (slot t (probed x o s g).slot) o s g ≡ true
+  pub met : is_found (probed x o s g) ≡ true
+  pub low : (slot_found (probed x o s g)) < slots
+  pub has : used_by (slot t (slot_found (probed x o s g))) o s g ≡ true
 
 pub find-passed : (t x : List ℕ) (o s g : ℕ) → find_number t x o s g ≡ 0 → Passed t x o s g
 unfolding find_number
 find-passed t x o s g z =
-    let i = (probed x o s g).slot in
+    let i = slot_found (probed x o s g) in
     let a = passed 17 (not (eqb (length t) table_size)) _ z in
     let b = passed 21 (not (eqb (length x) index_size)) _ a.1 in
     let d = passed 20 (not (is_owner o)) _ b.1 in
     let e = passed 16 (not (ltb g 3)) _ d.1 in
-    let f = passed 16 (not (probed x o s g).found) _ e.1 in
+    let f = passed 16 (not (is_found (probed x o s g))) _ e.1 in
     let h = passed 21 (not (ltb i slots)) _ f.1 in
     let j = passed 21 (not (used_by (slot t i) o s g)) _ h.1 in
     record {
@@ -280,7 +281,7 @@ unfolding part_at part_length given used_by
 part-fits t x o s g = by (ℕ_discrete (find_number t x o s g) 0)
   where
     i : ℕ
-    i = (probed x o s g).slot
+    i = slot_found (probed x o s g)
 
     by : Dec (find_number t x o s g ≡ 0) → cond (eqb (find_number t x o s g) 0) (i * slot_size + 2) 0 + cond (eqb (find_number t x o s g) 0) (get_or (slot t i) 1 0) 0 ≤ length t
     by (yes e) =

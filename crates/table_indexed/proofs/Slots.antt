@@ -7,7 +7,7 @@ use mathlib.Core.Path.{◌≡◌, refl, sym, ap, ◌∙◌}
 use mathlib.Core.Bool.{Bool, true, false, ◌&&◌, ◌||◌}
 use mathlib.Core.List.{List}
 use lib.Dec.{eqb}
-use lib.ListN.{get_or, replicate, get_or-replicate}
+use lib.ListN.{get_or}
 use borrow.Author.Tests.{eq-eqb, ne_eqb}
 use Rattle.arith.specs.Lists.{up_to}
 use Rattle.arith.proofs.Lists.{up_to-same}
@@ -17,9 +17,8 @@ use Rattle.table_slots.specs.Slots.{slots, group_of, key, key_of, joined, slot, 
 use Rattle.table_slots.specs.Inner.{no_tag, mark, marks}
 use Rattle.table_slots.proofs.Owner.{owner-range}
 use Rattle.table_slots.proofs.Slot.{tag_free, tag-used, used-of, or_right, not-zero}
-use Rattle.table_slots.proofs.Marks.{mark-well, mark-ill, group-most, tag-most, mark-in}
+use Rattle.table_slots.proofs.Marks.{mark-well, mark-ill, group-most, mark-in}
 use Rattle.table.specs.Table.{well_formed}
-use Rattle.table.specs.Inner.{checked_marks}
 use Rattle.table.proofs.Whole.{formed}
 use Rattle.table_indexed.specs.Indexed.{entry_key, message_key, slot_key, slot_key_at, slot_keys}
 use Rattle.table_indexed.specs.Find.{used_by}
@@ -69,38 +68,6 @@ row-keys t row w e =
     let f = formed t w in
     up_to-same (mark_key_at row) (slot_key_at t) slots
     (λ i h. ap (λ (r : List ℕ). mark_key (get_or r i 0)) e ∙ ap mark_key (mark-in t f.size i h ∙ mark-well (slot t i) (f.well i h)) ∙ mark-key (slot t i) (f.well i h))
-
--- ---- whether the table is well formed, by the first mark
-
-module _ (t row : List ℕ) (is : row ≡ checked_marks t) where
-  pub checked-well : well_formed t ≡ true → row ≡ marks t
-  unfolding checked_marks
-  checked-well w =
-      let z : checked_marks t ≡ marks t = rw w in
-      is ∙ z
-
-  checked-ill : well_formed t ≡ false → get_or row 0 0 ≡ no_tag
-  unfolding checked_marks
-  checked-ill w =
-      let z : checked_marks t ≡ replicate slots no_tag = rw w in
-      ap (λ (r : List ℕ). get_or r 0 0) (is ∙ z) ∙ get_or-replicate slots 0 no_tag 0 (omega arith)
-
-  pub ill-table : get_or row 0 0 ≡ no_tag → well_formed t ≡ false
-  ill-table e = by (well_formed t) refl
-    where
-      by : (b : Bool) → well_formed t ≡ b → b ≡ false
-      by true w =
-          let f = formed t w in
-          let q : get_or row 0 0 ≡ tag (slot t 0) = ap (λ (r : List ℕ). get_or r 0 0) (checked-well w) ∙ mark-in t f.size 0 (omega arith) ∙ mark-well (slot t 0) (f.well 0 (omega arith)) in
-          absurd (omega (arith, tag-most (slot t 0) (f.well 0 (omega arith))))
-      by false w = refl
-
-  pub well-table : (get_or row 0 0 ≡ no_tag → ⊥) → (well_formed t ≡ true) × (row ≡ marks t)
-  well-table n = by (well_formed t) refl
-    where
-      by : (b : Bool) → well_formed t ≡ b → (b ≡ true) × (row ≡ marks t)
-      by true w = (refl, checked-well w)
-      by false w = absurd (n (checked-ill w))
 
 -- ---- a used slot of a key
 

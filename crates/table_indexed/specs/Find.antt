@@ -4,7 +4,7 @@ use Rattle.std.specs.Prelude.{ℕ, suc, ◌+◌, ◌*◌, Bool, not, cond, ◌&&
 use Rattle.arith.specs.First.{first}
 use Rattle.table_slots.specs.Slots.{slots, slot_size, table_size, is_owner, key, joined, slot, used, tag}
 use Rattle.table_index_search.specs.Index.{index_size}
-use Rattle.table_index_search.specs.Search.{searched}
+use Rattle.table_index_search.specs.Search.{is_found, slot_found, searched}
 use Rattle.table_index_search.specs.declared.Probe.{Probe}
 use Rattle.table_indexed.specs.Indexed.{entry_key}
 use Rattle.table_indexed.specs.declared.Found.{Found}
@@ -23,8 +23,8 @@ unfoldable pub find_number : List ℕ → List ℕ → ℕ → ℕ → ℕ → �
 find_number t x o sin group =
     first
     ((18, not (eqb (length t) table_size)) ∷ (22, not (eqb (length x) index_size)) ∷ (21, not (is_owner o)) ∷ (17, not (ltb group 3))
-    ∷ (17, not (probed x o sin group).found) ∷ (22, not (ltb (probed x o sin group).slot slots))
-    ∷ (22, not (used_by (slot t (probed x o sin group).slot) o sin group)) ∷ [])
+    ∷ (17, not (is_found (probed x o sin group))) ∷ (22, not (ltb (slot_found (probed x o sin group)) slots))
+    ∷ (22, not (used_by (slot t (slot_found (probed x o sin group))) o sin group)) ∷ [])
 
 -- a number where find answers 0, else 0
 unfoldable pub given : List ℕ → List ℕ → ℕ → ℕ → ℕ → ℕ → ℕ
@@ -32,10 +32,10 @@ given t x o sin group n = cond (eqb (find_number t x o sin group) 0) n 0
 
 -- the message's part of the table: its first byte and its length
 unfoldable pub part_at : List ℕ → List ℕ → ℕ → ℕ → ℕ → ℕ
-part_at t x o sin group = given t x o sin group ((probed x o sin group).slot * slot_size + 2)
+part_at t x o sin group = given t x o sin group (slot_found (probed x o sin group) * slot_size + 2)
 
 unfoldable pub part_length : List ℕ → List ℕ → ℕ → ℕ → ℕ → ℕ
-part_length t x o sin group = given t x o sin group (get_or (slot t (probed x o sin group).slot) 1 0)
+part_length t x o sin group = given t x o sin group (get_or (slot t (slot_found (probed x o sin group))) 1 0)
 
 -- what find answers; "Answering 0, it also gives their number"
 unfoldable pub found_by : List ℕ → List ℕ → ℕ → ℕ → ℕ → Found

@@ -4,15 +4,14 @@
 ghost use Rattle.std.specs.Prelude.{◌≡◌, length};
 ghost use Rattle.arith.specs.Lists.{up_to};
 ghost use Rattle.table_slots.specs.Slots.{slots, table_size};
-ghost use Rattle.table.specs.Inner.{checked_marks};
 ghost use Rattle.table_indexed.specs.Indexed.{entry_key, agrees_refusal, write_refusal, write_index, store_number, stored_table, stored_index, remove_number, removed_table, removed_index};
 ghost use Rattle.table_indexed.specs.Find.{found_by};
 ghost use Rattle.table_indexed.specs.Private.{mark_key, mark_key_at, entry_added, missing, in_slot};
 ghost use Rattle.table_indexed.specs.Inner.{Shows};
 
-use arith::refusals::{INDEX, NONE, OWNER, TABLE};
+use arith::refusals::Refusal;
 use table_index_search::INDEX_SIZE;
-use table_slots::{NO_TAG, SLOT_SIZE, SLOTS, TABLE_SIZE};
+use table_slots::{SLOT_SIZE, SLOTS, TABLE_SIZE};
 
 // Owner, SIN and group as one number.
 fn entry_key(owner: u8, sin: u8, group: u8) -> u64
@@ -36,36 +35,20 @@ fn mark_key(mark: usize) -> u64
 fn mark_keys(row: &[usize; SLOTS]) -> [u64; SLOTS]
     ensures { result ≡ up_to (mark_key_at row.now) slots }
 {
-    let mut keys = [0u64; SLOTS];
-    let mut i = 0;
-    while i < SLOTS {
-        keys[i] = mark_key(row[i]);
-        i += 1;
-    }
-    keys
-}
-
-// TABLE or INDEX where table and index do not agree; or 0. The row has the table's marks.
-fn agreement(table: &[u8], row: &[usize; SLOTS], index: &[u8]) -> u8
-    requires { row.now ≡ checked_marks table.now }
-    ensures { result ≡ agrees_refusal table.now index.now }
-{
-    if row[0] == NO_TAG {
-        return TABLE;
-    }
-    let keys = mark_keys(row);
-    if !table_index_search::agrees(&keys, index) {
-        return INDEX;
-    }
-    0
+    row.map(mark_key)
 }
 
 // Whether table and index agree: 0, TABLE or INDEX.
 pub fn agrees(table: &[u8], index: &[u8]) -> u8
     ensures { result ≡ agrees_refusal table.now index.now }
 {
-    let row = table::checked_marks(table);
-    agreement(table, &row, index)
+    let Some(row) = table::checked_marks(table) else {
+        return Refusal::Table as u8;
+    };
+    if !table_index_search::agrees(&mark_keys(&row), index) {
+        return Refusal::Index as u8;
+    }
+    0
 }
 
 // Writes the index anew.
@@ -73,15 +56,13 @@ pub fn write_index(table: &[u8], index: &mut [u8]) -> u8
     ensures answer { result ≡ write_refusal table.now index.old }
     ensures output { index.new ≡ write_index table.now index.old }
 {
-    let row = table::checked_marks(table);
-    if row[0] == NO_TAG {
-        return TABLE;
-    }
+    let Some(row) = table::checked_marks(table) else {
+        return Refusal::Table as u8;
+    };
     if index.len() != INDEX_SIZE {
-        return INDEX;
+        return Refusal::Index as u8;
     }
-    let keys = mark_keys(&row);
-    table_index::rebuild(&keys, index);
+    table_index::rebuild(&mark_keys(&row), index);
     0
 }
 
@@ -92,7 +73,8 @@ fn add_entry(row: &[usize; SLOTS], index: &mut [u8], owner: u8, message: &[u8])
     let h = message_rows::read_header(message);
     let sin = h.sin;
     let group = table_slots::group_of(h.number);
-    let i = table_slots::mark_or_free(row, table_slots::tag_of(owner, sin, group), 0);
+    let place = table_slots::mark_or_free(row, table_slots::tag_of(owner, sin, group), 0);
+    let i = place.unwrap_or(SLOTS);
     table_index::insert(index, entry_key(owner, sin, group), i as u8);
 }
 
@@ -102,10 +84,11 @@ pub fn store(table: &mut [u8], index: &mut [u8], owner: u8, message: &[u8]) -> u
     ensures output { table.new ≡ stored_table table.old index.old owner message.now }
     ensures kept { index.new ≡ stored_index table.old index.old owner message.now }
 {
-    let row = table::checked_marks(table);
-    let a = agreement(table, &row, index);
-    if a != 0 {
-        return a;
+    let Some(row) = table::checked_marks(table) else {
+        return Refusal::Table as u8;
+    };
+    if !table_index_search::agrees(&mark_keys(&row), index) {
+        return Refusal::Index as u8;
     }
     let r = table::store_marked(table, &row, owner, message);
     if r != 0 {
@@ -160,10 +143,10 @@ fn in_slot(table: &[u8], i: usize, g: usize, probes: u8) -> Found
     ensures { result ≡ in_slot table.now i g probes }
 {
     if SLOTS <= i {
-        return not_found(INDEX);
+        return not_found(Refusal::Index as u8);
     }
     if table_slots::mark_of(table, i) != g {
-        return not_found(INDEX);
+        return not_found(Refusal::Index as u8);
     }
     let a = i * SLOT_SIZE + 1;
     Found {
@@ -179,24 +162,24 @@ pub fn find(table: &[u8], index: &[u8], owner: u8, sin: u8, group: u8) -> Found
     ensures { result ≡ found_by table.now index.now owner sin group }
 {
     if table.len() != TABLE_SIZE {
-        return not_found(TABLE);
+        return not_found(Refusal::Table as u8);
     }
     if index.len() != INDEX_SIZE {
-        return not_found(INDEX);
+        return not_found(Refusal::Index as u8);
     }
     if !table_slots::is_owner(owner) {
-        return not_found(OWNER);
+        return not_found(Refusal::Owner as u8);
     }
     if 2 < group {
-        return not_found(NONE);
+        return not_found(Refusal::None as u8);
     }
     let p = table_index_search::search(index, entry_key(owner, sin, group));
-    if !p.found {
-        return not_found(NONE);
-    }
+    let Some(slot) = p.slot else {
+        return not_found(Refusal::None as u8);
+    };
     in_slot(
         table,
-        p.slot as usize,
+        slot as usize,
         table_slots::tag_of(owner, sin, group),
         p.probes,
     )

@@ -1,3 +1,4 @@
 pub mod Owner
 pub mod Slot
 pub mod Marks
+pub mod Places

@@ -1,32 +1,34 @@
 -- A slot: what it holds, its tag, when it is well formed, and the slot that holds a message. Of the reader only that an accepted message has 2 to 127 bytes.
 -- Assumes nothing.
 use Prim.Native.Nat.{ℕ, zero, suc, ◌+◌, ◌-◌, ◌*◌, ◌≤◌, ◌<◌}
-use mathlib.Core.Bool.{Bool, true, false, ◌&&◌, ◌||◌}
+use mathlib.Core.Bool.{Bool, true, false, ◌&&◌, ◌||◌, and_assoc}
 use mathlib.Core.List.{List, [], ◌∷◌}
+use Rattle.std.specs.List.{fold}
+use Prim.Native.Nat.{max}
 use mathlib.Core.Path.{◌≡◌, refl, sym, ◌∙◌}
-use native.Mathlib.Numerals.{add-one}
 use native.Mathlib.Omega.{arith}
 use native.Mathlib.Decide.{ℕ_discrete}
-use lib.ListN.{length, get_or, take, drop, replicate, length-drop, length-take, length-append, length-replicate, get_or-replicate, drop_of_length-le, get_or-append}
-use lib.Seq.{drop-cons, take_all, get_or-append-add}
-use Rattle.arith.specs.Lists.{up_to}
-use Rattle.arith.proofs.Lists.{is-up_to}
+use lib.ListN.{length, get_or, take, drop, length-drop, length-take, length-append, length-replicate}
+use lib.Seq.{take_all}
 use Rattle.arith.proofs.Tests.{both_first, both-second, false-ne-true}
 use Rattle.table_slots.proofs.Owner.{not_none, joined_same}
 use lib.Dec.{eqb}
 use borrow.Author.Tests.{eqb-true, eq-eqb, ne_eqb}
 use Rattle.message_rows.specs.Message.{refusal}
 use Rattle.message_rows.proofs.Limits.{accepted-size}
-use Rattle.table_slots.specs.Slots.{slots, message_size, body_size, slot_size, table_size, is_owner, key_of, joined, all_zero, held, used, well_slot, tag, slot, slot_of}
+use Rattle.table_slots.specs.Slots.{slots, message_size, slot_size, table_size, is_owner, key_of, joined, all_zero, held, used, well_slot, tag, slot, slot_of}
 
--- a loop's round over zeros
-pub zero-on : (s : List ℕ) (i : ℕ) → i < length s → all_zero (drop i s) ≡ (eqb (get_or s i 0) 0 && all_zero (drop (i + 1) s))
-unfolding all_zero
-zero-on s i h = rw (drop-cons s i 0, add-one i)
+-- the greatest of numbers is 0 where all are
+greater-zero : (a b : ℕ) → eqb (max a b) 0 ≡ (eqb a 0 && eqb b 0)
+greater-zero a b = grind arith
 
-pub zero-end : (s : List ℕ) (i : ℕ) → length s ≤ i → all_zero (drop i s) ≡ true
+greatest-from : (s : List ℕ) (n : ℕ) → eqb (fold max n s) 0 ≡ (eqb n 0 && all_zero s)
 unfolding all_zero
-zero-end s i h = rw (drop_of_length-le s {i = i} h)
+greatest-from [] n = grind arith
+greatest-from (x ∷ xs) n = greatest-from xs (max n x) ∙ rw greater-zero (and_assoc (eqb n 0) (eqb x 0) (all_zero xs))
+
+pub greatest-zero : (s : List ℕ) → eqb (fold max 0 s) 0 ≡ all_zero s
+greatest-zero s = greatest-from s 0
 
 pub zero-at : (s : List ℕ) (i : ℕ) → all_zero s ≡ true → get_or s i 0 ≡ 0
 unfolding all_zero
@@ -48,33 +50,6 @@ unfolding slot
 part-slot t i =
     let e : i * slot_size + slot_size - i * slot_size ≡ slot_size = omega arith in
     rw e
-
--- byte by byte
-pub byte-owner : (o : ℕ) (m : List ℕ) (i : ℕ) → i ≡ 0 → o ≡ get_or (slot_of o m) i 0
-unfolding slot_of
-byte-owner o m i e = rw e
-
-pub byte-length : (o : ℕ) (m : List ℕ) (i : ℕ) → i ≡ 1 → length m ≡ get_or (slot_of o m) i 0
-unfolding slot_of
-byte-length o m i e = rw e
-
-pub byte-in : (o : ℕ) (m : List ℕ) (i : ℕ) → (i ≡ 0 → ⊥) → (i ≡ 1 → ⊥) → i - 2 < length m → get_or m (i - 2) 0 ≡ get_or (slot_of o m) i 0
-unfolding slot_of
-byte-in o m zero h n k = absurd (h refl)
-byte-in o m (suc zero) h n k = absurd (n refl)
-byte-in o m (suc (suc i)) h n k =
-    let e : suc (suc i) - 2 ≡ i = omega arith in
-    rw e (sym (get_or-append m (replicate (body_size - length m) 0) 0 i (omega arith)))
-
-pub byte-after : (o : ℕ) (m : List ℕ) (i : ℕ) → (i ≡ 0 → ⊥) → (i ≡ 1 → ⊥) → length m ≤ i - 2 → i < slot_size → ◌≡◌ {A = ℕ} 0 (get_or (slot_of o m) i 0)
-unfolding slot_of
-byte-after o m zero h n k l = absurd (h refl)
-byte-after o m (suc zero) h n k l = absurd (n refl)
-byte-after o m (suc (suc i)) h n k l =
-    let j : ℕ = i - length m in
-    let e : i ≡ length m + j = omega arith in
-    let z : ◌≡◌ {A = ℕ} (get_or (replicate (body_size - length m) 0) j 0) 0 = get_or-replicate (body_size - length m) j 0 0 (omega arith) in
-    rw e (sym (get_or-append-add m (replicate (body_size - length m) 0) j 0 ∙ z))
 
 -- a used slot that is well formed
 pub record Used (s : List ℕ) : Type 0 where
@@ -108,10 +83,6 @@ used-of s w h =
       accepted = eqb-true (refusal (held s)) 0 (both_first a r d);
       rest = both-second a r d;
     }
-
--- the loop that fills a slot
-pub slot-bytes : (o : ℕ) (m : List ℕ) → length m ≤ message_size → up_to (λ k. get_or (slot_of o m) k 0) slot_size ≡ slot_of o m
-slot-bytes o m h = sym (is-up_to (λ k. get_or (slot_of o m) k 0) slot_size 0 (slot_of o m) (length-slot_of o m h) (λ i l. refl))
 
 -- a used slot's message: the part from 2 to 2 + n
 pub part_held : (s : List ℕ) → take (2 + get_or s 1 0 - 2) (drop 2 s) ≡ held s

@@ -1,6 +1,6 @@
 -- What only promises between crates name.
 -- Assumes nothing.
-use Rattle.std.specs.Prelude.{ℕ, List, cond, Bool, not, ◌||◌, length, replicate, get_or, eqb, ltb}
+use Rattle.std.specs.Prelude.{ℕ, List, cond, Bool, not, ◌||◌, length, replicate, get_or, eqb, ltb, Option, Some, None}
 use Rattle.arith.specs.Lists.{up_to}
 use Rattle.table_slots.specs.Slots.{slots, table_size, slot, well_slot, tag, most}
 use Rattle.arith.specs.Places.{first_of}
@@ -26,6 +26,10 @@ has_mark row g i = eqb (get_or row i 0) g
 -- the first of the places 0 to n - 1 of a row with the mark g, n where there is none
 unfoldable pub mark_place : List ℕ → ℕ → ℕ → ℕ
 mark_place row g n = first_of (has_mark row g) 0 n
+
+-- a place of a row, none for the number behind the last
+unfoldable pub place_in : ℕ → Option ℕ
+place_in p = cond (ltb p slots) (Some p) None
 
 -- place i of a row has no tag, or a key that stands before it
 unfoldable pub flawed_mark : List ℕ → ℕ → Bool

@@ -1,9 +1,11 @@
 // The slots of the table that two owners share: 32 of 132 bytes, an owner byte, a length byte, 127 message bytes and three zeros. What stands in them is read into a row of marks.
 #![tactic(auto)]
 
-ghost use Rattle.std.specs.Prelude.{◌≡◌, ◌&&◌, suc, ◌<◌, ◌≤◌, eqb, length, get_or};
+ghost use Rattle.std.specs.Prelude.{◌≡◌, suc, ◌<◌, length, get_or};
 ghost use Rattle.table_slots.specs.Slots.{slots, slot_size, table_size, is_owner, group_of, key, joined, all_zero};
-ghost use Rattle.table_slots.specs.Inner.{no_tag, mark, mark_at, marks, mark_place, flawed_mark, sound_marks, mark_or_free};
+ghost use Rattle.table_slots.specs.Inner.{no_tag, mark, mark_at, marks, mark_place, place_in, flawed_mark, sound_marks, mark_or_free};
+
+use std::array;
 
 pub const SLOTS: usize = 32;
 
@@ -13,53 +15,33 @@ pub const SLOT_SIZE: usize = 2 + MESSAGE_SIZE + 3;
 
 pub const TABLE_SIZE: usize = SLOTS * SLOT_SIZE;
 
-// The mark of a slot that is not well formed.
+// The mark of a slot that is not well formed. Marks are numbers and no enum, so that one search of a row finds a free slot and a tag alike.
 pub const NO_TAG: usize = 2305;
-
-// The greater of two bytes.
-fn greater(a: u8, b: u8) -> u8
-    ensures { eqb result 0 ≡ (eqb a 0 && eqb b 0) }
-{
-    if a < b {
-        return b;
-    }
-    a
-}
 
 // Whether all bytes are zero, by the greatest: the compiler takes sixteen at a time.
 fn zeros(s: &[u8]) -> bool
     ensures { result ≡ all_zero s.now }
 {
-    let mut n: u8 = 0;
-    let mut i = 0;
-    while i < s.len() {
-        n = greater(n, s[i]);
-        i += 1;
-    }
-    n == 0
+    s.iter().fold(0, |n: u8, b| n.max(*b)) == 0
 }
 
 // The group of a message number.
 pub fn group_of(number: u16) -> u8
     ensures { result ≡ group_of number }
 {
-    if number <= 1022 {
-        return 0;
+    match number {
+        ..=1022 => 0,
+        ..=1024 => 1,
+        _ => 2,
     }
-    if number <= 1024 {
-        return 1;
-    }
-    2
 }
 
 // Whether there is such an owner.
+#[tactic(auto, unfolding(crate::specs::Slots::is_owner))]
 pub fn is_owner(owner: u8) -> bool
     ensures { result ≡ is_owner owner }
 {
-    if owner == 1 {
-        return true;
-    }
-    owner == 2
+    matches!(owner, 1 | 2)
 }
 
 // What a used slot is looked for by: one more than its owner and key.
@@ -126,16 +108,10 @@ pub fn mark_of(table: &[u8], i: usize) -> usize
 pub fn table_marks(table: &[u8]) -> [usize; SLOTS]
     ensures { result ≡ marks table.now }
 {
-    let mut row = [NO_TAG; SLOTS];
     if table.len() != TABLE_SIZE {
-        return row;
+        return [NO_TAG; SLOTS];
     }
-    let mut i = 0;
-    while i < SLOTS {
-        row[i] = mark_at(table, i);
-        i += 1;
-    }
-    row
+    array::from_fn(|i| mark_at(table, i))
 }
 
 // What is looked for in the row of a table's marks: a mark's place, whether the slots are sound, and a slot for a key.
@@ -143,26 +119,11 @@ pub fn table_marks(table: &[u8]) -> [usize; SLOTS]
 // How many slots an owner may hold.
 pub const MOST: usize = 20;
 
-// The first of the places 0 to n - 1 with the mark g, n where there is none.
-fn mark_before(row: &[usize; SLOTS], g: usize, n: usize) -> usize
-    requires { n ≤ slots }
-    ensures { result ≡ mark_place row.now g n }
+// The first place with the mark g.
+pub fn mark_place(row: &[usize; SLOTS], g: usize) -> Option<usize>
+    ensures { result ≡ place_in (mark_place row.now g slots) }
 {
-    let mut at = 0;
-    while at < n {
-        if row[at] == g {
-            return at;
-        }
-        at += 1;
-    }
-    n
-}
-
-// The first place with the mark g, 32 where there is none.
-pub fn mark_place(row: &[usize; SLOTS], g: usize) -> usize
-    ensures { result ≡ mark_place row.now g slots }
-{
-    mark_before(row, g, SLOTS)
+    row.iter().position(|m| *m == g)
 }
 
 // Whether place i has no tag, or a key that stands before it.
@@ -177,33 +138,23 @@ fn flawed_mark(row: &[usize; SLOTS], i: usize) -> bool
     if g == 0 {
         return false;
     }
-    mark_before(row, g, i) != i
+    row[..i].contains(&g)
 }
 
 // Whether every slot is well formed and no key stands twice, by the marks.
 pub fn sound_marks(row: &[usize; SLOTS]) -> bool
     ensures { result ≡ sound_marks row.now }
 {
-    let mut i = 0;
-    while i < SLOTS {
-        if flawed_mark(row, i) {
-            return false;
-        }
-        i += 1;
-    }
-    true
+    !(0..SLOTS).any(|i| flawed_mark(row, i))
 }
 
-// The place of the mark g, else that of the first free slot where fewer than 20 are held, else 32.
-pub fn mark_or_free(row: &[usize; SLOTS], g: usize, holds: usize) -> usize
-    ensures { result ≡ mark_or_free row.now g holds }
+// The place of the mark g, else that of the first free slot where fewer than 20 are held.
+pub fn mark_or_free(row: &[usize; SLOTS], g: usize, holds: usize) -> Option<usize>
+    ensures { result ≡ place_in (mark_or_free row.now g holds) }
 {
-    let i = mark_place(row, g);
-    if i < SLOTS {
-        return i;
-    }
-    if holds < MOST {
+    let place = mark_place(row, g);
+    if place.is_none() && holds < MOST {
         return mark_place(row, 0);
     }
-    SLOTS
+    place
 }

@@ -1,2 +1,2 @@
-mod Laws
-mod Moved
+pub mod Laws
+pub mod Moved

@@ -1,13 +1,12 @@
 -- What only promises between crates name.
 -- Assumes nothing.
-use Rattle.std.specs.Prelude.{ℕ, ◌+◌, ◌-◌, cond, List, ◌++◌, length, take, drop, ltb}
+use Rattle.std.specs.Prelude.{ℕ, ◌+◌, ◌-◌, cond, List, ◌++◌, length, take, drop, ltb, Some, None}
 use Rattle.text_words.specs.Inner.{find}
 use Rattle.text_lines.specs.declared.Line.{Line}
 
--- the line of n bytes at a place: whole where a byte stands behind it, its newline
+-- the line of n bytes at a place, and the place behind its newline, where a byte stands behind it
 unfoldable pub line_of : List ℕ → ℕ → ℕ → Line
-line_of s from n =
-    record { whole = ltb (from + n) (length s); from = from; length = n; next = cond (ltb (from + n) (length s)) (from + n + 1) (length s) }
+line_of s from n = record { from = from; length = n; next = cond (ltb (from + n) (length s)) (Some (from + n + 1)) None }
 
 -- the line that begins at a place: up to the first newline, 10, or to the end
 unfoldable pub line_at : List ℕ → ℕ → Line

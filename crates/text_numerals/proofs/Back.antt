@@ -1,19 +1,18 @@
 -- What is written is read back, and no numeral begins with a zero but that of 0.
 -- Assumes nothing.
 use Prim.Native.Nat.{ℕ, zero, suc, ◌+◌, ◌*◌, ◌/◌, ◌%◌, ◌^◌, ◌≤◌, ◌<◌}
-use native.Mathlib.Nat.{pow-suc, not-suc-le-zero}
+use native.Mathlib.Nat.{pow-suc}
 use native.Mathlib.Omega.{arith}
-use mathlib.Core.Path.{◌≡◌, refl, sym, ap, ◌∙◌}
-use mathlib.Core.Bool.{Bool, true, false, ◌&&◌}
+use mathlib.Core.Path.{◌≡◌, refl, ap, ◌∙◌}
+use mathlib.Core.Bool.{Bool, true, false}
 use mathlib.Core.List.{List, [], ◌∷◌, ◌++◌}
-use lib.Dec.{ltb, leb}
+use lib.Dec.{ltb}
+use Rattle.std.specs.Prelude.{Some}
 use lib.ListN.{length, get_or, length-append, get_or-append}
 use lib.IntN.{ℤ, pos, negsuc}
 use lib.Signed.{mag}
 use borrow.Author.Tests.{lt-ltb, le-ltb, le-leb, lt-leb, ltb-true, ltb-false, ne_eqb}
 use Rattle.text_numerals.specs.Inner.{digits_only, spelled, natural, positive, negative, whole, digits_of, decimal, whole_decimal, digit, glyph, pairs, bytes_of, pairs_of}
-use Rattle.text_numerals.specs.declared.Count.TheVariants as count
-use Rattle.text_numerals.specs.declared.Integer.TheVariants as integer
 use Rattle.text_numerals.proofs.Reading.{natural-is}
 use Rattle.text_numerals.proofs.Writing.{glyph-low}
 use Rattle.text_numerals.proofs.DigitPairs.{and_both}
@@ -138,10 +137,10 @@ module _ (n : ℕ) (h : n < 2 ^ 64) where
   unfolding decimal
   decimal-some = some-by 19 n (ltb n 10) refl
 
-  pub natural-back : natural (decimal n) ≡ count.Is n
+  pub natural-back : natural (decimal n) ≡ Some n
   natural-back =
       let v = decimal-value in
-      natural-is (decimal n) decimal-some decimal-digits (omega arith) ∙ ap count.Is v
+      natural-is (decimal n) decimal-some decimal-digits (omega arith) ∙ ap Some v
 
 -- ---- a number with a sign
 
@@ -150,7 +149,7 @@ unfolding digits_only digit
 no_sign [] n e q = n refl
 no_sign (b ∷ s) n e q = let z : ◌≡◌ {A = Bool} false true = rw q at e in let o : ◌≡◌ {A = ℕ} 0 1 = cc in omega arith
 
-pub whole_back : (z : ℤ) → mag z < 2 ^ 63 → whole (whole_decimal z) ≡ integer.Is z
+pub whole_back : (z : ℤ) → mag z < 2 ^ 63 → whole (whole_decimal z) ≡ Some z
 unfolding whole whole_decimal positive negative
 whole_back (pos n) h =
     let l : n < 2 ^ 64 = omega arith in

@@ -5,45 +5,37 @@ use native.Mathlib.Numerals.{add-one}
 use native.Mathlib.Nat.{zero-add, not-suc-le-zero}
 use native.Mathlib.Omega.{arith}
 use mathlib.Core.Path.{◌≡◌, refl, sym, ap, ◌∙◌}
-use mathlib.Core.Bool.{Bool, true, false, cond, ◌&&◌}
+use mathlib.Core.Bool.{Bool, true, false, ◌&&◌}
 use mathlib.Core.List.{List, [], ◌∷◌, ◌++◌}
 use lib.Dec.{ltb}
-use lib.ListN.{length, get_or, set, take, drop, drop_of_length-le}
-use lib.Seq.{drop-cons, paste, paste-suc}
-use borrow.Author.Tests.{lt-ltb, le-ltb, ltb-true}
+use Rattle.std.specs.List.{list_all}
+use lib.ListN.{length, get_or, set, take, drop}
+use lib.Seq.{paste, paste-suc}
+use borrow.Author.Tests.{ltb-true}
 use Rattle.text_numerals.specs.Inner.{digit, glyph, pairs, bytes_of, pairs_of}
 
 -- ---- whether all are pairs
 
-module _ (s : List ℕ) (k : ℕ) where
-  pub pairs_end : length s ≤ k → pairs (drop k s) ≡ true
-  unfolding pairs
-  pairs_end h = rw (drop_of_length-le s {i = k} h)
+and_assoc : (x y z : Bool) → (x && (y && z)) ≡ (x && y && z)
+and_assoc true y z = refl
+and_assoc false y z = refl
 
-  pub pairs-odd : k < length s → length s ≤ k + 1 → pairs (drop k s) ≡ false
-  unfolding pairs
-  pairs-odd h g = let i : length s ≤ suc k = omega arith in rw (drop-cons s k 0 h, drop_of_length-le s {i = suc k} i)
+and-false : (x : Bool) → (x && false) ≡ false
+and-false true = refl
+and-false false = refl
 
-  module _ (h : k + 1 < length s) where
-    two : drop k s ≡ get_or s k 0 ∷ (get_or s (k + 1) 0 ∷ drop (k + 2) s)
-    two =
-        let q : k + 2 ≡ suc (k + 1) = omega arith in
-        drop-cons s k 0 (omega arith)
-        ∙ ap (λ n. get_or s k 0 ∷ drop n s) (sym (add-one k))
-        ∙ ap (λ r. get_or s k 0 ∷ r) (drop-cons s (k + 1) 0 h ∙ ap (λ n. get_or s (k + 1) 0 ∷ drop n s) (sym q))
+pub even_pairs : (s : List ℕ) → length s % 2 ≡ 0 → list_all (λ b. ltb (digit b) 16) s ≡ pairs s
+unfolding pairs
+even_pairs [] h = refl
+even_pairs (a ∷ []) h = absurd (let z : 1 ≡ 0 = h in omega arith)
+even_pairs (a ∷ (b ∷ s)) h =
+    and_assoc (ltb (digit a) 16) (ltb (digit b) 16) _ ∙ ap (λ r. ltb (digit a) 16 && ltb (digit b) 16 && r) (even_pairs s (omega arith))
 
-    pub pairs-high : 16 ≤ digit (get_or s k 0) → pairs (drop k s) ≡ false
-    unfolding pairs
-    pairs-high e = rw (two, le-ltb (digit (get_or s k 0)) 16 e)
-
-    module _ (a : digit (get_or s k 0) < 16) where
-      pub pairs-low : 16 ≤ digit (get_or s (k + 1) 0) → pairs (drop k s) ≡ false
-      unfolding pairs
-      pairs-low e = rw (two, lt-ltb (digit (get_or s k 0)) 16 a, le-ltb (digit (get_or s (k + 1) 0)) 16 e)
-
-      pub pairs-on : digit (get_or s (k + 1) 0) < 16 → pairs (drop k s) ≡ pairs (drop (k + 2) s)
-      unfolding pairs
-      pairs-on e = rw (two, lt-ltb (digit (get_or s k 0)) 16 a, lt-ltb (digit (get_or s (k + 1) 0)) 16 e)
+pub odd_pairs : (s : List ℕ) → (length s % 2 ≡ 0 → ⊥) → false ≡ pairs s
+unfolding pairs
+odd_pairs [] h = absurd (h refl)
+odd_pairs (a ∷ []) h = refl
+odd_pairs (a ∷ (b ∷ s)) h = rw (sym (odd_pairs s (λ e. h (omega arith)))) (sym (and-false (ltb (digit a) 16 && ltb (digit b) 16)))
 
 -- ---- the byte of each pair
 

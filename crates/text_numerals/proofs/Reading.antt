@@ -1,19 +1,18 @@
 -- How the number that digits spell goes on from one byte to the next, and what `natural` answers.
 -- Assumes nothing.
-use Prim.Native.Nat.{ℕ, zero, suc, ◌+◌, ◌*◌, ◌^◌, ◌≤◌, ◌<◌}
+use Prim.Native.Nat.{ℕ, suc, ◌+◌, ◌*◌, ◌^◌, ◌≤◌, ◌<◌}
 use native.Mathlib.Numerals.{add-one}
-use native.Mathlib.Nat.{not-suc-le-zero}
 use native.Mathlib.Omega.{arith}
-use mathlib.Core.Path.{◌≡◌, refl}
-use mathlib.Core.Bool.{Bool, true, false, cond, ◌&&◌}
+use mathlib.Core.Path.{◌≡◌, refl, sym}
+use mathlib.Core.Bool.{Bool, true, false, ◌&&◌}
 use mathlib.Core.List.{List, [], ◌∷◌}
-use lib.Dec.{ltb}
-use lib.ListN.{length, get_or, drop, drop_of_length-le}
+use lib.Dec.{eqb}
+use lib.Pointwise.{pointwise}
+use Rattle.std.specs.Prelude.{Some, None}
+use lib.ListN.{length, get_or, take, drop, drop_of_length-le}
 use lib.Seq.{drop-cons}
 use borrow.Author.Tests.{lt-ltb, le-ltb}
-use Rattle.text_numerals.specs.Inner.{digits_only, numeral, spelled, natural, positive, whole, digit}
-use Rattle.text_numerals.specs.declared.Count.TheVariants.{Is, Bad}
-use Rattle.text_numerals.specs.declared.Integer.TheVariants as integer
+use Rattle.text_numerals.specs.Inner.{digits_only, numeral, spelled, natural, positive, negative, whole, digit}
 
 module _ (s : List ℕ) (k : ℕ) where
   pub digits-end : length s ≤ k → digits_only (drop k s) ≡ true
@@ -46,26 +45,39 @@ and-false : (x : Bool) → (x && false) ≡ false
 and-false true = refl
 and-false false = refl
 
-pub natural-none : (s : List ℕ) → length s ≡ 0 → natural s ≡ Bad
+pub natural-none : (s : List ℕ) → length s ≡ 0 → natural s ≡ None
 unfolding natural numeral
 natural-none [] h = refl
 natural-none (b ∷ s) h = absurd (let z : suc (length s) ≡ 0 = h in omega arith)
 
-pub natural-bad : (s : List ℕ) → digits_only s ≡ false → natural s ≡ Bad
+pub natural-bad : (s : List ℕ) → digits_only s ≡ false → natural s ≡ None
 unfolding natural numeral
 natural-bad [] h = refl
 natural-bad (b ∷ s) h = rw h
 
-pub natural-large : (s : List ℕ) → 2 ^ 64 ≤ spelled 0 s → natural s ≡ Bad
+pub natural-large : (s : List ℕ) → 2 ^ 64 ≤ spelled 0 s → natural s ≡ None
 unfolding natural
 natural-large s h = rw (le-ltb (spelled 0 s) (2 ^ 64) h, and-false (numeral s))
 
-pub natural-is : (s : List ℕ) → (length s ≡ 0 → ⊥) → digits_only s ≡ true → spelled 0 s < 2 ^ 64 → natural s ≡ Is (spelled 0 s)
+pub natural-is : (s : List ℕ) → (length s ≡ 0 → ⊥) → digits_only s ≡ true → spelled 0 s < 2 ^ 64 → natural s ≡ Some (spelled 0 s)
 unfolding natural numeral
 natural-is [] n d h = absurd (n refl)
 natural-is (b ∷ s) n d h = rw (d, lt-ltb (spelled 0 (b ∷ s)) (2 ^ 64) h)
 
-pub whole-none : (s : List ℕ) → length s ≡ 0 → whole s ≡ integer.Bad
-unfolding whole natural numeral positive
-whole-none [] h = refl
-whole-none (b ∷ s) h = absurd (let z : suc (length s) ≡ 0 = h in omega arith)
+and_true : (x : Bool) → (x && true) ≡ x
+and_true true = refl
+and_true false = refl
+
+-- whether a text begins with a minus sign
+minus : (s : List ℕ) → eqb (get_or s 0 0) 45 ≡ pointwise eqb (take 1 s) (45 ∷ [])
+minus [] = refl
+minus (b ∷ s) = sym (and_true (eqb b 45))
+
+module _ (s : List ℕ) where
+  pub whole_negative : pointwise eqb (take 1 s) (45 ∷ []) ≡ true → whole s ≡ negative (natural (drop 1 s))
+  unfolding whole
+  whole_negative e = rw (minus s, e)
+
+  pub whole_positive : pointwise eqb (take 1 s) (45 ∷ []) ≡ false → whole s ≡ positive (natural s)
+  unfolding whole
+  whole_positive e = rw (minus s, e)

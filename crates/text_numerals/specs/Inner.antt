@@ -1,14 +1,7 @@
 -- What only promises between crates name.
 -- Assumes nothing.
-use Rattle.std.specs.Prelude.{ℕ, zero, suc, ◌+◌, ◌*◌, ◌/◌, ◌%◌, ◌^◌, ◌-◌, Bool, true, false, cond, ◌&&◌, List, [], ◌∷◌, ◌++◌, eqb, ltb, leb, drop, get_or, length, ℤ, pos, negsuc, neg_ℤ}
-use Rattle.text_numerals.specs.declared.Count.{Count}
-use Rattle.text_numerals.specs.declared.Byte.{Byte}
-use Rattle.text_numerals.specs.declared.Integer.{Integer}
+use Rattle.std.specs.Prelude.{ℕ, zero, suc, ◌+◌, ◌*◌, ◌/◌, ◌%◌, ◌^◌, ◌-◌, Bool, true, false, cond, ◌&&◌, List, [], ◌∷◌, ◌++◌, eqb, ltb, leb, drop, get_or, length, Option, Some, None, ℤ, pos, negsuc, neg_ℤ}
 use Rattle.text_words.specs.Words.{same}
-use Rattle.text_numerals.specs.declared.Count.TheVariants.{Is, Bad}
-use Rattle.text_numerals.specs.declared.Count.TheVariants as count
-use Rattle.text_numerals.specs.declared.Byte.TheVariants as byte
-use Rattle.text_numerals.specs.declared.Integer.TheVariants as integer
 
 -- the value of a digit, `0` to `9` and `a` to `f`; 16 for any other byte
 unfoldable pub digit : ℕ → ℕ
@@ -44,8 +37,8 @@ unfoldable pub spells_bytes : List ℕ → ℕ → Bool
 spells_bytes s n = cond (none s) true (ltb 0 (length s) && leb (length (bytes_of s)) n && pairs s)
 
 -- how many bytes s spells, where a buffer has room for them
-unfoldable pub hex_count : List ℕ → List ℕ → Count
-hex_count s buffer = cond (spells_bytes s (length buffer)) (Is (length (hex_bytes s))) Bad
+unfoldable pub hex_count : List ℕ → List ℕ → Option ℕ
+hex_count s buffer = cond (spells_bytes s (length buffer)) (Some (length (hex_bytes s))) None
 
 -- the buffer with these bytes at its front, else as it was
 unfoldable pub hex_filled : List ℕ → List ℕ → List ℕ
@@ -80,25 +73,25 @@ spelled n [] = n
 spelled n (b ∷ s) = spelled (n * 10 + digit b) s
 
 -- a natural number of 64 bits
-unfoldable pub natural : List ℕ → Count
-natural s = cond (numeral s && ltb (spelled 0 s) (2 ^ 64)) (count.Is (spelled 0 s)) count.Bad
+unfoldable pub natural : List ℕ → Option ℕ
+natural s = cond (numeral s && ltb (spelled 0 s) (2 ^ 64)) (Some (spelled 0 s)) None
 
 -- a number of 8 bits
-unfoldable pub byte_of : Count → Byte
-byte_of (count.Is n) = cond (ltb n 256) (byte.Is n) byte.Bad
-byte_of count.Bad = byte.Bad
+unfoldable pub byte_of : Option ℕ → Option ℕ
+byte_of (Some n) = cond (ltb n 256) (Some n) None
+byte_of None = None
 
 -- a number of 64 bits with a sign: from -2^63 to 2^63 - 1
-unfoldable pub positive : Count → Integer
-positive (count.Is n) = cond (ltb n (2 ^ 63)) (integer.Is (pos n)) integer.Bad
-positive count.Bad = integer.Bad
+unfoldable pub positive : Option ℕ → Option ℤ
+positive (Some n) = cond (ltb n (2 ^ 63)) (Some (pos n)) None
+positive None = None
 
-unfoldable pub negative : Count → Integer
-negative (count.Is n) = cond (leb n (2 ^ 63)) (integer.Is (neg_ℤ (pos n))) integer.Bad
-negative count.Bad = integer.Bad
+unfoldable pub negative : Option ℕ → Option ℤ
+negative (Some n) = cond (leb n (2 ^ 63)) (Some (neg_ℤ (pos n))) None
+negative None = None
 
 -- a numeral, or one behind a minus sign, 45
-unfoldable pub whole : List ℕ → Integer
+unfoldable pub whole : List ℕ → Option ℤ
 whole s = cond (eqb (get_or s 0 0) 45) (negative (natural (drop 1 s))) (positive (natural s))
 
 -- ---- writing

@@ -1,167 +1,93 @@
 // Numbers in decimal digits and bytes in hexadecimal ones, read from a text and put into one.
 #![tactic(auto)]
 
-ghost use Rattle.std.specs.Prelude.{◌+◌, ◌*◌, ◌/◌, ◌≤◌, ◌<◌, true, ◌∷◌, ◌++◌, ◌≡◌, nat_abs, length, take, drop};
+ghost use Rattle.std.specs.Prelude.{◌+◌, ◌*◌, ◌/◌, ◌≤◌, ◌<◌, true, ◌∷◌, ◌++◌, ◌≡◌, Some, length, take, drop};
 ghost use Rattle.std.proofs.Math.Seq.{paste};
 ghost use Rattle.text_words.specs.Inner.{put, place_behind};
 ghost use Rattle.text_numerals.specs.Inner.{natural, byte_of, positive, negative, whole, decimal, whole_decimal, digit, glyph, pairs, bytes_of, hex_count, hex_filled, pairs_of, hexadecimal};
 
-// A natural number, or how many were read.
-#[derive(Clone, Copy)]
-pub enum Count {
-    Is(usize),
-    Bad,
-}
-
-#[derive(Clone, Copy)]
-pub enum Integer {
-    Is(i64),
-    Bad,
-}
-
-#[derive(Clone, Copy)]
-pub enum Byte {
-    Is(u8),
-    Bad,
-}
-
 // The value of a lower case hexadecimal digit, 16 for another byte.
+#[tactic(auto, unfolding(crate::specs::Inner::digit))]
 fn digit(b: u8) -> usize
     ensures { result ≡ digit b }
 {
-    if b < b'0' {
-        return 16;
+    match b {
+        b'0'..=b'9' => (b - b'0') as usize,
+        b'a'..=b'f' => (b - 87) as usize,
+        _ => 16,
     }
-    if b <= b'9' {
-        return (b - b'0') as usize;
-    }
-    if b < b'a' {
-        return 16;
-    }
-    if b <= b'f' {
-        return (b - 87) as usize;
-    }
-    16
 }
 
 // A natural number below 2^64 in decimal digits.
-pub fn natural(s: &[u8]) -> Count
+pub fn natural(s: &[u8]) -> Option<usize>
     ensures { result ≡ natural s.now }
 {
-    if s.len() == 0 {
-        return Count::Bad;
+    if s.is_empty() {
+        return None;
     }
     let mut n: usize = 0;
-    let mut k: usize = 0;
-    while k < s.len() {
-        let d = digit(s[k]);
+    for b in s {
+        let d = digit(*b);
         if 9 < d {
-            return Count::Bad;
+            return None;
         }
-        if 1844674407370955161 < n {
-            return Count::Bad;
-        }
-        if 18446744073709551615 - n * 10 < d {
-            return Count::Bad;
-        }
-        n = n * 10 + d;
-        k += 1;
+        n = n.checked_mul(10)?.checked_add(d)?;
     }
-    Count::Is(n)
+    Some(n)
 }
 
 // A natural number below 256 in decimal digits.
-pub fn small(s: &[u8]) -> Byte
+#[tactic(auto, unfolding(crate::specs::Inner::byte_of))]
+pub fn small(s: &[u8]) -> Option<u8>
     ensures { result ≡ byte_of (natural s.now) }
 {
-    let Count::Is(n) = natural(s) else {
-        return Byte::Bad;
-    };
-    if n < 256 {
-        return Byte::Is(n as u8);
-    }
-    Byte::Bad
+    u8::try_from(natural(s)?).ok()
 }
 
 // A whole number of 64 bits in decimal digits, with `-` before a negative one.
-pub fn whole(s: &[u8]) -> Integer
+pub fn whole(s: &[u8]) -> Option<i64>
     ensures { result ≡ whole s.now }
 {
-    if s.len() == 0 {
-        return Integer::Bad;
+    match s.strip_prefix(b"-") {
+        Some(digits) => negative(natural(digits)?),
+        None => positive(natural(s)?),
     }
-    if s[0] == b'-' {
-        return negative(natural(text_words::behind(s, 1)));
-    }
-    positive(natural(s))
 }
 
-fn positive(count: Count) -> Integer
-    ensures { result ≡ positive count }
+#[tactic(auto, unfolding(crate::specs::Inner::positive))]
+fn positive(n: usize) -> Option<i64>
+    ensures { result ≡ positive (Some n) }
 {
-    let Count::Is(n) = count else {
-        return Integer::Bad;
-    };
-    if n < 9223372036854775808 {
-        return Integer::Is(n as i64);
-    }
-    Integer::Bad
+    i64::try_from(n).ok()
 }
 
-fn negative(count: Count) -> Integer
-    ensures { result ≡ negative count }
+#[tactic(auto, unfolding(crate::specs::Inner::negative))]
+fn negative(n: usize) -> Option<i64>
+    ensures { result ≡ negative (Some n) }
 {
-    let Count::Is(n) = count else {
-        return Integer::Bad;
-    };
-    if n == 0 {
-        return Integer::Is(0);
-    }
-    if n <= 9223372036854775808 {
-        return Integer::Is(-1 - ((n - 1) as i64));
-    }
-    Integer::Bad
+    0i64.checked_sub_unsigned(n as u64)
 }
 
 // The bytes that pairs of digits spell, at the front of a buffer, and their number; `-` spells none. Where there is no room for all, nothing is stored.
-pub fn hex(s: &[u8], bytes: &mut [u8]) -> Count
+pub fn hex(s: &[u8], bytes: &mut [u8]) -> Option<usize>
     ensures answer { result ≡ hex_count s.now bytes.old }
     ensures output { bytes.new ≡ hex_filled s.now bytes.old }
 {
     if text_words::same(s, b"-") {
-        return Count::Is(0);
+        return Some(0);
     }
-    if s.len() == 0 {
-        return Count::Bad;
-    }
-    if bytes.len() < s.len() / 2 {
-        return Count::Bad;
-    }
-    if !pairs(s) {
-        return Count::Bad;
+    if s.is_empty() || bytes.len() < s.len() / 2 || !pairs(s) {
+        return None;
     }
     fill(s, bytes);
-    Count::Is(s.len() / 2)
+    Some(s.len() / 2)
 }
 
 // Whether a text is pairs of hexadecimal digits.
 fn pairs(s: &[u8]) -> bool
     ensures { result ≡ pairs s.now }
 {
-    let mut k: usize = 0;
-    while k < s.len() {
-        if s.len() - k == 1 {
-            return false;
-        }
-        if 16 <= digit(s[k]) {
-            return false;
-        }
-        if 16 <= digit(s[k + 1]) {
-            return false;
-        }
-        k += 2;
-    }
-    true
+    s.len() % 2 == 0 && s.iter().all(|b| digit(*b) < 16)
 }
 
 fn fill(s: &[u8], bytes: &mut [u8])
@@ -169,11 +95,8 @@ fn fill(s: &[u8], bytes: &mut [u8])
     requires s_in_bounds { length s.now / 2 ≤ length bytes.old }
     ensures { bytes.new ≡ bytes_of s.now ++ drop (length s.now / 2) bytes.old }
 {
-    let n = s.len() / 2;
-    let mut k: usize = 0;
-    while k < n {
+    for k in 0..s.len() / 2 {
         bytes[k] = byte_of(digit(s[2 * k]), digit(s[2 * k + 1]));
-        k += 1;
     }
 }
 
@@ -189,10 +112,7 @@ fn byte_of(high: usize, low: usize) -> u8
 pub fn first(row: &[i64], n: usize) -> &[i64]
     ensures { result.now ≡ take n row.now }
 {
-    if n <= row.len() {
-        return &row[0..n];
-    }
-    row
+    text_words::before(row, n)
 }
 
 // A number's decimal digits at the end of `text`, behind the place that is the answer.
@@ -202,16 +122,15 @@ fn digits(n: u64, text: &mut [u8]) -> usize
     ensures output { drop (result + 1) text.new ≡ decimal n }
 {
     let mut rest = n;
-    let mut k: usize = 20;
-    while k > 0 {
+    for done in 0..20 {
+        let k = 20 - done;
         text[k] = 48 + (rest % 10) as u8;
-        k -= 1;
         if rest < 10 {
-            return k;
+            return k - 1;
         }
-        rest = rest / 10;
+        rest /= 10;
     }
-    k
+    0
 }
 
 // Puts a natural number's digits at a place, and answers the place behind them (`text_words::put`).
@@ -230,9 +149,9 @@ pub fn put_whole(out: &mut [u8], at: usize, n: i64) -> usize
     ensures answer { result ≡ place_behind out.old at (whole_decimal n) }
 {
     if n < 0 {
-        return put_negative(out, at, magnitude(n));
+        return put_negative(out, at, n.unsigned_abs());
     }
-    put_natural(out, at, magnitude(n))
+    put_natural(out, at, n.unsigned_abs())
 }
 
 // `-` and a number's digits.
@@ -244,15 +163,6 @@ fn put_negative(out: &mut [u8], at: usize, n: u64) -> usize
     let k = digits(n, &mut text);
     text[k] = b'-';
     text_words::put(out, at, &text[k..])
-}
-
-fn magnitude(n: i64) -> u64
-    ensures { result ≡ nat_abs n }
-{
-    if n < 0 {
-        return ((-1 - n) as u64) + 1;
-    }
-    n as u64
 }
 
 // Puts two hexadecimal digits a byte at a place, `-` for no bytes, and answers the place behind them (`text_words::put`).
@@ -277,15 +187,14 @@ fn spell(out: &mut [u8], at: usize, s: &[u8])
     requires { at + 2 * length s.now ≤ length out.old }
     ensures { out.new ≡ paste out.old at (pairs_of s.now) (2 * length s.now) }
 {
-    let mut k: usize = 0;
-    while k < s.len() {
-        out[at + 2 * k] = glyph(s[k] / 16);
-        out[at + 2 * k + 1] = glyph(s[k] % 16);
-        k += 1;
+    for (k, b) in s.iter().enumerate() {
+        out[at + 2 * k] = glyph(*b / 16);
+        out[at + 2 * k + 1] = glyph(*b % 16);
     }
 }
 
 // The digit of a number below 16.
+#[tactic(auto, unfolding(crate::specs::Inner::glyph))]
 fn glyph(n: u8) -> u8
     requires { n < 16 }
     ensures { result ≡ glyph n }

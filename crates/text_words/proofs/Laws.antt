@@ -1,56 +1,46 @@
--- How `find` and `same` go on from one byte to the next, and the place behind a word.
+-- What `find` and `same` are in std's words, the place behind a word, and the words of a line.
 -- Assumes nothing.
 use Prim.Native.Nat.{ℕ, suc, ◌+◌, ◌-◌, ◌≤◌, ◌<◌}
-use native.Mathlib.Numerals.{add-one}
 use native.Mathlib.Omega.{arith}
 use mathlib.Core.Path.{◌≡◌, refl, sym, ap, ◌∙◌}
-use mathlib.Core.Bool.{Bool, true, false, ◌&&◌}
+use mathlib.Core.Bool.{Bool, true, false, cond}
 use mathlib.Core.List.{List, [], ◌∷◌, ◌++◌}
-use lib.Dec.{eqb}
+use lib.Dec.{eqb, ltb}
+use lib.Pointwise.{pointwise}
+use Rattle.std.specs.Prelude.{Some, None}
+use Rattle.std.proofs.Math.Nat.{le_antisymm}
+use Rattle.std.proofs.lemmas.Bool.{ltb-false}
+use Rattle.std.proofs.lemmas.List.Sums.{prefix_len-le-length}
 use lib.ListN.{length, get_or, take, drop, length-drop, drop_of_length-le}
 use lib.Seq.{drop-cons, drop-length, drop-drop}
-use borrow.Author.Tests.{eq-eqb, ne_eqb, le-leb, lt-leb}
+use borrow.Author.Tests.{le-leb, lt-leb}
+use Rattle.std.specs.List.{position, position_or_len}
+use Rattle.std.specs.Option.{unwrap_or}
+use Rattle.std.proofs.lemmas.List.Recursion.{is_position_or_len}
 use Rattle.text_words.specs.Inner.{find, word, rest, Next, longer, words, place_in, has_room, put, place_behind}
 use Rattle.text_words.specs.Words.{same}
 
-module _ (b : ℕ) (s : List ℕ) (k : ℕ) where
-  pub find-end : length s ≤ k → find b (drop k s) ≡ 0
-  unfolding find
-  find-end h = rw (drop_of_length-le s {i = k} h)
+-- the place of the first byte b is std's first place that passes
+or_length : (p n : ℕ) → p ≤ n → (t : Bool) → ltb p n ≡ t → unwrap_or (cond (ltb p n) (Some p) None) n ≡ p
+or_length p n h true e = rw e refl
+or_length p n h false e = rw e (le_antisymm (ltb-false p n e) h)
 
-  module _ (h : k < length s) where
-    pub find-here : get_or s k 0 ≡ b → find b (drop k s) ≡ 0
-    unfolding find
-    find-here e = rw (drop-cons s k 0 h, eq-eqb (get_or s k 0) b e)
+one_on : (b x : ℕ) (s : List ℕ) → find b (x ∷ s) ≡ cond (eqb x b) 0 (1 + find b s)
+unfolding find
+one_on b x s = let e : suc (find b s) ≡ 1 + find b s = omega arith in ap (cond (eqb x b) 0) e
 
-    pub find-on : (get_or s k 0 ≡ b → ⊥) → find b (drop k s) ≡ suc (find b (drop (k + 1) s))
-    unfolding find
-    find-on e = rw (add-one k, drop-cons s k 0 h, ne_eqb (get_or s k 0) b e)
+pub found : (b : ℕ) (s : List ℕ) → unwrap_or (position (λ x. eqb x b) s) (length s) ≡ find b s
+unfolding find
+found b s =
+    let first = position_or_len (λ x. eqb x b) s in
+    or_length first (length s) (prefix_len-le-length _ s) (ltb first (length s)) refl ∙ sym (is_position_or_len (find b) (λ x. eqb x b) refl (one_on b) s)
 
-module _ (a b : List ℕ) (k : ℕ) where
-  pub same_end : length a ≤ k → length b ≤ k → same (drop k a) (drop k b) ≡ true
-  unfolding same
-  same_end h g = rw (drop_of_length-le a {i = k} h, drop_of_length-le b {i = k} g)
-
-  module _ (h : k < length a) (g : k < length b) where
-    pub same-no : (get_or a k 0 ≡ get_or b k 0 → ⊥) → same (drop k a) (drop k b) ≡ false
-    unfolding same
-    same-no e = rw (drop-cons a k 0 h, drop-cons b k 0 g, ne_eqb (get_or a k 0) (get_or b k 0) e)
-
-    pub same-on : get_or a k 0 ≡ get_or b k 0 → same (drop k a) (drop k b) ≡ same (drop (k + 1) a) (drop (k + 1) b)
-    unfolding same
-    same-on e = rw (add-one k, drop-cons a k 0 h, drop-cons b k 0 g, eq-eqb (get_or a k 0) (get_or b k 0) e)
-
-and-false : (x : Bool) → (x && false) ≡ false
-and-false true = refl
-and-false false = refl
-
-pub same_length : (a b : List ℕ) → (length a ≡ length b → ⊥) → same a b ≡ false
+pub same_is : (a b : List ℕ) → pointwise eqb a b ≡ same a b
 unfolding same
-same_length [] [] e = absurd (e refl)
-same_length [] (y ∷ b) e = refl
-same_length (x ∷ a) [] e = refl
-same_length (x ∷ a) (y ∷ b) e = rw (same_length a b (λ q. e (ap suc q))) (and-false (eqb x y))
+same_is [] [] = refl
+same_is [] (y ∷ b) = refl
+same_is (x ∷ a) [] = refl
+same_is (x ∷ a) (y ∷ b) = rw (same_is a b) refl
 
 -- the place behind the word at k, by where that word ends
 module _ (s : List ℕ) (k : ℕ) where

@@ -10,35 +10,21 @@ ghost use Rattle.text_words.specs.Words.{same};
 pub fn find(s: &[u8], b: u8) -> usize
     ensures { result ≡ find b s.now }
 {
-    let mut k: usize = 0;
-    while k < s.len() {
-        if s[k] == b {
-            return k;
-        }
-        k += 1;
-    }
-    k
+    s.iter().position(|x| *x == b).unwrap_or(s.len())
 }
 
-// The first `n` bytes, all where there are fewer.
-pub fn before(s: &[u8], n: usize) -> &[u8]
+// The first `n` of a list, all where there are fewer.
+pub fn before<T>(s: &[T], n: usize) -> &[T]
     ensures { result.now ≡ take n s.now }
 {
-    if n <= s.len() {
-        return &s[0..n];
-    }
-    s
+    &s[..n.min(s.len())]
 }
 
-// The bytes from `n` on, none where there are no more.
-pub fn behind(s: &[u8], n: usize) -> &[u8]
+// Those from `n` on, none where there are no more.
+pub fn behind<T>(s: &[T], n: usize) -> &[T]
     ensures { result.now ≡ drop n s.now }
 {
-    let length = s.len();
-    if n < length {
-        return &s[n..];
-    }
-    &s[length..]
+    &s[n.min(s.len())..]
 }
 
 // The place behind the word that begins at `from` and its space.
@@ -73,17 +59,7 @@ pub fn rest(s: &[u8]) -> &[u8]
 pub fn same(a: &[u8], b: &[u8]) -> bool
     ensures { result ≡ same a.now b.now }
 {
-    if a.len() != b.len() {
-        return false;
-    }
-    let mut k: usize = 0;
-    while k < a.len() {
-        if a[k] != b[k] {
-            return false;
-        }
-        k += 1;
-    }
-    true
+    a == b
 }
 
 // The place of a word among the words of a line, their number where it is none of them.
@@ -92,6 +68,7 @@ pub fn place(s: &[u8], line: &[u8]) -> usize
 {
     let mut from: usize = 0;
     let mut k: usize = 0;
+    // A while: the step is the length of a word.
     while from < line.len() {
         if same(word(behind(line, from)), s) {
             return k;
@@ -113,17 +90,7 @@ pub fn put(out: &mut [u8], at: usize, s: &[u8]) -> usize
     if out.len() - at < s.len() {
         return at;
     }
-    copy(out, at, s);
-    at + s.len()
-}
-
-fn copy(out: &mut [u8], at: usize, s: &[u8])
-    requires { at + length s.now ≤ length out.old }
-    ensures { out.new ≡ paste out.old at s.now (length s.now) }
-{
-    let mut k: usize = 0;
-    while k < s.len() {
-        out[at + k] = s[k];
-        k += 1;
-    }
+    let end = at + s.len();
+    out[at..end].copy_from_slice(s);
+    end
 }

@@ -3,14 +3,13 @@
 // refusal number, or, where a line is no such line, `bad input: line` and its number from 1.
 #![tactic(auto)]
 
-mod input;
 mod points;
 
-use input::{Got, Place, Window};
-use points::{Components, Positions};
+use line_reads::Lines;
+use points::Points;
 use std::io;
 use std::io::{Read, Write};
-use text_numerals::Count;
+use text_lines::Line;
 
 type Message = [u8; 400];
 
@@ -24,21 +23,17 @@ const LINES: usize = 1099511627776;
 const LENGTH: u8 = 3;
 
 fn main(rt: HostRuntime) -> io::Result<()> {
-    let mut window = [0u8; 4096];
+    let mut lines = Lines::new();
     let mut bytes = [0u8; 400];
-    let mut components = [0u8; 1001];
-    let mut north = [0i64; 1001];
-    let mut east = [0i64; 1001];
+    let mut points = points::none();
     let mut out = [0u8; 28130];
     answer(
         &mut rt.stdin(),
         &mut rt.stdout(),
         &mut rt.stderr(),
-        &mut window,
+        &mut lines,
         &mut bytes,
-        &mut components,
-        &mut north,
-        &mut east,
+        &mut points,
         &mut out,
     )
 }
@@ -48,101 +43,83 @@ fn answer(
     reader: &mut impl Read,
     writer: &mut impl Write,
     errors: &mut impl Write,
-    window: &mut Window,
+    lines: &mut Lines,
     bytes: &mut Message,
-    components: &mut Components,
-    north: &mut Positions,
-    east: &mut Positions,
+    points: &mut Points,
     out: &mut Out,
 ) -> io::Result<()> {
-    let got = input::next_line(reader, window, input::start())?;
-    let Count::Is(n) = text_numerals::hex(text_of(window, got), bytes) else {
+    let Some(n) = read_message(reader, lines, bytes)? else {
         return bad_input(errors, 1);
     };
     let message = text_words::before(bytes, n);
-    let mut count: usize = 0;
-    let mut later: u8 = 0;
-    let bad = read_points(
-        reader, window, message, components, north, east, &mut count, &mut later, got.place,
-    )?;
-    if bad != 0 {
+    if let Some(bad) = read_points(reader, lines, message, points)? {
         return bad_input(errors, bad);
     }
-    write(
-        writer, errors, message, components, north, east, count, later, out,
-    )
+    write(writer, errors, message, points, out)
 }
 
-// The points, up to the end of the text or a bad line: the number of the bad line, 0 where there is none.
+// How many bytes the first line spells, which are stored; none where it spells no message.
+fn read_message(
+    reader: &mut impl Read,
+    lines: &mut Lines,
+    bytes: &mut Message,
+) -> io::Result<Option<usize>> {
+    let Some(line) = lines.next_line(reader)? else {
+        return Ok(None);
+    };
+    Ok(text_numerals::hex(text_of(lines, line), bytes))
+}
+
+// The points, up to the end of the text or a bad line: the number of the bad line.
 fn read_points(
     reader: &mut impl Read,
-    window: &mut Window,
+    lines: &mut Lines,
     message: &[u8],
-    components: &mut Components,
-    north: &mut Positions,
-    east: &mut Positions,
-    count: &mut usize,
-    later: &mut u8,
-    first: Place,
-) -> io::Result<usize> {
-    let mut place = first;
-    let mut number: usize = 1;
-    while number < LINES {
-        let got = input::next_line(reader, window, place)?;
-        if got.ended {
-            return Ok(0);
-        }
-        place = got.place;
-        number += 1;
-        let s = text_of(window, got);
-        if !points::take_point(s, message, components, north, east, count, later) {
-            return bad_line(reader, window, got.length, place, number);
+    points: &mut Points,
+) -> io::Result<Option<usize>> {
+    for number in 2..LINES + 1 {
+        let Some(line) = lines.next_line(reader)? else {
+            return Ok(None);
+        };
+        if points::take_point(text_of(lines, line), message, points).is_none() {
+            return bad_line(reader, lines, line.length, number);
         }
     }
-    Ok(0)
+    Ok(None)
 }
 
-// The number of a line that is no point; 0 where it is empty and so are all behind it.
+// The number of a line that is no point; none where it is empty and so are all behind it.
 fn bad_line(
     reader: &mut impl Read,
-    window: &mut Window,
+    lines: &mut Lines,
     length: usize,
-    place: Place,
     number: usize,
-) -> io::Result<usize> {
-    if length != 0 {
-        return Ok(number);
+) -> io::Result<Option<usize>> {
+    if length == 0 && only_empty(reader, lines)? {
+        return Ok(None);
     }
-    if only_empty(reader, window, place)? {
-        return Ok(0);
-    }
-    Ok(number)
+    Ok(Some(number))
 }
 
-// Whether all lines from a place on are empty.
-fn only_empty(reader: &mut impl Read, window: &mut Window, first: Place) -> io::Result<bool> {
-    let mut place = first;
-    let mut number: usize = 0;
-    while number < LINES {
-        let got = input::next_line(reader, window, place)?;
-        if got.ended {
+// Whether all further lines are empty.
+fn only_empty(reader: &mut impl Read, lines: &mut Lines) -> io::Result<bool> {
+    for _ in 0..LINES {
+        let Some(line) = lines.next_line(reader)? else {
             return Ok(true);
-        }
-        if got.length != 0 {
+        };
+        if line.length != 0 {
             return Ok(false);
         }
-        place = got.place;
-        number += 1;
     }
     Ok(false)
 }
 
 // The bytes of a line, none of one that is too long.
-fn text_of(window: &Window, got: Got) -> &[u8] {
-    if 900 < got.length {
-        return text_words::before(window, 0);
+fn text_of(lines: &Lines, line: Line) -> &[u8] {
+    if 900 < line.length {
+        return &[];
     }
-    input::text_of(window, got)
+    lines.text(line)
 }
 
 // The file, or the refusal.
@@ -150,32 +127,26 @@ fn write(
     writer: &mut impl Write,
     errors: &mut impl Write,
     message: &[u8],
-    components: &Components,
-    north: &Positions,
-    east: &Positions,
-    n: usize,
-    later: u8,
+    points: &Points,
     out: &mut Out,
 ) -> io::Result<()> {
+    let n = points.count;
     let w = sample_writer::write_samples(
         message,
-        text_words::before(components, n),
-        text_numerals::first(north, n),
-        text_numerals::first(east, n),
+        text_words::before(&points.components, n),
+        text_numerals::first(&points.north, n),
+        text_numerals::first(&points.east, n),
         out,
     );
     if w.refusal == 0 {
         return writer.write_all(text_words::before(out, w.length));
     }
-    refused(errors, refusal_of(w.refusal, later))
+    refused(errors, refusal_of(w.refusal, points.later))
 }
 
 // LENGTH above 1,000 points comes behind the refusal of a point.
 fn refusal_of(refusal: u8, later: u8) -> u8 {
-    if refusal != LENGTH {
-        return refusal;
-    }
-    if later != 0 {
+    if refusal == LENGTH && later != 0 {
         return later;
     }
     refusal

@@ -1,5 +1,6 @@
 -- `demands_tables::owners` carries its theorems.
 -- Assumes nothing.
+use Rattle.table_index_search.specs.Search.{slot_found}
 use Prim.Native.Nat.{ℕ, suc}
 use mathlib.Core.Path.{◌≡◌, refl, sym, ap, ◌∙◌}
 use mathlib.Core.Bool.{Bool, true, false, cond, ◌&&◌, ◌||◌}
@@ -42,7 +43,7 @@ own : ShownOwn
 unfolding part_at part_length given used_by
 own t x o s g e =
     let p = find-passed t x o s g e in
-    let i = (probed x o s g).slot in
+    let i = slot_found (probed x o s g) in
     let w = used-well (slot t i) (both_first (used (slot t i)) (eqb (tag (slot t i)) (suc (joined o (key s g)))) p.has) in
     let q = eqb-true (tag (slot t i)) (suc (joined o (key s g))) (both-second (used (slot t i)) _ p.has) in
     record {

@@ -1,19 +1,15 @@
 -- `field::load_field` meets its contract.
 -- Assumes nothing.
 use native.Mathlib.Omega.{arith}
-use lib.Pow.{pow_pos}
-use Prim.Native.Nat.{ℕ, ◌+◌, ◌-◌, ◌*◌, ◌/◌}
+use Prim.Native.Nat.{ℕ, ◌+◌, ◌-◌, ◌*◌, ◌/◌, ◌%◌, ◌^◌}
+use mathlib.Core.Path.{◌≡◌}
+use Rattle.std.proofs.lemmas.Nat.{one_shl}
 use Rattle.field.proofs.Bit.{field_cut}
 use Rattle.field.proofs.load_field.Goals as goal
 
-pub nonzero_div-result : goal.nonzero_div-result
-nonzero_div-result c = rw c.pow2.ensures (pow_pos _)
-
-pub nonzero_rem-result : goal.nonzero_rem-result
-nonzero_rem-result c = rw c.pow2-2.ensures (pow_pos _)
-
 pub returns : goal.returns
 returns c = let a = c.args in
-    let q : ℕ = (a.p + a.w + 7) / 8 - c.lesser.result in
-    rw (c.eight_bytes.ensures, c.pow2.ensures, c.pow2-2.ensures)
+    let q : ℕ = (a.p + a.w + 7) / 8 - 8 in
+    let n : 1 * 2 ^ a.w % 2 ^ 64 ≡ 2 ^ a.w = one_shl a.w 64 (omega arith) in
+    rw (c.eight_bytes.ensures, c.saturating_sub-q.ensures, n)
     (field_cut a.s.now (8 * q) 64 a.p a.w (q * 8 + 64 - (a.p + a.w)) (omega arith) (omega arith))

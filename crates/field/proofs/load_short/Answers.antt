@@ -1,20 +1,16 @@
 -- `field::load_short` meets its contract.
 -- Assumes nothing.
 use native.Mathlib.Omega.{arith}
-use Prim.Native.Nat.{◌+◌, ◌-◌, ◌*◌}
+use Prim.Native.Nat.{◌+◌, ◌-◌, ◌*◌, ◌%◌, ◌^◌}
+use mathlib.Core.Path.{◌≡◌}
 use lib.ListN.{length}
-use lib.Pow.{pow_pos}
+use Rattle.std.proofs.lemmas.Nat.{one_shl}
 use Rattle.field.proofs.Bit.{field_cut}
 use Rattle.field.proofs.load_short.Goals as goal
 
-pub nonzero_div-result : goal.nonzero_div-result
-nonzero_div-result c = rw c.pow2.ensures (pow_pos _)
-
-pub nonzero_rem-result : goal.nonzero_rem-result
-nonzero_rem-result c = rw c.pow2-2.ensures (pow_pos _)
-
 pub returns : goal.returns
 returns c = let a = c.args in
-    let n = length a.s.now in
-    rw (c.few_bytes.ensures, c.pow2.ensures, c.pow2-2.ensures)
-    (field_cut a.s.now 0 (8 * n) a.p a.w (n * 8 - (a.p + a.w)) (omega arith) (omega arith))
+    let m = length a.s.now in
+    let n : 1 * 2 ^ a.w % 2 ^ 64 ≡ 2 ^ a.w = one_shl a.w 64 (omega arith) in
+    rw (c.few_bytes.ensures, n)
+    (field_cut a.s.now 0 (8 * m) a.p a.w (m * 8 - (a.p + a.w)) (omega arith) (omega arith))

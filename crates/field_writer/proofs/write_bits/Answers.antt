@@ -1,11 +1,11 @@
 -- `field_writer::write_bits` meets its contract.
 -- Assumes nothing.
-use Prim.Native.Nat.{ℕ, ◌≤◌, ◌-◌, ◌/◌, ◌^◌}
+use Prim.Native.Nat.{ℕ, ◌/◌, ◌^◌, ◌%◌, ◌*◌}
 use mathlib.Core.Path.{◌≡◌, refl, ap, ◌∙◌}
-use native.Mathlib.Nat.{mod-lt, sub_self, div-one}
+use native.Mathlib.Nat.{sub_self, div-one}
 use native.Mathlib.Omega.{arith}
-use lib.ListN.{length, length-set}
-use lib.Pow.{pow_pos}
+use lib.ListN.{length-set}
+use Rattle.std.proofs.lemmas.Nat.{one_shl}
 use Rattle.field.specs.Field.{set_field}
 use Rattle.field_writer.proofs.Put.{set_field-step}
 use Rattle.field_writer.proofs.write_bits.Goals as goal
@@ -13,23 +13,15 @@ use Rattle.field_writer.proofs.write_bits.Goals as goal
 pub loop-k-init : goal.loop-k-init
 loop-k-init c = (omega arith, (refl, unfold set_field in refl))
 
-pub nonzero_div-x : goal.nonzero_div-x
-nonzero_div-x c = rw c.pow2.ensures (pow_pos _)
-
-pub nonzero_rem-x : goal.nonzero_rem-x
-nonzero_rem-x c = rw c.pow2-in-loop-k.ensures (pow_pos _)
-
-pub put_bits-requires : goal.put_bits-requires
-put_bits-requires c = (omega arith, rw c.pow2-in-loop-k.ensures (mod-lt _ (pow_pos _)))
-
 pub loop-k-preserved : goal.loop-k-preserved
 loop-k-preserved c = let a = c.args in
     let l = c.loop-k in
-    let m : ℕ = c.lesser-m.result in (
+    let m : ℕ = c.min-m.result in
+    let n : 1 * 2 ^ m % 2 ^ 64 ≡ 2 ^ m = one_shl m 64 (omega arith) in (
       omega arith,
       (
         simp length-set l.invariant.1.0,
-        rw (c.put_bits.ensures, c.pow2-in-loop-k.ensures, c.pow2.ensures)
+        rw (c.put_bits.ensures, n)
             (set_field-step a.s.now l.s a.p a.w a.v l.k m l.invariant.1.1 (omega arith) (omega arith) (omega arith) (omega arith)),
       ),
     )

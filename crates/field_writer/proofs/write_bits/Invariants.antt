@@ -1,13 +1,9 @@
 -- `field_writer::write_bits` meets its contract.
 -- Assumes nothing.
-use Prim.Native.Nat.{ℕ, ◌≤◌, ◌-◌, ◌/◌, ◌^◌}
-use mathlib.Core.Path.{◌≡◌, refl, ap, ◌∙◌}
-use native.Mathlib.Nat.{mod-lt, sub_self, div-one}
-use native.Mathlib.Omega.{arith}
-use lib.ListN.{length, length-set}
-use lib.Pow.{pow_pos}
+use Prim.Native.Nat.{◌≤◌, ◌-◌, ◌/◌, ◌^◌}
+use mathlib.Core.Path.{◌≡◌}
+use lib.ListN.{length}
 use Rattle.field.specs.Field.{set_field}
-use Rattle.field_writer.proofs.Put.{set_field-step}
 use Rattle.field_writer.proofs.write_bits.Given as goal
 
 abbrev pub invariant-loop-k : goal.invariant-loop-k

@@ -1,13 +1,10 @@
 -- `frame::find_frame` meets its contract: the answer from a place passed is the answer from the next.
 -- Assumes nothing.
-use mathlib.Core.Path.{◌≡◌, refl, sym, ap, ◌∙◌}
+use mathlib.Core.Path.{◌≡◌, sym, ap, ◌∙◌}
 use native.Mathlib.Omega.{arith}
 use Rattle.frame.specs.Private.{frame_at}
 use Rattle.frame.proofs.At.{rest, over, stops, goes_on}
 use Rattle.frame.proofs.find_frame.Goals as goal
-
-pub loop-i-init : goal.loop-i-init
-loop-i-init c = refl
 
 pub returns-then-f-ne-NOFRAME : goal.returns-then-f-ne-NOFRAME
 returns-then-f-ne-NOFRAME c = let s = c.args.bytes.now in

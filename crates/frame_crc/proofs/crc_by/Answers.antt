@@ -1,29 +1,24 @@
 -- `frame_crc::crc_by` meets its contract: what is left of the bytes takes the remainder so far to the CRC.
 -- Assumes nothing.
-use mathlib.Core.Path.{refl, ◌∙◌}
+use mathlib.Core.Path.{◌≡◌, refl, ◌∙◌}
+use Prim.Native.Nat.{◌/◌}
 use native.Mathlib.Omega.{arith}
+use lib.ListN.{length}
 use Rattle.frame_crc.specs.Crc.{crc}
-use Rattle.frame_crc.proofs.Linear.{four-lt, round-four}
+use Rattle.frame_crc.proofs.Linear.{from-lt, round-chunk}
 use Rattle.frame_crc.proofs.crc_by.Goals as goal
 
-pub loop-i-init : goal.loop-i-init
+pub loop-word-init : goal.loop-word-init
 unfolding crc
-loop-i-init c = (omega arith, (omega arith, refl))
+loop-word-init c = (omega arith, refl)
 
-pub crc_four-c-requires : goal.crc_four-c-requires
-crc_four-c-requires c = (c.requires, c.loop-i.invariant.1.0)
-
-pub loop-i-preserved : goal.loop-i-preserved
-loop-i-preserved c = let s = c.args.s.now in
-    let l = c.loop-i in
-    let e = c.crc_four-c.ensures in
-    (omega arith, (rw e (four-lt l.c _ _ _ _ l.invariant.1.0), rw e (round-four l.c s l.i (omega arith)) ∙ l.invariant.1.1))
+pub loop-word-preserved : goal.loop-word-preserved
+loop-word-preserved c = let l = c.loop-word in
+    let h = c.as_chunks.ensures in
+    let e = rw h.front at c.crc_four-c.ensures in
+    (rw e (from-lt l.c _ l.invariant.0), rw e (round-chunk l.c 4 _ l.word-index c.args.s.now (omega arith) ∙ l.invariant.1))
 
 pub returns : goal.returns
-returns c = c.crc_end.ensures ∙ c.loop-i.invariant.1.1
-
-pub overflow_sub-s : goal.overflow_sub-s
-overflow_sub-s c = c.loop-i.invariant.0
-
-pub crc_end-requires : goal.crc_end-requires
-crc_end-requires c = (c.requires, c.loop-i.invariant.1.0)
+returns c = let h = c.as_chunks.ensures in
+    let k : length c.args.s.now / 4 ≡ c.loop-word.word-index = omega arith in
+    rw (h.back, k) at c.crc_end.ensures ∙ c.loop-word.invariant.1

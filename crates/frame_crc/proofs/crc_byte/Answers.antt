@@ -5,20 +5,8 @@ use Prim.Native.Nat.{◌*◌, ◌/◌, ◌%◌, ◌+◌}
 use native.Mathlib.Omega.{arith}
 use lib.Bits.{bit_xor}
 use lib.ListN.{get_or}
-use Rattle.frame_crc.proofs.Parts.{byte, byte_small}
+use Rattle.frame_crc.proofs.Parts.{byte}
 use Rattle.frame_crc.proofs.crc_byte.Goals as goal
-
-pub overflow_add-result : goal.overflow_add-result
-overflow_add-result c = omega (arith, byte_small c.args.c c.args.x c.requires.1 (omega arith))
-
-pub overflow_cast-result : goal.overflow_cast-result
-overflow_cast-result c = omega (arith, byte_small c.args.c c.args.x c.requires.1 (omega arith))
-
-pub offset_bounds-table-y : goal.offset_bounds-table-y
-offset_bounds-table-y c = omega (arith, byte_small c.args.c c.args.x c.requires.1 (omega arith))
-
-pub bounds-table-y : goal.bounds-table-y
-bounds-table-y c = omega (arith, byte_small c.args.c c.args.x c.requires.1 (omega arith))
 
 pub returns : goal.returns
 returns c = let a = c.args in

@@ -2,7 +2,6 @@
 -- Assumes nothing.
 use mathlib.Core.Path.{sym, ap, ◌∙◌}
 use lib.ListN.{length}
-use borrow.Author.Rules.{rules}
 use Rattle.frame_crc.proofs.Linear.{crc-lt}
 use Rattle.frame.proofs.Lengths.{length-headed}
 use Rattle.frame_writer.proofs.Put.{taken, crc-place, frame-put}

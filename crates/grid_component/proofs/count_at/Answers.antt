@@ -2,13 +2,9 @@
 -- Assumes nothing.
 use native.Mathlib.Omega.{arith}
 use mathlib.Core.Path.{◌≡◌, sym, ap, ◌∙◌}
-use Prim.Native.Nat.{ℕ}
-use mathlib.Core.List.{List}
-use borrow.Author.Rules.{rules}
 use borrow.Author.Tests.{eq-eqb, ne_eqb}
 use Rattle.arith.proofs.Back.{held}
 use Rattle.arith.proofs.Machine.{is-back}
-use Rattle.grid_fields.specs.Inner.{mean_says}
 use Rattle.grid_place.specs.Inner.{held_place}
 use Rattle.grid_place.specs.declared.Located.{Located}
 use Rattle.grid_counts.specs.Inner.{cell_count}

@@ -1,7 +1,6 @@
 -- `grid_component::part_at` meets its contract.
 -- Assumes nothing.
 use mathlib.Core.Path.{◌∙◌}
-use borrow.Author.Rules.{rules}
 use Rattle.arith.proofs.Machine.{is-back}
 use Rattle.grid_component.specs.Inner.{counted_by}
 use Rattle.grid_component.proofs.Counts.{counted_is}

@@ -25,7 +25,7 @@ returns-in_default c = let n : Nodes = c.args.n in
 pub returns-in_default-needed : goal.returns-in_default-needed
 returns-in_default-needed c = let n : Nodes = c.args.n in
     let ws : Weights = c.args.k in
-    let mean-has : available c.args.mean ≡ true = ap available c.in-Value.is in
+    let mean-has : available c.args.mean ≡ true = ap available c.in-Some.is in
     let sw-says : c.needed.result ≡ asked ws.sw n.sw = c.needed.ensures in
     sw-out c.args.number c.args.component c.args.mean n ws c.refused-in_default-needed.result
     mean-has (missing ws.sw n.sw sw-says c.in_default-needed.is)
@@ -34,9 +34,9 @@ returns-in_default-needed c = let n : Nodes = c.args.n in
 pub returns-in_default-needed-2 : goal.returns-in_default-needed-2
 returns-in_default-needed-2 c = let n : Nodes = c.args.n in
     let ws : Weights = c.args.k in
-    let mean-has : available c.args.mean ≡ true = ap available c.in-Value.is in
+    let mean-has : available c.args.mean ≡ true = ap available c.in-Some.is in
     let sw-says : c.needed.result ≡ asked ws.sw n.sw = c.needed.ensures in
-    let sw-has : lacks ws.sw (available n.sw) ≡ false = (given ws.sw n.sw sw-says c.in-Value-needed.is).0 in
+    let sw-has : lacks ws.sw (available n.sw) ≡ false = (given ws.sw n.sw sw-says c.in-Some-needed.is).0 in
     let se-says : c.needed-2.result ≡ asked ws.se n.se = c.needed-2.ensures in
     se-out c.args.number c.args.component c.args.mean n ws c.refused-in_default-needed-2.result
     mean-has sw-has (missing ws.se n.se se-says c.in_default-needed-2.is)
@@ -45,11 +45,11 @@ returns-in_default-needed-2 c = let n : Nodes = c.args.n in
 pub returns-in_default-needed-3 : goal.returns-in_default-needed-3
 returns-in_default-needed-3 c = let n : Nodes = c.args.n in
     let ws : Weights = c.args.k in
-    let mean-has : available c.args.mean ≡ true = ap available c.in-Value.is in
+    let mean-has : available c.args.mean ≡ true = ap available c.in-Some.is in
     let sw-says : c.needed.result ≡ asked ws.sw n.sw = c.needed.ensures in
-    let sw-has : lacks ws.sw (available n.sw) ≡ false = (given ws.sw n.sw sw-says c.in-Value-needed.is).0 in
+    let sw-has : lacks ws.sw (available n.sw) ≡ false = (given ws.sw n.sw sw-says c.in-Some-needed.is).0 in
     let se-says : c.needed-2.result ≡ asked ws.se n.se = c.needed-2.ensures in
-    let se-has : lacks ws.se (available n.se) ≡ false = (given ws.se n.se se-says c.in-Value-needed-2.is).0 in
+    let se-has : lacks ws.se (available n.se) ≡ false = (given ws.se n.se se-says c.in-Some-needed-2.is).0 in
     let nw-says : c.needed-3.result ≡ asked ws.nw n.nw = c.needed-3.ensures in
     nw-out c.args.number c.args.component c.args.mean n ws c.refused-in_default-needed-3.result
     mean-has sw-has se-has (missing ws.nw n.nw nw-says c.in_default-needed-3.is)
@@ -58,13 +58,13 @@ returns-in_default-needed-3 c = let n : Nodes = c.args.n in
 pub returns-in_default-needed-4 : goal.returns-in_default-needed-4
 returns-in_default-needed-4 c = let n : Nodes = c.args.n in
     let ws : Weights = c.args.k in
-    let mean-has : available c.args.mean ≡ true = ap available c.in-Value.is in
+    let mean-has : available c.args.mean ≡ true = ap available c.in-Some.is in
     let sw-says : c.needed.result ≡ asked ws.sw n.sw = c.needed.ensures in
-    let sw-has : lacks ws.sw (available n.sw) ≡ false = (given ws.sw n.sw sw-says c.in-Value-needed.is).0 in
+    let sw-has : lacks ws.sw (available n.sw) ≡ false = (given ws.sw n.sw sw-says c.in-Some-needed.is).0 in
     let se-says : c.needed-2.result ≡ asked ws.se n.se = c.needed-2.ensures in
-    let se-has : lacks ws.se (available n.se) ≡ false = (given ws.se n.se se-says c.in-Value-needed-2.is).0 in
+    let se-has : lacks ws.se (available n.se) ≡ false = (given ws.se n.se se-says c.in-Some-needed-2.is).0 in
     let nw-says : c.needed-3.result ≡ asked ws.nw n.nw = c.needed-3.ensures in
-    let nw-has : lacks ws.nw (available n.nw) ≡ false = (given ws.nw n.nw nw-says c.in-Value-needed-3.is).0 in
+    let nw-has : lacks ws.nw (available n.nw) ≡ false = (given ws.nw n.nw nw-says c.in-Some-needed-3.is).0 in
     let ne-says : c.needed-4.result ≡ asked ws.ne n.ne = c.needed-4.ensures in
     ne-out c.args.number c.args.component c.args.mean n ws c.refused-in_default-needed-4.result
     mean-has sw-has se-has nw-has (missing ws.ne n.ne ne-says c.in_default-needed-4.is)
@@ -73,25 +73,25 @@ returns-in_default-needed-4 c = let n : Nodes = c.args.n in
 pub returns : goal.returns
 returns c = let n : Nodes = c.args.n in
     let ws : Weights = c.args.k in
-    let mean-has : available c.args.mean ≡ true = ap available c.in-Value.is in
-    let mean-is : to_z w64 (of_z w64 c.in-Value.m) ≡ value_in c.args.mean = held c.in-Value.m (omega arith) ∙ sym (ap value_in c.in-Value.is) in
+    let mean-has : available c.args.mean ≡ true = ap available c.in-Some.is in
+    let mean-is : to_z w64 (of_z w64 c.in-Some.m) ≡ value_in c.args.mean = held c.in-Some.m (omega arith) ∙ sym (ap value_in c.in-Some.is) in
     let sw-says : c.needed.result ≡ asked ws.sw n.sw = c.needed.ensures in
-    let sw-has : lacks ws.sw (available n.sw) ≡ false = (given ws.sw n.sw sw-says c.in-Value-needed.is).0 in
-    let sw-is : to_z w64 (of_z w64 c.in-Value-needed.sw) ≡ value_in n.sw = held c.in-Value-needed.sw (omega arith)
-    ∙ (given ws.sw n.sw sw-says c.in-Value-needed.is).1 in
+    let sw-has : lacks ws.sw (available n.sw) ≡ false = (given ws.sw n.sw sw-says c.in-Some-needed.is).0 in
+    let sw-is : to_z w64 (of_z w64 c.in-Some-needed.sw) ≡ value_in n.sw = held c.in-Some-needed.sw (omega arith)
+    ∙ (given ws.sw n.sw sw-says c.in-Some-needed.is).1 in
     let se-says : c.needed-2.result ≡ asked ws.se n.se = c.needed-2.ensures in
-    let se-has : lacks ws.se (available n.se) ≡ false = (given ws.se n.se se-says c.in-Value-needed-2.is).0 in
-    let se-is : to_z w64 (of_z w64 c.in-Value-needed-2.se) ≡ value_in n.se = held c.in-Value-needed-2.se (omega arith)
-    ∙ (given ws.se n.se se-says c.in-Value-needed-2.is).1 in
+    let se-has : lacks ws.se (available n.se) ≡ false = (given ws.se n.se se-says c.in-Some-needed-2.is).0 in
+    let se-is : to_z w64 (of_z w64 c.in-Some-needed-2.se) ≡ value_in n.se = held c.in-Some-needed-2.se (omega arith)
+    ∙ (given ws.se n.se se-says c.in-Some-needed-2.is).1 in
     let nw-says : c.needed-3.result ≡ asked ws.nw n.nw = c.needed-3.ensures in
-    let nw-has : lacks ws.nw (available n.nw) ≡ false = (given ws.nw n.nw nw-says c.in-Value-needed-3.is).0 in
-    let nw-is : to_z w64 (of_z w64 c.in-Value-needed-3.nw) ≡ value_in n.nw = held c.in-Value-needed-3.nw (omega arith)
-    ∙ (given ws.nw n.nw nw-says c.in-Value-needed-3.is).1 in
+    let nw-has : lacks ws.nw (available n.nw) ≡ false = (given ws.nw n.nw nw-says c.in-Some-needed-3.is).0 in
+    let nw-is : to_z w64 (of_z w64 c.in-Some-needed-3.nw) ≡ value_in n.nw = held c.in-Some-needed-3.nw (omega arith)
+    ∙ (given ws.nw n.nw nw-says c.in-Some-needed-3.is).1 in
     let ne-says : c.needed-4.result ≡ asked ws.ne n.ne = c.needed-4.ensures in
-    let ne-has : lacks ws.ne (available n.ne) ≡ false = (given ws.ne n.ne ne-says c.in-Value-needed-4.is).0 in
-    let ne-is : to_z w64 (of_z w64 c.in-Value-needed-4.ne) ≡ value_in n.ne = held c.in-Value-needed-4.ne (omega arith)
-    ∙ (given ws.ne n.ne ne-says c.in-Value-needed-4.is).1 in
-    let values : ◌≡◌ {A = Corners} (record { sw = to_z w64 (of_z w64 c.in-Value-needed.sw); se = to_z w64 (of_z w64 c.in-Value-needed-2.se); nw = to_z w64 (of_z w64 c.in-Value-needed-3.nw); ne = to_z w64 (of_z w64 c.in-Value-needed-4.ne) }) (values_in n) = λ i. record {
+    let ne-has : lacks ws.ne (available n.ne) ≡ false = (given ws.ne n.ne ne-says c.in-Some-needed-4.is).0 in
+    let ne-is : to_z w64 (of_z w64 c.in-Some-needed-4.ne) ≡ value_in n.ne = held c.in-Some-needed-4.ne (omega arith)
+    ∙ (given ws.ne n.ne ne-says c.in-Some-needed-4.is).1 in
+    let values : ◌≡◌ {A = Corners} (record { sw = to_z w64 (of_z w64 c.in-Some-needed.sw); se = to_z w64 (of_z w64 c.in-Some-needed-2.se); nw = to_z w64 (of_z w64 c.in-Some-needed-3.nw); ne = to_z w64 (of_z w64 c.in-Some-needed-4.ne) }) (values_in n) = λ i. record {
       sw = sw-is i;
       se = se-is i;
       nw = nw-is i;

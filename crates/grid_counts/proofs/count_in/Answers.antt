@@ -3,7 +3,6 @@
 use mathlib.Core.Path.{◌≡◌, ap, ◌∙◌}
 use lib.IntN.{ℤ, pos, nat_abs, ◌*ℤ◌}
 use native.Mathlib.Omega.{arith}
-use borrow.Author.Rules.{rules}
 use Rattle.arith.proofs.Back.{held}
 use Rattle.arith.proofs.Int.{abs-mul}
 use Rattle.arith.proofs.Machine.{Num, lit, arg, mul, fits, is-back}
@@ -12,21 +11,21 @@ use Rattle.grid_counts.specs.Counts.{node_factor, mean_factor}
 use Rattle.grid_counts.proofs.Bounds.{past-none}
 use Rattle.grid_counts.proofs.count_in.Goals as goal
 
-pub returns-then-magnitude-gt16384 : goal.returns-then-magnitude-gt16384
-returns-then-magnitude-gt16384 c = let size : c.magnitude.result ≡ nat_abs c.args.mean = c.magnitude.ensures ∙ ap nat_abs (is-back c.ranges.mean) in
+pub returns-then-unsigned_abs-gt16384 : goal.returns-then-unsigned_abs-gt16384
+returns-then-unsigned_abs-gt16384 c = let size : c.unsigned_abs.result ≡ nat_abs c.args.mean = c.unsigned_abs.ensures.value ∙ ap nat_abs (is-back c.ranges.mean) in
     let a = c.args in
     past-none (pos mean_factor *ℤ a.mean) (node_factor a.number a.component) a.n a.k
-    (omega (arith, abs-mul (pos mean_factor) a.mean, size, c.if-magnitude-gt16384.true))
+    (omega (arith, abs-mul (pos mean_factor) a.mean, size, c.if-unsigned_abs-gt16384.true))
 
 pub returns : goal.returns
-returns c = let size : c.magnitude.result ≡ nat_abs c.args.mean = c.magnitude.ensures ∙ ap nat_abs (is-back c.ranges.mean) in
-    let means : Num = mul (lit 100 tt) (arg c.args.mean 16384 (omega (arith, size, c.if-magnitude-gt16384.false)) tt) tt in
+returns c = let size : c.unsigned_abs.result ≡ nat_abs c.args.mean = c.unsigned_abs.ensures.value ∙ ap nat_abs (is-back c.ranges.mean) in
+    let means : Num = mul (lit 100 tt) (arg c.args.mean 16384 (omega (arith, size, c.if-unsigned_abs-gt16384.false)) tt) tt in
     let factor : c.factor_of-factor.result ≡ node_factor c.args.number c.args.component = c.factor_of-factor.ensures ∙ ap (λ (z : ℤ). node_factor z c.args.component) (is-back c.ranges.number) in
     let a = c.args in
     held c.count_by.result c.count_by.type_inv ∙ c.count_by.ensures ∙ (λ i. count_by (means.held i) (factor i) a.n a.k)
 
 pub overflow_mul-mean : goal.overflow_mul-mean
 overflow_mul-mean c =
-    let size : c.magnitude.result ≡ nat_abs c.args.mean = c.magnitude.ensures ∙ ap nat_abs (is-back c.ranges.mean) in
-    let means : Num = mul (lit 100 tt) (arg c.args.mean 16384 (omega (arith, size, c.if-magnitude-gt16384.false)) tt) tt in
+    let size : c.unsigned_abs.result ≡ nat_abs c.args.mean = c.unsigned_abs.ensures.value ∙ ap nat_abs (is-back c.ranges.mean) in
+    let means : Num = mul (lit 100 tt) (arg c.args.mean 16384 (omega (arith, size, c.if-unsigned_abs-gt16384.false)) tt) tt in
     fits means

@@ -1,7 +1,6 @@
 -- `grid_counts::values_of` meets its contract.
 -- Assumes nothing.
 use mathlib.Core.Path.{◌∙◌}
-use borrow.Author.Rules.{rules}
 use Rattle.arith.proofs.Back.{held}
 use Rattle.grid_counts.proofs.values_of.Goals as goal
 

@@ -1,6 +1,5 @@
 -- `grid_fields::cells_each` meets its contract.
 -- Assumes nothing.
-use borrow.Author.Rules.{rules}
 use Rattle.grid_fields.proofs.cells_each.Goals as goal
 
 pub returns : goal.returns

@@ -1,11 +1,10 @@
 -- `grid_fields::cells_in` meets its contract: each two nodes side by side are one number.
 -- Assumes nothing.
-use mathlib.Core.Path.{◌≡◌, refl, ap, ◌∙◌}
+use mathlib.Core.Path.{refl, ap, ◌∙◌}
 use Prim.Native.Nat.{ℕ, ◌+◌, ◌-◌, ◌*◌}
 use native.Mathlib.Omega.{arith}
-use borrow.Author.Rules.{rules}
 use Rattle.field.specs.Inner.{field_at}
-use Rattle.grid_fields.specs.Private.{first_bit, components_of}
+use Rattle.grid_fields.specs.Private.{components_of}
 use Rattle.grid_fields.proofs.Pairs.{first-most, cell-said}
 use Rattle.grid_fields.proofs.cells_in.Goals as goal
 

@@ -1,6 +1,5 @@
 -- `grid_fields::component_of` meets its contract.
 -- Assumes nothing.
-use borrow.Author.Rules.{rules}
 use Rattle.grid_fields.proofs.component_of.Goals as goal
 
 pub returns : goal.returns

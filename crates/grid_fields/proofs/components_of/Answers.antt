@@ -1,6 +1,5 @@
 -- `grid_fields::components_of` meets its contract.
 -- Assumes nothing.
-use borrow.Author.Rules.{rules}
 use Rattle.grid_fields.proofs.components_of.Goals as goal
 
 pub returns : goal.returns

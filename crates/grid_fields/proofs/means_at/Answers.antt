@@ -1,15 +1,11 @@
 -- `grid_fields::means_at` meets its contract.
 -- Assumes nothing.
-use mathlib.Core.Path.{sym, ◌∙◌}
-use borrow.Author.Rules.{rules}
-use Rattle.record_grids.specs.Grids.{shifts_at}
-use Rattle.grid_fields.proofs.Table.{grid-1023, grid-1024}
+use Rattle.std.proofs.Common.{sym, ◌∙◌}
+use Rattle.grid_fields.proofs.Table.{means-1023, means-1024}
 use Rattle.grid_fields.proofs.means_at.Goals as goal
 
 pub returns-then-is_1023 : goal.returns-then-is_1023
-returns-then-is_1023 c = let s = c.args.s.now in
-    c.means_1023.ensures ∙ (λ i. shifts_at (λ k. grid-1023 s (sym c.is_1023.ensures ∙ c.if-is_1023.true) k i) 8)
+returns-then-is_1023 c = c.means_from.ensures ∙ means-1023 c.args.s.now (sym c.is_1023.ensures ∙ c.if-is_1023.true)
 
 pub returns : goal.returns
-returns c = let s = c.args.s.now in
-    c.means_1024.ensures ∙ (λ i. shifts_at (λ k. grid-1024 s (sym c.is_1023.ensures ∙ c.if-is_1023.false) k i) 8)
+returns c = c.means_from-2.ensures ∙ means-1024 c.args.s.now (sym c.is_1023.ensures ∙ c.if-is_1023.false)

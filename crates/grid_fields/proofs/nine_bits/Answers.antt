@@ -1,6 +1,7 @@
 -- `grid_fields::nine_bits` meets its contract.
 -- Assumes nothing.
-use mathlib.Core.Path.{◌≡◌, sym, ap, ◌∙◌, subst}
+use Rattle.std.proofs.Common.{Some}
+use mathlib.Core.Path.{sym, ap, ◌∙◌, subst}
 use Prim.Native.Nat.{ℕ, ◌/◌, ◌%◌, ◌^◌, ◌<◌}
 use native.Mathlib.Omega.{arith}
 use lib.IntN.{ℤ}
@@ -9,9 +10,7 @@ use mir.Syntax.{w64}
 use mir.Val.{SFits, to_z, of_z}
 use mir.ValLaws.{to_z-of_z}
 use Rattle.field.specs.Field.{signed_of, twos}
-use Rattle.field.specs.declared.Reading.TheVariants.{Value}
 use Rattle.field.proofs.Sign.{twos-moved, twos-fits}
-use borrow.Author.Rules.{rules}
 use Rattle.grid_fields.proofs.nine_bits.Goals as goal
 
 pub returns-then-u-eq256 : goal.returns-then-u-eq256
@@ -30,4 +29,4 @@ returns c = let a = c.args in
     let u : ℕ = a.x / a.below % 512 in
     let l : u < 2 ^ 9 = omega arith in
     rw (ne_eqb (a.x / a.below % 512) 256 c.if-u-eq256.false)
-    (ap Value (ap (λ (z : ℤ). to_z w64 (of_z w64 z)) (twos-moved 9 u (omega arith) l) ∙ to_z-of_z w64 (twos 9 u) (twos-fits 9 u (omega arith) l)))
+    (ap Some (ap (λ (z : ℤ). to_z w64 (of_z w64 z)) (twos-moved 9 u (omega arith) l) ∙ to_z-of_z w64 (twos 9 u) (twos-fits 9 u (omega arith) l)))

@@ -4,7 +4,6 @@ use mathlib.Core.Path.{sym, ap, ◌∙◌}
 use Prim.Native.Nat.{ℕ, ◌+◌, ◌*◌, min}
 use native.Mathlib.Omega.{arith}
 use borrow.Author.Tests.{le-ltb}
-use borrow.Author.Rules.{rules}
 use Rattle.field.specs.Inner.{signed_at}
 use Rattle.grid_fields.specs.Inner.{node_says}
 use Rattle.grid_fields.proofs.Pairs.{first-most, node-at-bit}

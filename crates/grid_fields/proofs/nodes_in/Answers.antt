@@ -1,15 +1,14 @@
 -- `grid_fields::nodes_in` meets its contract.
 -- Assumes nothing.
+use Rattle.std.proofs.Common.{ℤ, Option}
 use mathlib.Core.Path.{◌≡◌, ap, ◌∙◌}
 use mathlib.Core.List.{List}
 use Prim.Native.Nat.{ℕ, ◌+◌}
 use native.Mathlib.Nat.{add_assoc}
-use borrow.Author.Rules.{rules}
-use Rattle.field.specs.declared.Reading.{Reading}
 use Rattle.grid_fields.specs.Inner.{node_says}
 use Rattle.grid_fields.proofs.nodes_in.Goals as goal
 
-next : (s : List ℕ) (c a l : ℕ) {r : Reading} → r ≡ node_says s c (a + l + 1) → r ≡ node_says s c (a + (l + 1))
+next : (s : List ℕ) (c a l : ℕ) {r : Option ℤ} → r ≡ node_says s c (a + l + 1) → r ≡ node_says s c (a + (l + 1))
 next s c a l h = h ∙ ap (node_says s c) (add_assoc a l 1)
 
 pub returns : goal.returns

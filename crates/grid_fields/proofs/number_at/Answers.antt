@@ -1,15 +1,12 @@
 -- `grid_fields::number_at` meets its contract.
 -- Assumes nothing.
-use mathlib.Core.Path.{ap, sym}
 use native.Mathlib.Omega.{arith}
-use Prim.Native.Nat.{ℕ, ◌<◌, ◌^◌}
+use Prim.Native.Nat.{◌<◌, ◌^◌}
 use mir.Syntax.{w64}
 use mir.ValLaws.{to_z_pos}
-use lib.IntN.{pos}
 use Rattle.field.specs.Inner.{field_at}
 use Rattle.field.proofs.Place.{wide, field_at-lt}
 use Rattle.field.proofs.Sign.{half-word}
-use borrow.Author.Rules.{rules}
 use Rattle.grid_fields.proofs.number_at.Goals as goal
 
 pub returns-then-w-gt63 : goal.returns-then-w-gt63

@@ -1,7 +1,6 @@
 -- `grid_fields::pair_at` meets its contract.
 -- Assumes nothing.
 use mathlib.Core.Path.{◌∙◌}
-use borrow.Author.Rules.{rules}
 use Rattle.arith.proofs.Back.{held}
 use Rattle.grid_fields.proofs.pair_at.Goals as goal
 

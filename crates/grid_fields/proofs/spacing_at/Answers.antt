@@ -1,7 +1,6 @@
 -- `grid_fields::spacing_at` meets its contract.
 -- Assumes nothing.
 use mathlib.Core.Path.{◌∙◌}
-use borrow.Author.Rules.{rules}
 use Rattle.arith.proofs.Back.{held}
 use Rattle.grid_fields.proofs.spacing_at.Goals as goal
 

@@ -1,7 +1,6 @@
 -- `grid_place::difference` meets its contract.
 -- Assumes nothing.
 use Rattle.arith.proofs.Machine.{Num, arg, cast, mul, sub, fits}
-use borrow.Author.Rules.{rules}
 use Rattle.grid_place.proofs.difference.Goals as goal
 
 pub overflow_mul-result : goal.overflow_mul-result

@@ -1,9 +1,7 @@
 -- `grid_place::locate` meets its contract.
 -- Assumes nothing.
-use mathlib.Core.Path.{◌≡◌, sym, ap, ◌∙◌}
+use mathlib.Core.Path.{◌≡◌, sym, ◌∙◌}
 use mathlib.Core.Bool.{true}
-use borrow.Author.Rules.{rules}
-use borrow.Author.Tests.{not-true, not-false}
 use Rattle.arith.proofs.Machine.{is-back}
 use Rattle.grid_place.specs.Inner.{settings_held, located}
 use Rattle.grid_place.proofs.Held.{held-fields, place-held, no-frame}

@@ -104,7 +104,7 @@ returns-then-early-ne0 c = let f : Settings = c.args.f in
     let k : ℕ = c.args.component in
     let n : ℤ = c.args.north in
     let e : ℤ = c.args.east in
-    let refusal_is : c.early_refusal-early.result ≡ first (field_tests f k n e) = c.early_refusal-early.ensures ∙ (λ i. first (field_tests f k (is-back c.ranges.north i) (is-back c.ranges.east i))) in
+    let refusal_is : c.outcome_number-early.result ≡ first (field_tests f k n e) = (c.outcome_number-early.ensures ∙ c.early_refusal.ensures) ∙ (λ i. first (field_tests f k (is-back c.ranges.north i) (is-back c.ranges.east i))) in
     c.no_place.ensures ∙ early-out f k n e refusal_is c.if-early-ne0.true
 
 pub spacing_of-h-requires : goal.spacing_of-h-requires
@@ -120,7 +120,7 @@ difference-u-requires c = let f : Settings = c.args.f in
     let k : ℕ = c.args.component in
     let n : ℤ = c.args.north in
     let e : ℤ = c.args.east in
-    let refusal_is : c.early_refusal-early.result ≡ first (field_tests f k n e) = c.early_refusal-early.ensures ∙ (λ i. first (field_tests f k (is-back c.ranges.north i) (is-back c.ranges.east i))) in
+    let refusal_is : c.outcome_number-early.result ≡ first (field_tests f k n e) = (c.outcome_number-early.ensures ∙ c.early_refusal.ensures) ∙ (λ i. first (field_tests f k (is-back c.ranges.north i) (is-back c.ranges.east i))) in
     let none : first (field_tests f k n e) ≡ 0 = sym refusal_is ∙ c.if-early-ne0.false in
     let known : Early f n e = early f k n e none in
     let number : to_z w64 (of_z w64 f.number) ≡ f.number = held f.number (omega arith) in
@@ -131,7 +131,7 @@ difference-u-requires c = let f : Settings = c.args.f in
 
 pub returns-then-n-ne0 : goal.returns-then-n-ne0
 returns-then-n-ne0 c = let f : Settings = c.args.f in
-    let a = north-facts f c.args.component c.args.north c.args.east c.requires c.ranges.north c.ranges.east c.early_refusal-early.ensures c.if-early-ne0.false (omega arith)
+    let a = north-facts f c.args.component c.args.north c.args.east c.requires c.ranges.north c.ranges.east (c.outcome_number-early.ensures ∙ c.early_refusal.ensures) c.if-early-ne0.false (omega arith)
     c.steps_of-steps.ensures (omega arith) c.spacing_of-h.ensures c.value_in.type_inv c.value_in.ensures c.difference-u.type_inv c.difference-u.ensures c.along-n.ensures in
     c.no_place-then-n-ne0.ensures
     ∙ north-out f c.args.component c.args.north c.args.east a.none (outside-yes _ a.refusal c.if-n-ne0.true)
@@ -149,7 +149,7 @@ east_difference-v-requires c = let f : Settings = c.args.f in
     let k : ℕ = c.args.component in
     let n : ℤ = c.args.north in
     let e : ℤ = c.args.east in
-    let refusal_is : c.early_refusal-early.result ≡ first (field_tests f k n e) = c.early_refusal-early.ensures ∙ (λ i. first (field_tests f k (is-back c.ranges.north i) (is-back c.ranges.east i))) in
+    let refusal_is : c.outcome_number-early.result ≡ first (field_tests f k n e) = (c.outcome_number-early.ensures ∙ c.early_refusal.ensures) ∙ (λ i. first (field_tests f k (is-back c.ranges.north i) (is-back c.ranges.east i))) in
     let none : first (field_tests f k n e) ≡ 0 = sym refusal_is ∙ c.if-early-ne0.false in
     let known : Early f n e = early f k n e none in
     let number : to_z w64 (of_z w64 f.number) ≡ f.number = held f.number (omega arith) in
@@ -161,7 +161,7 @@ east_difference-v-requires c = let f : Settings = c.args.f in
 
 pub returns-then-e-ne0 : goal.returns-then-e-ne0
 returns-then-e-ne0 c = let f : Settings = c.args.f in
-    let a = north-facts f c.args.component c.args.north c.args.east c.requires c.ranges.north c.ranges.east c.early_refusal-early.ensures c.if-early-ne0.false (omega arith)
+    let a = north-facts f c.args.component c.args.north c.args.east c.requires c.ranges.north c.ranges.east (c.outcome_number-early.ensures ∙ c.early_refusal.ensures) c.if-early-ne0.false (omega arith)
     c.steps_of-steps.ensures (omega arith) c.spacing_of-h.ensures c.value_in.type_inv c.value_in.ensures c.difference-u.type_inv c.difference-u.ensures c.along-n.ensures in
     let b = east-facts f c.args.east a.sizes.1 c.ranges.east (omega arith) c.steps_of-steps.ensures
     (omega arith) c.spacing_of-w.ensures c.value_in-2.type_inv c.value_in-2.ensures c.east_difference-v.type_inv c.east_difference-v.ensures c.along-e.ensures in
@@ -171,7 +171,7 @@ returns-then-e-ne0 c = let f : Settings = c.args.f in
 
 pub place_in-requires : goal.place_in-requires
 place_in-requires c = let f : Settings = c.args.f in
-    let a = north-facts f c.args.component c.args.north c.args.east c.requires c.ranges.north c.ranges.east c.early_refusal-early.ensures c.if-early-ne0.false (omega arith)
+    let a = north-facts f c.args.component c.args.north c.args.east c.requires c.ranges.north c.ranges.east (c.outcome_number-early.ensures ∙ c.early_refusal.ensures) c.if-early-ne0.false (omega arith)
     c.steps_of-steps.ensures (omega arith) c.spacing_of-h.ensures c.value_in.type_inv c.value_in.ensures c.difference-u.type_inv c.difference-u.ensures c.along-n.ensures in
     let b = east-facts f c.args.east a.sizes.1 c.ranges.east (omega arith) c.steps_of-steps.ensures
     (omega arith) c.spacing_of-w.ensures c.value_in-2.type_inv c.value_in-2.ensures c.east_difference-v.type_inv c.east_difference-v.ensures c.along-e.ensures in
@@ -183,7 +183,7 @@ place_in-requires c = let f : Settings = c.args.f in
 
 pub returns : goal.returns
 returns c = let f : Settings = c.args.f in
-    let a = north-facts f c.args.component c.args.north c.args.east c.requires c.ranges.north c.ranges.east c.early_refusal-early.ensures c.if-early-ne0.false (omega arith)
+    let a = north-facts f c.args.component c.args.north c.args.east c.requires c.ranges.north c.ranges.east (c.outcome_number-early.ensures ∙ c.early_refusal.ensures) c.if-early-ne0.false (omega arith)
     c.steps_of-steps.ensures (omega arith) c.spacing_of-h.ensures c.value_in.type_inv c.value_in.ensures c.difference-u.type_inv c.difference-u.ensures c.along-n.ensures in
     let b = east-facts f c.args.east a.sizes.1 c.ranges.east (omega arith) c.steps_of-steps.ensures
     (omega arith) c.spacing_of-w.ensures c.value_in-2.type_inv c.value_in-2.ensures c.east_difference-v.type_inv c.east_difference-v.ensures c.along-e.ensures in

@@ -24,11 +24,11 @@ use Rattle.grid_row_refusals.proofs.row_refusal.Goals as goal
 
 pub returns-then-kind-ne0 : goal.returns-then-kind-ne0
 returns-then-kind-ne0 c = let a = c.args in
-    kind-refuses a.message.now a.component a.north a.east a.step a.count a.room c.check_kind-kind.ensures c.if-kind-ne0.true
+    kind-refuses a.message.now a.component a.north a.east a.step a.count a.room (c.outcome_number-kind.ensures ∙ c.check_kind.ensures) c.if-kind-ne0.true
 
 pub returns-then-limits-ne0 : goal.returns-then-limits-ne0
 returns-then-limits-ne0 c = let m : List ℕ = c.args.message.now in
-    let none : kind_refusal 1023 1024 m ≡ 0 = sym c.check_kind-kind.ensures ∙ c.if-kind-ne0.false in
+    let none : kind_refusal 1023 1024 m ≡ 0 = sym (c.outcome_number-kind.ensures ∙ c.check_kind.ensures) ∙ c.if-kind-ne0.false in
     let number : c.settings_at-f.result.number ≡ (grid_of (says (row m))).number = number-said m none c.settings_at-f.ensures in
     let known : c.limits_refusal-limits.result ≡ first ((8, ltb 2 c.args.component) ∷ (9, misplaced (grid_of (says (row m))).number c.args.north c.args.east c.args.step c.args.count) ∷ []) = c.limits_refusal-limits.ensures
     ∙ (λ i. first ((8, ltb 2 c.args.component)
@@ -39,7 +39,7 @@ returns-then-limits-ne0 c = let m : List ℕ = c.args.message.now in
 
 pub overflow_cast-step : goal.overflow_cast-step
 overflow_cast-step c = let m : List ℕ = c.args.message.now in
-    let none : kind_refusal 1023 1024 m ≡ 0 = sym c.check_kind-kind.ensures ∙ c.if-kind-ne0.false in
+    let none : kind_refusal 1023 1024 m ≡ 0 = sym (c.outcome_number-kind.ensures ∙ c.check_kind.ensures) ∙ c.if-kind-ne0.false in
     let number : c.settings_at-f.result.number ≡ (grid_of (says (row m))).number = number-said m none c.settings_at-f.ensures in
     let known : c.limits_refusal-limits.result ≡ first ((8, ltb 2 c.args.component) ∷ (9, misplaced (grid_of (says (row m))).number c.args.north c.args.east c.args.step c.args.count) ∷ []) = c.limits_refusal-limits.ensures
     ∙ (λ i. first ((8, ltb 2 c.args.component)
@@ -53,7 +53,7 @@ overflow_cast-step c = let m : List ℕ = c.args.message.now in
 
 pub places_refusal-places-requires : goal.places_refusal-places-requires
 places_refusal-places-requires c = let m : List ℕ = c.args.message.now in
-    let none : kind_refusal 1023 1024 m ≡ 0 = sym c.check_kind-kind.ensures ∙ c.if-kind-ne0.false in
+    let none : kind_refusal 1023 1024 m ≡ 0 = sym (c.outcome_number-kind.ensures ∙ c.check_kind.ensures) ∙ c.if-kind-ne0.false in
     let number : c.settings_at-f.result.number ≡ (grid_of (says (row m))).number = number-said m none c.settings_at-f.ensures in
     let known : c.limits_refusal-limits.result ≡ first ((8, ltb 2 c.args.component) ∷ (9, misplaced (grid_of (says (row m))).number c.args.north c.args.east c.args.step c.args.count) ∷ []) = c.limits_refusal-limits.ensures
     ∙ (λ i. first ((8, ltb 2 c.args.component)
@@ -66,7 +66,7 @@ places_refusal-places-requires c = let m : List ℕ = c.args.message.now in
 
 pub returns-then-places-ne0 : goal.returns-then-places-ne0
 returns-then-places-ne0 c = let m : List ℕ = c.args.message.now in
-    let none : kind_refusal 1023 1024 m ≡ 0 = sym c.check_kind-kind.ensures ∙ c.if-kind-ne0.false in
+    let none : kind_refusal 1023 1024 m ≡ 0 = sym (c.outcome_number-kind.ensures ∙ c.check_kind.ensures) ∙ c.if-kind-ne0.false in
     let number : c.settings_at-f.result.number ≡ (grid_of (says (row m))).number = number-said m none c.settings_at-f.ensures in
     let known : c.limits_refusal-limits.result ≡ first ((8, ltb 2 c.args.component) ∷ (9, misplaced (grid_of (says (row m))).number c.args.north c.args.east c.args.step c.args.count) ∷ []) = c.limits_refusal-limits.ensures
     ∙ (λ i. first ((8, ltb 2 c.args.component)
@@ -83,7 +83,7 @@ returns-then-places-ne0 c = let m : List ℕ = c.args.message.now in
 
 pub returns-then-room-count : goal.returns-then-room-count
 returns-then-room-count c = let m : List ℕ = c.args.message.now in
-    let none : kind_refusal 1023 1024 m ≡ 0 = sym c.check_kind-kind.ensures ∙ c.if-kind-ne0.false in
+    let none : kind_refusal 1023 1024 m ≡ 0 = sym (c.outcome_number-kind.ensures ∙ c.check_kind.ensures) ∙ c.if-kind-ne0.false in
     let number : c.settings_at-f.result.number ≡ (grid_of (says (row m))).number = number-said m none c.settings_at-f.ensures in
     let known : c.limits_refusal-limits.result ≡ first ((8, ltb 2 c.args.component) ∷ (9, misplaced (grid_of (says (row m))).number c.args.north c.args.east c.args.step c.args.count) ∷ []) = c.limits_refusal-limits.ensures
     ∙ (λ i. first ((8, ltb 2 c.args.component)
@@ -100,7 +100,7 @@ returns-then-room-count c = let m : List ℕ = c.args.message.now in
 
 pub returns : goal.returns
 returns c = let m : List ℕ = c.args.message.now in
-    let none : kind_refusal 1023 1024 m ≡ 0 = sym c.check_kind-kind.ensures ∙ c.if-kind-ne0.false in
+    let none : kind_refusal 1023 1024 m ≡ 0 = sym (c.outcome_number-kind.ensures ∙ c.check_kind.ensures) ∙ c.if-kind-ne0.false in
     let number : c.settings_at-f.result.number ≡ (grid_of (says (row m))).number = number-said m none c.settings_at-f.ensures in
     let known : c.limits_refusal-limits.result ≡ first ((8, ltb 2 c.args.component) ∷ (9, misplaced (grid_of (says (row m))).number c.args.north c.args.east c.args.step c.args.count) ∷ []) = c.limits_refusal-limits.ensures
     ∙ (λ i. first ((8, ltb 2 c.args.component)

@@ -10,7 +10,6 @@ use mir.Syntax.{w64}
 use mir.Val.{to_z, of_z}
 use Rattle.arith.specs.Lists.{up_to}
 use Rattle.arith.proofs.Machine.{Num, lit, result, mul, fits, is-back}
-use Rattle.field.specs.declared.Reading.{Reading}
 use Rattle.layout.specs.Layout.{value_in}
 use Rattle.grid_cell.specs.declared.Corners.{Corners}
 use Rattle.grid_fields.specs.Inner.{mean_says, cell_says}
@@ -27,7 +26,7 @@ fill_cell-requires c = let m : List ℕ = c.args.message.now in
     let p : Located = c.args.p in
     let nodes : c.values_of.result ≡ values_in (cell_says m c.args.component p.row p.column) = c.values_of.ensures ∙ ap (λ (n : Nodes). values_in n) c.nodes_at-n.ensures in
     let mean : Num = mul (lit 100 tt)
-    (result c.value_in.result 16384 (c.value_in.ensures ∙ ap value_in c.mean_at-mean.ensures) c.requires.0.mean tt) tt in
+    (result c.value_in-mean.result 16384 (c.value_in-mean.ensures ∙ ap value_in c.mean_at.ensures) c.requires.0.mean tt) tt in
     let factor : c.factor_of-factor.result ≡ node_factor c.args.number c.args.component = c.factor_of-factor.ensures ∙ ap (λ (z : ℤ). node_factor z c.args.component) (is-back c.ranges.number) in
     let b = c.requires in
     run_of b.0 c.args.number c.args.component c.args.step (length c.args.row.now) b.1 b.2 b.3 mean.held factor nodes
@@ -37,14 +36,14 @@ returns c = let m : List ℕ = c.args.message.now in
     let p : Located = c.args.p in
     let nodes : c.values_of.result ≡ values_in (cell_says m c.args.component p.row p.column) = c.values_of.ensures ∙ ap (λ (n : Nodes). values_in n) c.nodes_at-n.ensures in
     let mean : Num = mul (lit 100 tt)
-    (result c.value_in.result 16384 (c.value_in.ensures ∙ ap value_in c.mean_at-mean.ensures) c.requires.0.mean tt) tt in
+    (result c.value_in-mean.result 16384 (c.value_in-mean.ensures ∙ ap value_in c.mean_at.ensures) c.requires.0.mean tt) tt in
     let factor : c.factor_of-factor.result ≡ node_factor c.args.number c.args.component = c.factor_of-factor.ensures ∙ ap (λ (z : ℤ). node_factor z c.args.component) (is-back c.ranges.number) in
     let a = c.args in
     c.fill_cell.ensures
     ∙ (λ i. up_to (cell_counts (mean.held i) (factor i) a.p.height a.p.width a.p.north a.p.east a.step (nodes i)) (length a.row.now))
 
-pub overflow_mul-value_in : goal.overflow_mul-value_in
-overflow_mul-value_in c =
+pub overflow_mul-mean : goal.overflow_mul-mean
+overflow_mul-mean c =
     let mean : Num = mul (lit 100 tt)
-    (result c.value_in.result 16384 (c.value_in.ensures ∙ ap value_in c.mean_at-mean.ensures) c.requires.0.mean tt) tt in
+    (result c.value_in-mean.result 16384 (c.value_in-mean.ensures ∙ ap value_in c.mean_at.ensures) c.requires.0.mean tt) tt in
     fits mean

@@ -1,7 +1,6 @@
 -- `grid_shifts::all_refused` meets its contract.
 -- Assumes nothing.
 use mathlib.Core.Path.{◌∙◌}
-use borrow.Author.Rules.{rules}
 use lib.IntN.{pos}
 use Rattle.grid_shifts.specs.Shift.{three_of}
 use Rattle.grid_shifts.proofs.Parts.{refuses}

@@ -1,6 +1,5 @@
 -- `grid_shifts::nodes_of` meets its contract.
 -- Assumes nothing.
-use borrow.Author.Rules.{rules}
 use Rattle.grid_shifts.proofs.nodes_of.Goals as goal
 
 pub returns : goal.returns

@@ -1,7 +1,6 @@
 -- `grid_shifts::part_shift` meets its contract.
 -- Assumes nothing.
 use mathlib.Core.Path.{ap, ◌∙◌}
-use borrow.Author.Rules.{rules}
 use borrow.Author.Tests.{eq-eqb, ne_eqb}
 use lib.IntN.{ℤ, pos}
 use Rattle.arith.proofs.Machine.{is-back}

@@ -1,5 +1,6 @@
 -- `grid_shifts::shifts_at` meets its contract: what is read at its bits is what the message's record says, and each part is the component's shift.
 -- Assumes nothing.
+use Rattle.std.proofs.Common.{Option}
 use mathlib.Core.Path.{◌≡◌, sym, ap, ◌∙◌}
 use mathlib.Core.List.{List}
 use Prim.Native.Nat.{ℕ}
@@ -9,7 +10,6 @@ use mir.Syntax.{w64}
 use mir.Val.{to_z, of_z}
 use Rattle.arith.proofs.Back.{held}
 use Rattle.arith.proofs.Machine.{is-back}
-use Rattle.field.specs.declared.Reading.{Reading}
 use Rattle.record_rows.specs.Numbers.{says}
 use Rattle.record_grids.specs.declared.Settings.{Settings}
 use Rattle.record_grids.specs.declared.Grid.{Grid}
@@ -39,7 +39,7 @@ returns-then-refusal-ne0 c = let m : List ℕ = c.args.message.now in
     let n : ℤ = c.args.north in
     let e : ℤ = c.args.east in
     let g : Grid = grid_of (says (row m)) in
-    let h = c.check_kind-refusal.ensures in
+    let h = (c.outcome_number-refusal.ensures ∙ c.check_kind.ensures) in
     let o = c.if-refusal-ne0.true in
     c.all_refused.ensures g.number
     ∙ (λ i. three_of (message-none-given 0 n e m h o i) (message-none-given 1 n e m h o i) (message-none-given 2 n e m h o i))
@@ -50,7 +50,7 @@ three z = omega arith
 -- no grid message is so short
 pub returns-then-message-lt71 : goal.returns-then-message-lt71
 returns-then-message-lt71 c = let m : List ℕ = c.args.message.now in
-    let h = sym c.check_kind-refusal.ensures ∙ c.if-refusal-ne0.false in
+    let h = sym (c.outcome_number-refusal.ensures ∙ c.check_kind.ensures) ∙ c.if-refusal-ne0.false in
     absurd (omega (arith, grid-long m h, c.if-message-lt71.true))
 
 -- one part
@@ -62,7 +62,7 @@ module _ (s : List ℕ) (n e : ℤ) (none : kind_refusal 1023 1024 s ≡ 0) wher
       (c r : ℕ)
       {t : Located}
       (d : Side g c n e r t)
-      {mean : Reading}
+      {mean : Option ℤ}
       {w : Nodes}
       {ws : Weights}
       (a : mean ≡ mean_says s c)
@@ -99,7 +99,7 @@ unfolding message_shifts
 returns c = let m : List ℕ = c.args.message.now in
     let n : ℤ = c.args.north in
     let e : ℤ = c.args.east in
-    let none : kind_refusal 1023 1024 m ≡ 0 = sym c.check_kind-refusal.ensures ∙ c.if-refusal-ne0.false in
+    let none : kind_refusal 1023 1024 m ≡ 0 = sym (c.outcome_number-refusal.ensures ∙ c.check_kind.ensures) ∙ c.if-refusal-ne0.false in
     let fields : Held (g m n e none) = message-fields m 0 n e none in
     let settings : c.settings_at-f.result ≡ settings_of (g m n e none) = c.settings_at-f.ensures ∙ settings-said m none in
     let number : to_z w64 (of_z w64 c.settings_at-f.result.number) ≡ (g m n e none).number = held c.settings_at-f.result.number (omega arith) ∙ ap (λ (f : Settings). f.number) settings in
@@ -112,8 +112,8 @@ returns c = let m : List ℕ = c.args.message.now in
     (gives m n e none 1 _ (east-side (g m n e none) n e fields sides) (mean-east m c.means_at-m.ensures) (nodes-of (λ x. x.east)) c.weights_in-k.ensures c.part_shift-2.ensures number i)
     (gives m n e none 2 _ (height-side (g m n e none) n e fields sides) (mean-height m c.means_at-m.ensures) (nodes-of (λ x. x.height)) c.weights_in-k.ensures c.part_shift-3.ensures number i))
 
-pub check_kind-refusal-requires : goal.check_kind-refusal-requires
-check_kind-refusal-requires c = tt
+pub check_kind-requires : goal.check_kind-requires
+check_kind-requires c = tt
 
 pub all_refused-requires : goal.all_refused-requires
 all_refused-requires c = c.if-refusal-ne0.true

@@ -1,16 +1,15 @@
 -- `grid_shifts::shifts_of` meets its contract: a record that no message holds is out of range, and each part is the component's shift.
 -- Assumes nothing.
+use Rattle.std.proofs.Common.{Option}
 use mathlib.Core.Path.{◌≡◌, refl, sym, ap, ◌∙◌}
 use mathlib.Core.Bool.{true, false}
 use Prim.Native.Nat.{ℕ}
 use native.Mathlib.Omega.{arith}
-use borrow.Author.Tests.{not-true, not-false}
 use lib.IntN.{ℤ}
 use mir.Syntax.{w64}
 use mir.Val.{to_z, of_z}
 use Rattle.arith.proofs.Back.{held}
 use Rattle.arith.proofs.Machine.{is-back}
-use Rattle.field.specs.declared.Reading.{Reading}
 use Rattle.record_grids.specs.declared.Settings.{Settings}
 use Rattle.record_grids.specs.declared.Grid.{Grid}
 use Rattle.record_grids.specs.Grids.{settings_of}
@@ -77,7 +76,7 @@ module _ (g : Grid) (n e : ℤ) (holds : grid_held g ≡ true) where
       (c r : ℕ)
       {t : Located}
       (d : Side g c n e r t)
-      {mean : Reading}
+      {mean : Option ℤ}
       {w : Nodes}
       {ws : Weights}
       (a : mean ≡ part c g.mean)

@@ -1,7 +1,5 @@
 -- `grid_shifts::three_of` meets its contract.
 -- Assumes nothing.
-use borrow.Author.Rules.{rules}
-use Rattle.grid_shifts.specs.declared.Shift.{Shift}
 use Rattle.grid_shifts.specs.Shift.{three_of}
 use Rattle.grid_shifts.proofs.three_of.Goals as goal
 

@@ -1,63 +1,28 @@
--- `heights::write_heights` meets its contract: each return is a case of the definition.
+-- `heights::write_heights` meets its contract: the row with the mean is written.
 -- Assumes nothing.
+use Rattle.arith.proofs.Numbers.{passed}
 use mathlib.Core.Path.{◌≡◌, sym, ap, ◌∙◌}
 use mathlib.Core.Bool.{true}
 use mathlib.Core.List.{List}
 use Prim.Native.Nat.{ℕ}
-use native.Mathlib.Omega.{arith}
 use borrow.Author.Rules.{rules}
 use lib.IntN.{ℤ}
 use lib.ListN.{length}
 use mir.Syntax.{w64}
 use mir.ValLaws.{to_z-of_z}
-use Rattle.std.proofs.Common.{FitsSigned}
+use Rattle.std.proofs.Common.{FitsSigned, Some}
 use Rattle.arith.specs.First.{first}
 use Rattle.message_rows.specs.Message.{kind_write_refusal}
 use Rattle.heights_mean.specs.Means.{smallest_mean}
-use Rattle.heights_mean.specs.declared.Mean.TheVariants.{Is, Missing}
 use Rattle.heights_mean.proofs.Choice.{smallest}
-use Rattle.heights.specs.Heights.{height_values, height_present, record_tests, heights_refusal, heights_message}
-use Rattle.heights.proofs.Calls.{refused, values-out, present-out, wanted-out, record-out, mean-out, written_out, message-is}
+use Rattle.heights.specs.Heights.{height_values, height_present, record_tests, heights_refusal}
+use Rattle.heights.proofs.Calls.{written_out, message-is}
 use Rattle.heights.proofs.write_heights.Goals as goal
-
-pub returns-then-values-ne64 : goal.returns-then-values-ne64
-returns-then-values-ne64 c = let z : List ℤ = c.args.values.now in
-    let b : List ℕ = c.args.present.now in
-    let w : List ℤ = c.args.wanted.now in
-    let out : List ℕ = c.args.out.now in let p = refused _ 5 (heights_message z b w) out (values-out z b w (length out) c.if-values-ne64.true) (λ e. omega arith) in record { answer = p.0; output = p.1 }
-
-pub returns-then-present-ne64 : goal.returns-then-present-ne64
-returns-then-present-ne64 c = let z : List ℤ = c.args.values.now in
-    let b : List ℕ = c.args.present.now in
-    let w : List ℤ = c.args.wanted.now in
-    let out : List ℕ = c.args.out.now in let p = refused _ 5 (heights_message z b w) out (present-out z b w (length out) c.if-values-ne64.false c.if-present-ne64.true) (λ e. omega arith) in record { answer = p.0; output = p.1 }
-
-pub returns-then-wanted-ne16 : goal.returns-then-wanted-ne16
-returns-then-wanted-ne16 c = let z : List ℤ = c.args.values.now in
-    let b : List ℕ = c.args.present.now in
-    let w : List ℤ = c.args.wanted.now in
-    let out : List ℕ = c.args.out.now in let p = refused _ 5 (heights_message z b w) out
-    (wanted-out z b w (length out) c.if-values-ne64.false c.if-present-ne64.false c.if-wanted-ne16.true) (λ e. omega arith) in record { answer = p.0; output = p.1 }
-
-pub returns-then-early-ne0 : goal.returns-then-early-ne0
-returns-then-early-ne0 c = let z : List ℤ = c.args.values.now in
-    let b : List ℕ = c.args.present.now in
-    let w : List ℤ = c.args.wanted.now in
-    let out : List ℕ = c.args.out.now in let p = refused _ c.record_refusal-early.result (heights_message z b w) out
-    (record-out z b w (length out) c.if-values-ne64.false c.if-present-ne64.false c.if-wanted-ne16.false c.record_refusal-early.ensures c.if-early-ne0.true) c.if-early-ne0.true in record { answer = p.0; output = p.1 }
-
-pub returns-in_default : goal.returns-in_default
-returns-in_default c = let z : List ℤ = c.args.values.now in
-    let b : List ℕ = c.args.present.now in
-    let w : List ℤ = c.args.wanted.now in
-    let out : List ℕ = c.args.out.now in
-    let record-passed : first (record_tests z b) ≡ 0 = sym c.record_refusal-early.ensures ∙ c.if-early-ne0.false in
-    let missing : smallest_mean w ≡ Missing → 23 ≡ heights_refusal z b w (length out) = λ f. mean-out z b w (length out) c.if-values-ne64.false c.if-present-ne64.false c.if-wanted-ne16.false record-passed f in let p = refused _ 23 (heights_message z b w) out (missing (sym c.smallest_mean-chosen.ensures ∙ c.in_default.is)) (λ e. omega arith) in record { answer = p.0; output = p.1 }
 
 pub values_with-v-requires : goal.values_with-v-requires
 values_with-v-requires c = let w : List ℤ = c.args.wanted.now in
-    let mean : ℤ = c.in-Is.mean in
-    let found : smallest_mean w ≡ Is mean = sym c.smallest_mean-chosen.ensures ∙ c.in-Is.is in
+    let mean : ℤ = c.in-Some.mean in
+    let found : smallest_mean w ≡ Some mean = sym c.smallest_mean.ensures ∙ c.in-Some.is in
     let m = smallest w mean found in
     let f : FitsSigned w64 mean = search rules in
     rw (to_z-of_z w64 mean f) (c.if-values-ne64.false, (m.range, m.fitting))
@@ -67,9 +32,9 @@ returns c = let z : List ℤ = c.args.values.now in
     let b : List ℕ = c.args.present.now in
     let w : List ℤ = c.args.wanted.now in
     let out : List ℕ = c.args.out.now in
-    let record-passed : first (record_tests z b) ≡ 0 = sym c.record_refusal-early.ensures ∙ c.if-early-ne0.false in
-    let mean : ℤ = c.in-Is.mean in
-    let found : smallest_mean w ≡ Is mean = sym c.smallest_mean-chosen.ensures ∙ c.in-Is.is in
+    let record-passed : first (record_tests z b) ≡ 0 = sym c.record_refusal.ensures ∙ passed c.in_ok-record_refusal.was in
+    let mean : ℤ = c.in-Some.mean in
+    let found : smallest_mean w ≡ Some mean = sym c.smallest_mean.ensures ∙ c.in-Some.is in
     let n : kind_write_refusal 1023 1023 true (height_values z w mean) (height_present b) (length out) ≡ heights_refusal z b w (length out) = written_out z b w (length out) c.if-values-ne64.false c.if-present-ne64.false c.if-wanted-ne16.false record-passed mean found in
     let f : FitsSigned w64 mean = search rules in
     let v : c.values_with-v.result ≡ height_values z w mean = c.values_with-v.ensures ∙ ap (height_values z w) (to_z-of_z w64 mean f) in

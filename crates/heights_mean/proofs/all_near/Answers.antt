@@ -1,49 +1,30 @@
--- `heights_mean::all_near` meets its contract: a loop that stops at the first height that is not near.
+-- `heights_mean::all_near` meets its contract: each of the sixteen heights passes its test.
 -- Assumes nothing.
-use Prim.Native.Nat.{ℕ}
-use mathlib.Core.Path.{◌≡◌, refl, sym, ap, subst, ◌∙◌}
-use mathlib.Core.Bool.{true, false}
-use mathlib.Core.List.{List}
-use native.Mathlib.Omega.{arith}
-use mir.Syntax.{w64}
-use mir.Val.{to_z, of_z}
-use lib.IntN.{ℤ}
+use Rattle.std.proofs.Common.{rules, arith, ◌≡◌, ◌∙◌, refl, sym, ap, Bool, ℕ, zero, suc, ◌≤◌, take, take_all}
+use borrow.Author.Tests.{tests}
+use lib.ListN.{get_or}
+use native.Mathlib.Numerals.{add-one}
+use Rattle.std.proofs.lemmas.Int.{to_z-of_z}
+use Rattle.std.proofs.lemmas.Iterator.{YieldsList-from_range}
+use Rattle.std.proofs.lemmas.Iterator.Search.{all_from_yields_List}
+use Rattle.std.proofs.lemmas.List.Folds.{list_all_more}
+use Rattle.std.proofs.lemmas.List.FromFn.{length-range_with_len, get_or-range_with_len}
+use Rattle.std.specs.List.{list_all, range_with_len}
 use Rattle.arith.specs.Lists.{all_below}
-use Rattle.arith.proofs.Back.{held}
-use Rattle.arith.proofs.Order.{is}
-use Rattle.arith.proofs.Tests.{all_more, all-stops}
-use Rattle.arith.proofs.Machine.{is-back}
-use Rattle.heights_mean.specs.Means.{near, near_at, fits}
+use Rattle.heights_mean.specs.Means.{near_at, fits}
 use Rattle.heights_mean.proofs.all_near.Goals as goal
 
-pub loop-i-preserved : goal.loop-i-preserved
-loop-i-preserved c = let wanted : List ℤ = c.args.wanted.now in
-    let mean : ℤ = c.args.mean in
-    let known : c.is_near.result ≡ near_at wanted (to_z w64 (of_z w64 mean)) c.loop-i.i = c.is_near.ensures ∙ ap (near (to_z w64 (of_z w64 mean))) (held c.height_at.result c.height_at.type_inv ∙ c.height_at.ensures) in
-    (omega arith, all_more (near_at wanted (to_z w64 (of_z w64 mean))) c.loop-i.i c.loop-i.invariant.1 (is known (c.if-not-is_near.false)))
+-- the first k of the numbers below n
+front : (f : ℕ → Bool) (n k : ℕ) → k ≤ n → list_all f (take k (range_with_len 0 n)) ≡ all_below f k
+front f n zero h = refl
+front f n (suc k) h =
+    let here : get_or (range_with_len 0 n) k 0 ≡ k = omega (arith, get_or-range_with_len 0 n k 0 (omega arith)) in
+    rw (← add-one k, list_all_more f (range_with_len 0 n) k 0 (omega (arith, length-range_with_len 0 n)), front f n k (omega arith), here) refl
 
-pub returns-then-not-is_near : goal.returns-then-not-is_near
-unfolding fits
-returns-then-not-is_near c = let wanted : List ℤ = c.args.wanted.now in
-    let mean : ℤ = c.args.mean in
-    let mean-back : to_z w64 (of_z w64 mean) ≡ mean = is-back c.ranges.mean in
-    let known : c.is_near.result ≡ near_at wanted (to_z w64 (of_z w64 mean)) c.loop-i.i = c.is_near.ensures ∙ ap (near (to_z w64 (of_z w64 mean))) (held c.height_at.result c.height_at.type_inv ∙ c.height_at.ensures) in
-    sym (all-stops (near_at wanted mean) c.loop-i.i 16
-    (subst (λ (m : ℤ). near_at wanted m c.loop-i.i ≡ false) mean-back (is known (c.if-not-is_near.true))) (omega arith))
+all-of : (f : ℕ → Bool) (n : ℕ) → list_all f (range_with_len 0 n) ≡ all_below f n
+all-of f n = ap (list_all f) (sym (take_all n (range_with_len 0 n) (omega (arith, length-range_with_len 0 n)))) ∙ front f n n (omega arith)
 
 pub returns : goal.returns
 unfolding fits
-returns c = let w = c.args.wanted.now in
-    let e : c.loop-i.i ≡ 16 = omega arith in
-    sym
-    (subst (λ (m : ℤ). all_below (near_at w m) 16 ≡ true) (is-back c.ranges.mean)
-    (subst (λ (i : ℕ). all_below (near_at w (to_z w64 (of_z w64 c.args.mean))) i ≡ true) e c.loop-i.invariant.1))
-
-pub loop-i-init : goal.loop-i-init
-loop-i-init c = (omega arith, refl)
-
-pub height_at-requires : goal.height_at-requires
-height_at-requires c = tt
-
-pub is_near-requires : goal.is_near-requires
-is_near-requires c = rw (is-back c.ranges.mean) c.requires
+returns c = let f = near_at c.args.wanted.now c.args.mean in
+    all_from_yields_List f _ _ c.all.result c.all.ensures.ran (YieldsList-from_range 0 16 16 refl refl) (λ x b q k. search (rules, tests, to_z-of_z)) ∙ all-of f 16

@@ -3,13 +3,12 @@
 use mathlib.Core.Path.{◌≡◌, refl, sym, ◌∙◌}
 use mathlib.Core.Bool.{◌&&◌}
 use mathlib.Core.List.{List}
-use Prim.Native.Nat.{ℕ, ◌+◌, ◌-◌, ◌*◌, ◌≤◌, ◌<◌}
+use Prim.Native.Nat.{ℕ, ◌+◌, ◌*◌, ◌≤◌, ◌<◌}
 use native.Mathlib.Omega.{arith}
 use lib.ListN.{length, get_or, drop}
 use Rattle.field.specs.Inner.{field_at}
 use Rattle.layout.specs.Layout.{width, reading_of, takes, all_take, total, decode_all}
 use Rattle.layout.proofs.Loop.{At, at-starts, at-goes-on, at-fits, total-most, head-taken, none_left}
-use borrow.Author.Rules.{rules}
 use Rattle.layout.proofs.all_in_range.Goals as goal
 
 -- the field at the place of the loop is within s
@@ -20,27 +19,27 @@ module _ (es s : List ℕ) (at i : ℕ) (r : At es 0 at i) (n : total es ≤ 8 *
 
 pub overflow_add-at : goal.overflow_add-at
 overflow_add-at c = let es = c.args.layout.now in
-    let l = c.loop-i in
-    omega (arith, total-most es, at-fits es 0 l.at l.i l.invariant.0 (omega arith))
+    let l = c.loop-e in
+    omega (arith, total-most es, at-fits es 0 l.at l.e-index l.invariant.0 (omega arith))
 
-pub loop-i-preserved : goal.loop-i-preserved
-loop-i-preserved c = let a = c.args in
-    let l = c.loop-i in
+pub loop-e-preserved : goal.loop-e-preserved
+loop-e-preserved c = let a = c.args in
+    let l = c.loop-e in
     let P = c.requires in
-    let e = head a.layout.now a.s.now l.at l.i l.invariant.0 P.0 P.1 (omega arith) in
-    (at-goes-on a.layout.now 0 l.at l.i l.invariant.0 (omega arith), sym (rw (sym c.takes_read-taken.ensures ∙ c.if-taken.true) at e) ∙ l.invariant.1)
+    let e = head a.layout.now a.s.now l.at l.e-index l.invariant.0 P.0 P.1 (omega arith) in
+    (at-goes-on a.layout.now 0 l.at l.e-index l.invariant.0 (omega arith), sym (rw (sym c.takes_read.ensures ∙ c.if-not-takes_read.false) at e) ∙ l.invariant.1)
 
-pub returns-else-taken : goal.returns-else-taken
-returns-else-taken c = let a = c.args in
-    let l = c.loop-i in
+pub returns-then-not-takes_read : goal.returns-then-not-takes_read
+returns-then-not-takes_read c = let a = c.args in
+    let l = c.loop-e in
     let P = c.requires in
-    let e = head a.layout.now a.s.now l.at l.i l.invariant.0 P.0 P.1 (omega arith) in
-    sym (rw (sym c.takes_read-taken.ensures ∙ c.if-taken.false) at e) ∙ l.invariant.1
+    let e = head a.layout.now a.s.now l.at l.e-index l.invariant.0 P.0 P.1 (omega arith) in
+    sym (rw (sym c.takes_read.ensures ∙ c.if-not-takes_read.true) at e) ∙ l.invariant.1
 
 pub returns : goal.returns
 returns c = let a = c.args in
-    let l = c.loop-i in
-    sym (none_left a.layout.now a.s.now l.at l.i (omega arith)) ∙ l.invariant.1
+    let l = c.loop-e in
+    sym (none_left a.layout.now a.s.now l.at l.e-index (omega arith)) ∙ l.invariant.1
 
-pub loop-i-init : goal.loop-i-init
-loop-i-init c = (at-starts c.args.layout.now 0, refl)
+pub loop-e-init : goal.loop-e-init
+loop-e-init c = (at-starts c.args.layout.now 0, refl)

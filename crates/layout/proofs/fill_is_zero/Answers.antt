@@ -8,7 +8,6 @@ use lib.ListN.{length}
 use Rattle.field.specs.Field.{field}
 use Rattle.field.proofs.Place.{field-inside}
 use Rattle.layout.specs.Layout.{zero_from}
-use borrow.Author.Rules.{rules}
 use Rattle.layout.proofs.fill_is_zero.Goals as goal
 
 pub returns : goal.returns

@@ -4,7 +4,6 @@ use mathlib.Core.Path.{ap, ◌∙◌}
 use native.Mathlib.Nat.{mod-eq_of_lt}
 use Rattle.field.proofs.Place.{field_at-lt}
 use Rattle.layout.specs.Layout.{width, reading_of}
-use borrow.Author.Rules.{rules}
 use Rattle.layout.proofs.read_entry.Goals as goal
 
 pub returns : goal.returns

@@ -1,8 +1,7 @@
 -- `layout::takes_read` meets its contract.
 -- Assumes nothing.
-use mathlib.Core.Path.{sym, ◌∙◌}
+use mathlib.Core.Path.{sym}
 use Rattle.field.proofs.Place.{field_at-lt}
-use Rattle.field.proofs.Sign.{bits-z}
 use Rattle.field.specs.Inner.{field_at}
 use Rattle.layout.specs.Layout.{width}
 use Rattle.layout.proofs.Says.{plain-takes}

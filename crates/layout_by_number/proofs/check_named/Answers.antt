@@ -1,6 +1,5 @@
 -- `layout_by_number::check_named` meets its contract.
 -- Assumes nothing.
-use borrow.Author.Rules.{rules}
 use Rattle.layout_by_number.proofs.check_named.Goals as goal
 
 pub returns : goal.returns

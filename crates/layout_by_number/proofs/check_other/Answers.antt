@@ -4,7 +4,6 @@ use Rattle.std.proofs.Common.{◌≢◌}
 use mathlib.Core.Path.{sym, ◌∙◌}
 use native.Mathlib.Omega.{arith}
 use borrow.Author.Tests.{ne_eqb}
-use borrow.Author.Rules.{rules}
 use Rattle.layout_tables.specs.Layouts.{layout_of}
 use Rattle.layout_tables.specs.Inner.{layout_by}
 use Rattle.layout_by_number.proofs.Named.{check-1021, check-1022, check-none}

@@ -5,12 +5,11 @@ use mathlib.Core.List.{List}
 use Prim.Native.Nat.{ℕ, ◌*◌, ◌≤◌}
 use native.Mathlib.Omega.{arith}
 use lib.ListN.{length}
-use borrow.Author.Tests.{not-true, not-false, le-ltb}
+use borrow.Author.Tests.{le-ltb}
 use Rattle.layout.specs.Layout.{total}
 use Rattle.layout.specs.Inner.{bits_of}
 use Rattle.layout.proofs.Loop.{total-most}
 use Rattle.layout_reader.proofs.Answer.{left, too_many, loaded, stands}
-use borrow.Author.Rules.{rules}
 use Rattle.layout_reader.proofs.read.Goals as goal
 
 bits : (es : List ℕ) → length es ≤ 96 → bits_of es ≡ total es

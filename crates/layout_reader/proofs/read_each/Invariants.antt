@@ -1,19 +1,8 @@
 -- `layout_reader::read_each` meets its contract.
 -- Assumes nothing.
-use mathlib.Core.Path.{ap, ◌∙◌}
-use Prim.Native.Nat.{◌-◌}
-use native.Mathlib.Omega.{arith}
 use lib.ListN.{length, replicate}
-use mir.Syntax.{w64}
-use mir.ValLaws.{to_z-of_z}
-use Rattle.layout_reader.proofs.Fill.{Row, row-starts, same-fits, same-goes-on, same_ends}
-use Rattle.field.proofs.Place.{field-inside}
-use Rattle.layout.specs.Layout.{width, reading_of}
-use borrow.Author.Rules.{rules}
+use Rattle.layout_reader.proofs.Fill.{Row}
 use Rattle.layout_reader.proofs.read_each.Given as goal
 
 abbrev pub invariant-loop-i : goal.invariant-loop-i
 invariant-loop-i l = Row (replicate (length l.initial.values) l.e) l.p l.s l.initial.values l.initial.present l.values l.present l.at l.i
-
-abbrev pub decreases-loop-i : goal.decreases-loop-i
-decreases-loop-i l = length l.initial.values - l.i

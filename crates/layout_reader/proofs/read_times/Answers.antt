@@ -1,20 +1,17 @@
 -- `layout_reader::read_times` meets its contract: each return is a case of the definition.
 -- Assumes nothing.
 use mathlib.Core.Path.{◌≡◌, sym, ◌∙◌}
-use mathlib.Core.Bool.{Bool, ◌&&◌}
+use mathlib.Core.Bool.{◌&&◌}
 use mathlib.Core.List.{List}
-use Prim.Native.Nat.{ℕ, ◌+◌, ◌*◌, ◌≤◌, ◌<◌}
+use Prim.Native.Nat.{ℕ, ◌+◌, ◌*◌, ◌≤◌}
 use native.Mathlib.Nat.{mul-le-mul}
 use native.Mathlib.Omega.{arith}
 use lib.Dec.{leb}
-use lib.IntN.{ℤ}
 use lib.ListN.{length, replicate, length-replicate}
-use borrow.Author.Tests.{not-true, not-false}
 use Rattle.layout.specs.Layout.{width}
 use Rattle.layout.proofs.Round.{total-times}
 use Rattle.layout_reader.specs.Inner.{readable}
 use Rattle.layout_reader.proofs.Answer.{left, too_many, loaded, stands}
-use borrow.Author.Rules.{rules}
 use Rattle.layout_reader.proofs.read_times.Goals as goal
 
 -- so many fields of entry e are readable where they fit

@@ -2,7 +2,6 @@
 -- Assumes nothing.
 use mathlib.Core.Path.{sym}
 use native.Mathlib.Omega.{arith}
-use borrow.Author.Rules.{rules}
 use Rattle.layout.specs.Layout.{total}
 use Rattle.layout.specs.Private.{places_refusal}
 use Rattle.layout.proofs.Places.{ranged_at, ranged, ranged-check}

@@ -4,7 +4,6 @@ use mathlib.Core.Path.{refl}
 use native.Mathlib.Omega.{arith}
 use Rattle.layout.specs.Layout.{total}
 use Rattle.layout_tables.specs.Layouts.{layout1024}
-use borrow.Author.Rules.{rules}
 use Rattle.layout_tables.proofs.decode_1024.Goals as goal
 
 pub decode_grid-requires : goal.decode_grid-requires

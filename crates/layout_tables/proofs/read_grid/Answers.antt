@@ -2,11 +2,9 @@
 -- Assumes nothing.
 use mathlib.Core.Path.{sym, ◌∙◌}
 use native.Mathlib.Omega.{arith}
-use lib.ListN.{length}
 use Rattle.layout.specs.Layout.{value_in, present_in}
 use Rattle.layout_reader.proofs.Answer.{loads}
 use Rattle.layout_tables.proofs.Parts.{grid-read}
-use borrow.Author.Rules.{rules}
 use Rattle.layout_tables.proofs.read_grid.Goals as goal
 
 pub returns : goal.returns

@@ -4,13 +4,11 @@ use mathlib.Core.Path.{◌≡◌, ap, ◌∙◌}
 use mathlib.Core.List.{List}
 use Prim.Native.Nat.{ℕ}
 use native.Mathlib.Omega.{arith}
-use lib.IntN.{ℤ}
 use lib.ListN.{length, replicate}
 use borrow.Rule.Slice.PartMut.{mid_of, put_mid}
 use Rattle.layout_reader.specs.Inner.{values_loaded, present_loaded}
 use Rattle.layout_tables.specs.Private.{nodes}
 use Rattle.layout_tables.proofs.Parts.{mid-length, length-nodes, total-nodes, part-loaded}
-use borrow.Author.Rules.{rules}
 use Rattle.layout_tables.proofs.read_points.Goals as goal
 
 -- as many fields as there are values

@@ -6,7 +6,6 @@ use borrow.Rule.Slice.PartMut.{put_mid}
 use Rattle.layout.specs.Layout.{total}
 use Rattle.layout_tables.specs.Private.{behind}
 use Rattle.layout_tables.proofs.Parts.{part-loaded}
-use borrow.Author.Rules.{rules}
 use Rattle.layout_tables.proofs.read_tail.Goals as goal
 
 pub returns : goal.returns

@@ -3,7 +3,6 @@
 use Prim.Native.Nat.{◌+◌, ◌/◌}
 use mathlib.Core.Path.{sym, ◌∙◌}
 use native.Mathlib.Omega.{arith}
-use borrow.Author.Tests.{not-true, not-false}
 use lib.ListN.{length}
 use Rattle.layout.specs.Layout.{encode_all, row_of}
 use Rattle.layout.proofs.Says.{of-true}
@@ -11,7 +10,6 @@ use Rattle.layout.proofs.Loop.{total-most}
 use Rattle.layout.proofs.Round.{length-encode_all}
 use Rattle.layout.proofs.Answer.{refused-write, done-write}
 use Rattle.layout_writer.proofs.Answer.{bits-few, write-many, write-range, write-room, write-none}
-use borrow.Author.Rules.{rules}
 use Rattle.layout_writer.proofs.encode.Goals as goal
 
 pub returns-then-layout-gt96 : goal.returns-then-layout-gt96

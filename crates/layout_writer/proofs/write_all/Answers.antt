@@ -1,16 +1,14 @@
 -- `layout_writer::write_all` meets its contract.
 -- Assumes nothing.
-use mathlib.Core.Path.{◌≡◌, ◌∙◌}
-use Prim.Native.Nat.{◌-◌}
+use mathlib.Core.Path.{◌∙◌}
 use native.Mathlib.Omega.{arith}
 use lib.IntN.{pos}
-use lib.ListN.{length, get_or}
+use lib.ListN.{get_or}
 use Rattle.field.proofs.Sign.{bits-z}
 use Rattle.layout.specs.Layout.{row_takes}
 use Rattle.layout.proofs.Says.{from-T, of-true}
 use Rattle.layout.proofs.Loop.{row-lengths, at-fits, total-most}
-use Rattle.layout_writer.proofs.Loop.{Writing, writing-starts, writing-goes-on, writing-ends, entry-taken}
-use borrow.Author.Rules.{rules}
+use Rattle.layout_writer.proofs.Loop.{writing-starts, writing-goes-on, writing-ends, entry-taken}
 use Rattle.layout_writer.proofs.write_all.Goals as goal
 
 pub loop-i-init : goal.loop-i-init

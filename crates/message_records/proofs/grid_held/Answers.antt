@@ -1,25 +1,14 @@
 -- `message_records::grid_held` meets its contract.
 -- Assumes nothing.
-use mathlib.Core.Path.{sym, ◌∙◌}
-use lib.Seq.{length-take-le}
+use Rattle.std.proofs.Common.{arith, ◌∙◌, sym, true}
 use Rattle.record_grids.specs.Grids.{grid_row}
 use Rattle.message_rows.specs.Message.{row_held}
-use Rattle.message_records.proofs.RecordNumbers.{values-within, present-within, values-row, present-row}
+use Rattle.message_records.proofs.RecordNumbers.{held_row, no_row}
 use Rattle.message_records.proofs.grid_held.Goals as goal
 
-pub slice_bounds-values-end : goal.slice_bounds-values-end
-slice_bounds-values-end c = values-within _ _ (grid_row c.args.r) c.grid_row-n.ensures
+pub returns-in-Some : goal.returns-in-Some
+returns-in-Some c = let h = held_row c.in-Some.row true (grid_row c.args.r) (sym c.in-Some.is ∙ c.grid_row.ensures) in
+    c.row_held.ensures ∙ (λ i. row_held 1023 1024 ((c.values.ensures ∙ h.values) i) ((c.present.ensures ∙ h.present) i))
 
-pub slice_bounds-row_held-end : goal.slice_bounds-row_held-end
-slice_bounds-row_held-end c = sym (length-take-le _ _ (values-within _ _ (grid_row c.args.r) c.grid_row-n.ensures))
-
-pub slice_bounds-present-end : goal.slice_bounds-present-end
-slice_bounds-present-end c = present-within _ _ (grid_row c.args.r) c.grid_row-n.ensures
-
-pub slice_bounds-row_held-end-2 : goal.slice_bounds-row_held-end-2
-slice_bounds-row_held-end-2 c = sym (length-take-le _ _ (present-within _ _ (grid_row c.args.r) c.grid_row-n.ensures))
-
-pub returns : goal.returns
-returns c = let v = grid_row c.args.r in
-    let e = c.grid_row-n.ensures in
-    c.row_held.ensures ∙ (λ i. row_held 1023 1024 (values-row _ _ v e i) (present-row _ _ v e i))
+pub returns-in-None : goal.returns-in-None
+returns-in-None c = let h = no_row true (grid_row c.args.r) (sym c.in-None.is ∙ c.grid_row.ensures) in absurd (grind arith)

@@ -4,6 +4,7 @@ use Prim.Native.Nat.{ℕ, ◌+◌, ◌*◌, ◌<◌}
 use mathlib.Core.Path.{◌≡◌, sym, ap, ◌∙◌}
 use mathlib.Core.List.{List}
 use native.Mathlib.Omega.{arith}
+use Rattle.arith.proofs.Numbers.{passed}
 use Rattle.field.specs.Inner.{field_at}
 use Rattle.field.proofs.Place.{field_at-lt}
 use Rattle.message_rows.proofs.Head.{number_read, head_of, accepted-head, counted-low, counted-sin}
@@ -14,8 +15,8 @@ use Rattle.message_rows.proofs.header_code.Goals as goal
 pub target_of-m-requires : goal.target_of-m-requires
 target_of-m-requires c = let s = c.args.s.now in omega (arith, c.source_of-n.ensures, counted-low s c.field_at-number.result 12)
 
-pub check_counted-refusal-requires : goal.check_counted-refusal-requires
-check_counted-refusal-requires c = record { number = c.field_at-number.ensures; source = c.source_of-n.ensures; target = c.target_of-m.ensures }
+pub check_counted-requires : goal.check_counted-requires
+check_counted-requires c = record { number = c.field_at-number.ensures; source = c.source_of-n.ensures; target = c.target_of-m.ensures }
 
 pub sin_bit-requires : goal.sin_bit-requires
 sin_bit-requires c = let s = c.args.s.now in
@@ -34,7 +35,7 @@ overflow_mul-result-2 c = let s = c.args.s.now in omega (arith, c.field_at-numbe
 
 pub returns : goal.returns
 returns c = let s = c.args.s.now in
-    let e = sym c.check_counted-refusal.ensures ∙ c.if-refusal-ne0.false in
+    let e = sym c.check_counted.ensures ∙ passed c.in_default.is in
     let h = accepted-head s e in
     let k = c.field_at-number.ensures in
     let p = counted-sin s h (record { number = k; source = c.source_of-n.ensures; target = c.target_of-m.ensures }) in

@@ -18,11 +18,8 @@ pub returns-then-hi-number : goal.returns-then-hi-number
 unfolding row_held
 returns-then-hi-number c = rw (← c.natural_at-number.ensures, le-leb _ _ c.if-number-lo.false, lt-leb _ _ c.if-hi-number.true)
 
-pub overflow_add-n : goal.overflow_add-n
-overflow_add-n c = let a = c.args in omega (arith, c.counter_at-n.ensures, counter-most (says (row_of a.values.now a.present.now)) 1)
-
 pub returns : goal.returns
 returns c = let a = c.args in
     let n = c.natural_at-number.ensures in
-    let l = row-layout-by (row_of a.values.now a.present.now) n c.counter_at-n.ensures c.counter_at-m.ensures in
+    let l = row-layout-by (row_of a.values.now a.present.now) n c.counter_at-n.ensures.value c.counter_at-m.ensures.value in
     row-held-by a.lo a.hi a.values.now a.present.now n c.if-number-lo.false c.if-hi-number.false l c.taken_by.ensures

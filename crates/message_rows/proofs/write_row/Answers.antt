@@ -19,11 +19,8 @@ returns-then-number-gt1027 c = let a = c.args in
     let n = c.natural_at-number.ensures in let p = refused-write _ 4 (message (row_of a.values.now a.present.now)) a.out.now
     (write-high a.values.now a.present.now a.out.now (rw n at c.if-number-lt1021.false) (rw n at c.if-number-gt1027.true)) in record { answer = p.0; output = p.1 }
 
-pub overflow_add-n : goal.overflow_add-n
-overflow_add-n c = let a = c.args in omega (arith, c.counter_at-n.ensures, counter-most (says (row_of a.values.now a.present.now)) 1)
-
 pub returns : goal.returns
 returns c = let a = c.args in
     let n = c.natural_at-number.ensures in
-    let l = row-layout-by (row_of a.values.now a.present.now) n c.counter_at-n.ensures c.counter_at-m.ensures in let d = c.encode_by.ensures in
+    let l = row-layout-by (row_of a.values.now a.present.now) n c.counter_at-n.ensures.value c.counter_at-m.ensures.value in let d = c.encode_by.ensures in
     let p = row-written-by a.values.now a.present.now a.out.now (rw n at c.if-number-lt1021.false) (rw n at c.if-number-gt1027.false) l (d.answer, d.output) in record { answer = p.0; output = p.1 }

@@ -1,17 +1,9 @@
 -- `record_grids::nodes_at` meets its contract: a loop that fills the nodes from the front.
 -- Assumes nothing.
-use Prim.Native.Nat.{ℕ, ◌+◌, ◌*◌, ◌-◌, ◌≤◌}
-use mathlib.Core.Path.{◌≡◌, refl}
-use mathlib.Core.List.{List, ◌++◌}
+use mathlib.Core.Path.{refl}
 use native.Mathlib.Omega.{arith}
-use lib.IntN.{ℤ}
-use lib.ListN.{drop}
-use Rattle.arith.specs.Lists.{up_to}
 use Rattle.arith.proofs.Lists.{fill-turn, fill_done}
-use Rattle.layout.specs.Layout.{row_of}
-use Rattle.record_rows.specs.Numbers.{says}
-use Rattle.record_grids.specs.declared.Shifts.{Shifts}
-use Rattle.record_grids.specs.Grids.{shifts_at, nodes_at}
+use Rattle.record_grids.specs.Grids.{nodes_at}
 use Rattle.record_grids.proofs.Appends.{zero_shifts}
 use Rattle.record_grids.proofs.nodes_at.Invariants.{node}
 use Rattle.record_grids.proofs.nodes_at.Goals as goal

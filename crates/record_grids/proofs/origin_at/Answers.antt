@@ -1,7 +1,6 @@
 -- `record_grids::origin_at` meets its contract: each place of the row is read for the field that the definition names.
 -- Assumes nothing.
 use Rattle.record_grids.specs.Grids.{origin_at}
-use borrow.Author.Rules.{rules}
 use Rattle.record_grids.proofs.origin_at.Goals as goal
 
 pub returns : goal.returns

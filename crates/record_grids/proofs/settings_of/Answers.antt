@@ -1,7 +1,6 @@
 -- `record_grids::settings_of` meets its contract.
 -- Assumes nothing.
 use Rattle.arith.proofs.Back.{held}
-use Rattle.record_grids.specs.Grids.{settings_of}
 use Rattle.record_grids.proofs.settings_of.Goals as goal
 
 pub returns : goal.returns

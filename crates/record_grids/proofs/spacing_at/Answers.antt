@@ -3,7 +3,6 @@
 use mathlib.Core.Path.{◌∙◌}
 use Rattle.arith.proofs.Back.{held}
 use Rattle.record_grids.specs.Grids.{spacing_at}
-use borrow.Author.Rules.{rules}
 use Rattle.record_grids.proofs.spacing_at.Goals as goal
 
 pub returns : goal.returns

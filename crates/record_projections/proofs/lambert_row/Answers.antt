@@ -1,19 +1,17 @@
--- `record_projections::lambert_row` meets its contract: each value and each presence byte is that of the field that the definition names.
+-- `record_projections::lambert_row` meets its contract: each place is that of the field that the definition names.
 -- Assumes nothing.
-use mathlib.Core.Path.{◌∙◌}
-use mathlib.Core.Bool.{true}
-use mathlib.Core.List.{[], ◌∷◌}
+use Rattle.std.proofs.Common.{rules, arith, refl, [], ◌∷◌, Some, None}
 use Rattle.arith.proofs.Back.{held}
-use Rattle.record_rows.specs.Inner.{buffers}
+use Rattle.layout.specs.Layout.{value_in, present_in}
+use Rattle.record_rows.proofs.Maps.{mapped, numbered}
 use Rattle.record_projections.specs.Projections.{lambert_row}
-use borrow.Author.Rules.{rules}
 use Rattle.record_projections.proofs.lambert_row.Goals as goal
 
 pub returns : goal.returns
 unfolding lambert_row
-returns c = let t = c.struct_told-1.given in
-    let r = c.args.r in
-    c.numbers_of.ensures
-    ∙ (λ i. buffers true
-    (held r.number t.0.1 i ∷ held r.sin t.1.0.1 i ∷ held r.projection t.1.1.0.1 i ∷ (held _ c.value_in.type_inv ∙ c.value_in.ensures) i ∷ (held _ c.value_in-2.type_inv ∙ c.value_in-2.ensures) i ∷ (held _ c.value_in-3.type_inv ∙ c.value_in-3.ensures) i ∷ (held _ c.value_in-4.type_inv ∙ c.value_in-4.ensures) i ∷ held r.easting t.1.1.1.1.1.1.1.0.1 i ∷ (held _ c.value_in-5.type_inv ∙ c.value_in-5.ensures) i ∷ [])
-    (1 ∷ 1 ∷ 1 ∷ c.present_in.ensures i ∷ c.present_in-2.ensures i ∷ c.present_in-3.ensures i ∷ c.present_in-4.ensures i ∷ 1 ∷ c.present_in-5.ensures i ∷ []))
+returns c = let r = c.args.r in
+    numbered (lambert_row r) c.numbers_of.ensures
+    (mapped value_in None _ refl c.map.ensures.items (λ x y p q k. search rules))
+    (mapped present_in None _ refl c.map-2.ensures.items (λ x y p q k. search rules))
+    (λ i. Some (held r.number (search rules) i) ∷ Some (held r.sin (search rules) i) ∷ Some (held r.projection (search rules) i) ∷ r.latitude ∷ r.longitude ∷ r.parallel1 ∷ r.parallel2 ∷ Some (held r.easting (search rules) i) ∷ r.northing ∷ [])
+    (omega arith)

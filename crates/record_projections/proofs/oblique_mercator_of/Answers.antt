@@ -3,7 +3,6 @@
 use mathlib.Core.Path.{◌∙◌}
 use Rattle.arith.proofs.Back.{held}
 use Rattle.record_projections.specs.Projections.{oblique_mercator_of}
-use borrow.Author.Rules.{rules}
 use Rattle.record_projections.proofs.oblique_mercator_of.Goals as goal
 
 pub returns : goal.returns

@@ -3,7 +3,6 @@
 use mathlib.Core.Path.{ap, ◌∙◌}
 use Rattle.arith.proofs.Back.{held}
 use Rattle.layout.specs.Layout.{value_in}
-use borrow.Author.Rules.{rules}
 use Rattle.record_rows.proofs.number_at.Goals as goal
 
 pub returns : goal.returns

@@ -7,7 +7,6 @@ use Rattle.arith.proofs.Back.{held}
 use Rattle.layout.specs.Layout.{value_in}
 use Rattle.record_rows.specs.Numbers.{pair_at}
 use Rattle.record_rows.proofs.Rows.{says-behind-values}
-use borrow.Author.Rules.{rules}
 use Rattle.record_rows.proofs.pair_at.Goals as goal
 
 pub returns-then-k-values : goal.returns-then-k-values

@@ -8,7 +8,6 @@ use Rattle.arith.specs.Lists.{at}
 use Rattle.arith.proofs.Back.{held}
 use Rattle.layout.specs.Layout.{reading_in}
 use Rattle.record_rows.proofs.Rows.{says_both, says-behind-values, says-behind-bytes}
-use borrow.Author.Rules.{rules}
 use Rattle.record_rows.proofs.says_at.Goals as goal
 
 pub returns-then-values-k : goal.returns-then-values-k

@@ -1,35 +1,34 @@
--- `record_transformation_rows::good_name` meets its contract: the loop stops at the first character that is neither used nor zero.
+-- `record_transformation_rows::good_name` meets its contract: each of the 31 characters passes its test.
 -- Assumes nothing.
-use Prim.Native.Nat.{ℕ, ◌-◌, ◌≤◌}
-use mathlib.Core.Path.{◌≡◌, refl, subst}
-use mathlib.Core.Bool.{true}
-use native.Mathlib.Omega.{arith}
-use borrow.Author.Tests.{not-true, not-false, le-leb}
+use Rattle.std.proofs.Common.{rules, arith, ◌≡◌, ◌∙◌, refl, sym, ap, Bool, ℕ, zero, suc, ◌≤◌, take, take_all}
+use borrow.Author.Tests.{tests, le-leb, lt-leb}
+use lib.ListN.{get_or}
+use native.Mathlib.Numerals.{add-one}
+use Rattle.std.proofs.lemmas.Iterator.{YieldsList-from_range}
+use Rattle.std.proofs.lemmas.Iterator.Search.{all_from_yields_List}
+use Rattle.std.proofs.lemmas.List.Folds.{list_all_more}
+use Rattle.std.proofs.lemmas.List.FromFn.{length-range_with_len, get_or-range_with_len}
+use Rattle.std.specs.List.{list_all, range_with_len}
 use Rattle.arith.specs.Lists.{all_below}
-use Rattle.arith.proofs.Order.{tests, is}
-use Rattle.arith.proofs.Tests.{all_more, all-stops}
 use Rattle.record_transformations.specs.Transformations.{char_good, good_name}
 use Rattle.record_transformation_rows.proofs.good_name.Goals as goal
 
-pub returns-then-length-gt31 : goal.returns-then-length-gt31
+-- the first k of the numbers below n
+front : (f : ℕ → Bool) (n k : ℕ) → k ≤ n → list_all f (take k (range_with_len 0 n)) ≡ all_below f k
+front f n zero h = refl
+front f n (suc k) h =
+    let here : get_or (range_with_len 0 n) k 0 ≡ k = omega (arith, get_or-range_with_len 0 n k 0 (omega arith)) in
+    rw (← add-one k, list_all_more f (range_with_len 0 n) k 0 (omega (arith, length-range_with_len 0 n)), front f n k (omega arith), here) refl
+
+all-of : (f : ℕ → Bool) (n : ℕ) → list_all f (range_with_len 0 n) ≡ all_below f n
+all-of f n = ap (list_all f) (sym (take_all n (range_with_len 0 n) (omega (arith, length-range_with_len 0 n)))) ∙ front f n n (omega arith)
+
+pub returns-then-n-le31 : goal.returns-then-n-le31
 unfolding good_name
-returns-then-length-gt31 c = search tests
+returns-then-n-le31 c = let f = char_good c.args.n in
+    rw (le-leb c.args.n.length 31 c.if-n-le31.true)
+    (all_from_yields_List f _ _ c.all.result c.all.ensures.ran (YieldsList-from_range 0 31 31 refl refl) (λ x b q k. search (rules, tests)) ∙ all-of f 31)
 
-pub loop-j-init : goal.loop-j-init
-loop-j-init c = (omega arith, refl)
-
-pub returns-then-not-char_good : goal.returns-then-not-char_good
+pub returns-else-n-le31 : goal.returns-else-n-le31
 unfolding good_name
-returns-then-not-char_good c = let n = c.args.n in
-    rw
-    (le-leb n.length 31 c.if-length-gt31.false, all-stops (char_good n) c.loop-j.j 31 (is c.char_good.ensures (c.if-not-char_good.true)) (omega arith))
-
-pub loop-j-preserved : goal.loop-j-preserved
-loop-j-preserved c = let l = c.loop-j in
-    (omega arith, all_more (char_good c.args.n) l.j l.invariant.1 (is c.char_good.ensures (c.if-not-char_good.false)))
-
-pub returns : goal.returns
-unfolding good_name
-returns c = let n = c.args.n in
-    let e : c.loop-j.j ≡ 31 = omega arith in
-    rw (le-leb n.length 31 c.if-length-gt31.false, subst (λ (m : ℕ). all_below (char_good n) m ≡ true) e c.loop-j.invariant.1)
+returns-else-n-le31 c = rw (lt-leb c.args.n.length 31 c.if-n-le31.false) refl

@@ -5,7 +5,6 @@ use Prim.Native.Nat.{ℕ, ◌+◌}
 use native.Mathlib.Omega.{arith}
 use Rattle.layout.specs.Layout.{row_of}
 use Rattle.record_rows.specs.Numbers.{says, counter_at}
-use borrow.Author.Rules.{rules}
 use Rattle.record_transformations.proofs.behind_names.Goals as goal
 
 pub returns : goal.returns

@@ -1,6 +1,5 @@
 -- `record_transformations::ellipsoids_at` meets its contract: each place read is the one that the definition names.
 -- Assumes nothing.
-use borrow.Author.Rules.{rules}
 use mathlib.Core.Path.{◌∙◌}
 use Rattle.arith.proofs.Back.{held}
 use Rattle.record_transformations.specs.Transformations.{ellipsoids_at}

@@ -1,17 +1,15 @@
 -- `record_transformations::name_at` meets its contract: a loop that fills the characters from the front.
 -- Assumes nothing.
-use Prim.Native.Nat.{ℕ, ◌+◌, ◌-◌, ◌%◌, ◌≤◌}
+use Prim.Native.Nat.{ℕ}
 use mathlib.Core.Path.{◌≡◌, refl, ap, ◌∙◌}
 use mathlib.Core.List.{List, ◌++◌}
 use native.Mathlib.Omega.{arith}
 use lib.ListN.{drop, replicate}
 use Rattle.arith.specs.Lists.{up_to}
-use Rattle.arith.specs.Whole.{natural}
-use Rattle.field.specs.declared.Reading.{Reading}
 use Rattle.layout.specs.Layout.{row_of}
 use Rattle.arith.proofs.Lists.{fill-turn, drop-replicate}
 use Rattle.record_transformations.specs.Transformations.{name_at}
-use Rattle.record_rows.specs.Numbers.{says, number_at, counter_at}
+use Rattle.record_rows.specs.Numbers.{says, counter_at}
 use Rattle.record_rows.proofs.Rows.{counter-most}
 use Rattle.record_transformations.proofs.name_at.Invariants.{char_from}
 use Rattle.record_transformations.proofs.name_at.Goals as goal

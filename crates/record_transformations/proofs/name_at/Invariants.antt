@@ -1,22 +1,18 @@
 -- `record_transformations::name_at` meets its contract: a loop that fills the characters from the front.
 -- Assumes nothing.
+use Rattle.std.proofs.Common.{ℤ, Option}
 use Prim.Native.Nat.{ℕ, ◌+◌, ◌-◌, ◌%◌, ◌≤◌}
-use mathlib.Core.Path.{◌≡◌, refl, ap, ◌∙◌}
-use mathlib.Core.List.{List, ◌++◌}
-use native.Mathlib.Omega.{arith}
-use lib.ListN.{drop, replicate}
+use mathlib.Core.Path.{◌≡◌}
+use mathlib.Core.List.{◌++◌}
+use lib.ListN.{drop}
 use Rattle.arith.specs.Lists.{up_to}
 use Rattle.arith.specs.Whole.{natural}
-use Rattle.field.specs.declared.Reading.{Reading}
 use Rattle.layout.specs.Layout.{row_of}
-use Rattle.arith.proofs.Lists.{fill-turn, drop-replicate}
-use Rattle.record_transformations.specs.Transformations.{name_at}
-use Rattle.record_rows.specs.Numbers.{says, number_at, counter_at}
-use Rattle.record_rows.proofs.Rows.{counter-most}
+use Rattle.record_rows.specs.Numbers.{says, number_at}
 use Rattle.record_transformations.proofs.name_at.Given as goal
 
 -- character i of the name whose counter stands at place k
-abbrev pub char_from : (ℕ → Reading) → ℕ → ℕ → ℕ
+abbrev pub char_from : (ℕ → Option ℤ) → ℕ → ℕ → ℕ
 char_from v k i = natural (number_at v (k + 1 + i)) % 256
 
 abbrev pub invariant-loop-j : goal.invariant-loop-j

@@ -1,6 +1,5 @@
 -- `record_transformations::parameters_at` meets its contract: each place read is the one that the definition names.
 -- Assumes nothing.
-use borrow.Author.Rules.{rules}
 use Rattle.record_transformations.specs.Transformations.{parameters_at}
 use Rattle.record_transformations.proofs.parameters_at.Goals as goal
 

@@ -5,7 +5,6 @@ use Prim.Native.Nat.{ℕ, ◌+◌}
 use Rattle.layout.specs.Layout.{row_of}
 use Rattle.record_rows.specs.Numbers.{says}
 use Rattle.record_transformations.specs.Transformations.{name_at}
-use borrow.Author.Rules.{rules}
 use Rattle.record_transformations.proofs.target_of.Goals as goal
 
 pub returns : goal.returns

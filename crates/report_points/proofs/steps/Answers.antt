@@ -27,9 +27,6 @@ offset_bounds-east-i c = omega (arith, c.well_formed.1.1.1.1.0)
 pub bounds-east-i : goal.bounds-east-i
 bounds-east-i c = omega (arith, c.requires.0)
 
-pub overflow_add-i : goal.overflow_add-i
-overflow_add-i c = omega arith
-
 pub loop-i-smaller : goal.loop-i-smaller
 loop-i-smaller c = omega arith
 

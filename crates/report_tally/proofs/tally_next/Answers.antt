@@ -12,7 +12,6 @@ use Rattle.report_update.specs.declared.Tally.{Tally}
 use Rattle.report_update.specs.Numbers.{points_in}
 use Rattle.report_update.specs.Inner.{grown_by}
 use Rattle.report_tally.specs.Next.{outcome_at, next_refusal, next_of}
-use Rattle.report_tally.proofs.Totals.{uncapped}
 use Rattle.report_tally.proofs.Sound.{outcome-sound}
 use Rattle.report_tally.proofs.Room.{takes_one}
 use Rattle.report_tally.proofs.tally_next.Goals as goal
@@ -21,9 +20,9 @@ pub returns : goal.returns
 unfolding next_of next_refusal
 returns c = let t : Tally = c.args.t in
     let known : c.args.component ≤ 2 = omega arith in
-    let same : c.points_in-n.result ≡ points_in t = uncapped (points_in t) c.points_in-n.result c.points_in-n.ensures (omega arith) in
+    let same : c.points_in-n.result ≡ points_in t = omega arith in
     let few : points_in t < 10000 = omega arith in
-    let sum : c.magnitude.result ≡ nat_abs t.sum = c.magnitude.ensures ∙ ap nat_abs (held t.sum (omega arith)) in
+    let sum : c.unsigned_abs.result ≡ nat_abs t.sum = c.unsigned_abs.ensures.value ∙ ap nat_abs (held t.sum (omega arith)) in
     let near : nat_abs t.sum ≤ 100000000000 = omega arith in
     let o : Counted = outcome_at c.args.message.now c.args.component c.args.north c.args.east in
     let answer : c.part_at-o.result ≡ o = c.part_at-o.ensures ∙ (λ i. outcome_at c.args.message.now c.args.component (is-back c.ranges.north i) (is-back c.ranges.east i)) in

@@ -3,7 +3,6 @@
 use mathlib.Core.Path.{◌≡◌, ◌∙◌}
 use mathlib.Core.Bool.{cond, ◌||◌}
 use Prim.Native.Nat.{◌+◌}
-use borrow.Author.Rules.{rules}
 use native.Mathlib.Omega.{arith}
 use lib.Dec.{eqb}
 use lib.Signed.{lt_z}
@@ -35,9 +34,9 @@ returns c = let count : Num = arg c.args.count 10000000 c.requires.2 tt in
     λ i. record {
       answered = t.answered + 1;
       refused = t.refused;
-      smallest = (held c.count_of-smallest.result c.count_of-smallest.type_inv ∙ c.count_of-smallest.ensures ∙ (λ j. cond (low j) (z j) (smallest j))) i;
-      greatest = (held c.count_of-greatest.result c.count_of-greatest.type_inv ∙ c.count_of-greatest.ensures ∙ (λ j. cond (high j) (z j) (greatest j))) i;
-      smallest_place = (c.place_of-smallest_place.ensures ∙ (λ j. cond (low j) k t.smallest_place)) i;
-      greatest_place = (c.place_of-greatest_place.ensures ∙ (λ j. cond (high j) k t.greatest_place)) i;
+      smallest = (held c.chosen-smallest.result c.chosen-smallest.type_inv ∙ c.chosen-smallest.ensures ∙ (λ j. cond (low j) (z j) (smallest j))) i;
+      greatest = (held c.chosen-greatest.result c.chosen-greatest.type_inv ∙ c.chosen-greatest.ensures ∙ (λ j. cond (high j) (z j) (greatest j))) i;
+      smallest_place = (c.chosen-smallest_place.ensures ∙ (λ j. cond (low j) k t.smallest_place)) i;
+      greatest_place = (c.chosen-greatest_place.ensures ∙ (λ j. cond (high j) k t.greatest_place)) i;
       sum = sum.held i;
     }

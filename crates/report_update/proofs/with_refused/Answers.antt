@@ -1,7 +1,6 @@
 -- `report_update::with_refused` meets its contract.
 -- Assumes nothing.
 use mathlib.Core.Path.{refl}
-use borrow.Author.Rules.{rules}
 use Rattle.report_update.specs.Update.{with_refused}
 use Rattle.report_update.proofs.with_refused.Goals as goal
 

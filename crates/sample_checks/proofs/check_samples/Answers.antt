@@ -5,7 +5,6 @@ use mathlib.Core.Bool.{true}
 use mathlib.Core.List.{List}
 use Prim.Native.Nat.{ℕ}
 use borrow.Author.Rules.{rules}
-use borrow.Author.Tests.{not-true, not-false}
 use Rattle.grid_component.specs.declared.Kept.{Kept}
 use Rattle.grid_component.specs.Inner.{kept_of}
 use Rattle.sample_files.specs.File.{message_of, points_of, shape}

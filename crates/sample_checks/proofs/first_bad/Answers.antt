@@ -1,14 +1,10 @@
 -- `sample_checks::first_bad` meets its contract: the points passed are right.
 -- Assumes nothing.
-use Prim.Native.Nat.{◌-◌, ◌≤◌}
 use mathlib.Core.Path.{◌≡◌, refl, sym, ap, ◌∙◌}
 use native.Mathlib.Omega.{arith}
-use borrow.Author.Tests.{not-true, not-false}
-use lib.ListN.{length}
-use Rattle.sample_files.specs.File.{points_of}
 use Rattle.sample_files.specs.Inner.{point_at}
 use Rattle.sample_checks.specs.Check.{right}
-use Rattle.sample_checks.proofs.Checks.{bad_from, round-bad, round-right, none-bad}
+use Rattle.sample_checks.proofs.Checks.{round-bad, round-right, none-bad}
 use Rattle.sample_checks.proofs.first_bad.Goals as goal
 
 pub loop-i-init : goal.loop-i-init

@@ -1,23 +1,12 @@
 -- `sample_files::message_end` meets its contract.
 -- Assumes nothing.
-use mathlib.Core.Path.{◌≡◌, sym, ap, ◌∙◌}
-use Prim.Native.Nat.{ℕ, ◌+◌}
+use mathlib.Core.Path.{◌∙◌}
 use native.Mathlib.Omega.{arith}
-use lib.ListN.{drop}
-use borrow.Author.Rules.{rules}
-use Rattle.sample_numbers.specs.Number.{number}
-use Rattle.sample_numbers.proofs.Number.{number-within}
-use Rattle.sample_files.proofs.Fields.{end-cut, end_whole}
+use Rattle.sample_files.proofs.Fields.{end-is, size-low}
 use Rattle.sample_files.proofs.message_end.Goals as goal
 
-pub returns-then-length-lt3 : goal.returns-then-length-lt3
-returns-then-length-lt3 c = sym (end-cut c.args.file.now (omega arith))
-
-pub returns-then-length-n : goal.returns-then-length-n
-returns-then-length-n c = let size : c.number_at-n.result ≡ number 2 (drop 1 c.args.file.now) = c.number_at-n.ensures ∙ number-within c.args.file.now 1 2 (omega arith) (omega (arith, c.if-length-lt3.false)) in
-    sym (end-cut c.args.file.now (omega (arith, size, c.if-length-n.true)))
+pub overflow_add-n : goal.overflow_add-n
+overflow_add-n c = record { fits = omega (arith, c.number_at-n.ensures, size-low c.args.file.now (λ i. (c.type_inv.file i).fits)) }
 
 pub returns : goal.returns
-returns c = let size : c.number_at-n.result ≡ number 2 (drop 1 c.args.file.now) = c.number_at-n.ensures ∙ number-within c.args.file.now 1 2 (omega arith) (omega (arith, c.if-length-lt3.false)) in
-    ap (λ (n : ℕ). 3 + n) size
-    ∙ sym (end_whole c.args.file.now (omega (arith, size, c.if-length-n.false, c.if-length-lt3.false)))
+returns c = rw c.number_at-n.ensures at c.min.ensures ∙ end-is c.args.file.now

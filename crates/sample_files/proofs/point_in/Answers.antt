@@ -10,7 +10,6 @@ use lib.Seq.{get_or-drop, drop-drop}
 use lib.Signed.{mag}
 use mir.Syntax.{w64}
 use mir.Val.{to_z, of_z}
-use borrow.Author.Rules.{rules}
 use Rattle.arith.proofs.Back.{held}
 use Rattle.sample_numbers.specs.Number.{whole}
 use Rattle.sample_numbers.specs.Inner.{whole_at}

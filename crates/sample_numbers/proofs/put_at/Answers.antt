@@ -1,27 +1,15 @@
 -- `sample_numbers::put_at` meets its contract.
 -- Assumes nothing.
 use mathlib.Core.Path.{sym, ◌∙◌}
-use Prim.Native.Nat.{◌+◌, ◌≤◌}
-use lib.ListN.{length}
-use borrow.Author.Rules.{rules}
 use borrow.Author.Tests.{leb-true}
 use Rattle.sample_numbers.specs.Number.{put_bytes}
 use Rattle.sample_numbers.proofs.Number.{length-bytes_of}
 use Rattle.sample_numbers.proofs.Word.{put-number}
 use Rattle.sample_numbers.proofs.put_at.Goals as goal
 
-pub overflow_add-e : goal.overflow_add-e
-overflow_add-e c = let stands : c.args.a + c.args.k ≤ length c.args.out.now = leb-true _ _ (sym c.within.ensures ∙ c.if-within.true) in
-    let h = stands in search rules
-
-pub slice_bounds-put_number-end : goal.slice_bounds-put_number-end
-slice_bounds-put_number-end c = let stands : c.args.a + c.args.k ≤ length c.args.out.now = leb-true _ _ (sym c.within.ensures ∙ c.if-within.true) in
-    let h = stands in search rules
-
 pub returns-then-within : goal.returns-then-within
-returns-then-within c = let stands : c.args.a + c.args.k ≤ length c.args.out.now = leb-true _ _ (sym c.within.ensures ∙ c.if-within.true) in
-    let a = c.args in
-    put-number a.out.now _ a.a a.k a.v stands c.put_number.ensures
+returns-then-within c = let a = c.args in
+    put-number a.out.now _ a.a a.k a.v (leb-true _ _ (sym c.within.ensures ∙ c.if-within.true)) c.put_number.ensures
 
 pub returns-else-within : goal.returns-else-within
 unfolding put_bytes

@@ -1,16 +1,16 @@
 -- `sample_writer::first_refused` meets its contract: none of the points passed is refused.
 -- Assumes nothing.
-use Prim.Native.Nat.{ℕ, ◌-◌, ◌≤◌}
+use Prim.Native.Nat.{ℕ}
 use mathlib.Core.Path.{◌≡◌, refl, sym, ◌∙◌}
 use native.Mathlib.Omega.{arith}
 use lib.IntN.{ℤ, pos}
-use lib.ListN.{length, get_or}
+use lib.ListN.{get_or}
 use Rattle.arith.proofs.Back.{held}
 use Rattle.grid_component.specs.Component.{counted}
 use Rattle.grid_component.specs.Inner.{counted_by}
 use Rattle.grid_component.proofs.Counts.{counted_is}
-use Rattle.sample_writer.specs.Refusals.{answer_at, asked_of, first_refused}
-use Rattle.sample_writer.proofs.Asked.{from, point, round-refused, round-answered, end_refused}
+use Rattle.sample_writer.specs.Refusals.{answer_at}
+use Rattle.sample_writer.proofs.Asked.{point, round-refused, round-answered, end_refused}
 use Rattle.sample_writer.proofs.first_refused.Goals as goal
 
 pub loop-i-init : goal.loop-i-init

@@ -1,7 +1,6 @@
 -- `sample_writer::points_refusal` meets its contract: each return is a case of the definition.
 -- Assumes nothing.
 use mathlib.Core.Path.{◌≡◌, sym, ap, ◌∙◌}
-use borrow.Author.Rules.{rules}
 use Rattle.message_rows.specs.Message.{kind_refusal}
 use Rattle.grid_component.specs.declared.Kept.{Kept}
 use Rattle.grid_component.specs.Inner.{kept_of}

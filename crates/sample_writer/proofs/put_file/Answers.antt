@@ -2,7 +2,6 @@
 -- Assumes nothing.
 use mathlib.Core.Path.{refl, ◌∙◌}
 use native.Mathlib.Omega.{arith}
-use Prim.Native.Nat.{◌+◌}
 use mathlib.Core.List.{[], ◌++◌}
 use lib.ListN.{length}
 use Rattle.sample_numbers.specs.Number.{bytes_of}

@@ -11,7 +11,6 @@ use Rattle.sample_files.specs.File.{point_field}
 use Rattle.sample_writer.specs.Write.{sample}
 use Rattle.sample_writer.specs.Refusals.{answer_at}
 use native.Mathlib.Omega.{arith}
-use borrow.Author.Rules.{rules}
 use Rattle.sample_writer.proofs.put_sample.Goals as goal
 
 pub returns : goal.returns

@@ -1,17 +1,14 @@
 -- `sample_writer::put_samples` meets its contract: the fields of the points passed are stored.
 -- Assumes nothing.
-use Prim.Native.Nat.{◌+◌, ◌-◌, ◌*◌, ◌≤◌}
 use mathlib.Core.Path.{◌≡◌, refl, sym, ◌∙◌}
-use mathlib.Core.List.{◌++◌, map}
 use native.Mathlib.Omega.{arith}
 use borrow.Author.Rules.{rules}
 use lib.IntN.{pos}
-use lib.ListN.{length, get_or, take}
+use lib.ListN.{get_or}
 use Rattle.arith.proofs.Back.{held}
-use Rattle.sample_files.specs.File.{point_size, point_field, point_fields}
+use Rattle.sample_files.specs.File.{point_field}
 use Rattle.sample_writer.specs.Write.{sample}
-use Rattle.sample_writer.specs.Refusals.{asked_of}
-use Rattle.sample_writer.proofs.Asked.{from, point}
+use Rattle.sample_writer.proofs.Asked.{point}
 use Rattle.sample_writer.proofs.Points.{size-put, round-fields, end-fields}
 use Rattle.sample_writer.proofs.put_samples.Goals as goal
 

@@ -1,18 +1,13 @@
 -- `sample_writer::put_samples` meets its contract: the fields of the points passed are stored.
 -- Assumes nothing.
-use Prim.Native.Nat.{◌+◌, ◌-◌, ◌*◌, ◌≤◌}
-use mathlib.Core.Path.{◌≡◌, refl, sym, ◌∙◌}
+use Prim.Native.Nat.{◌*◌, ◌≤◌}
+use mathlib.Core.Path.{◌≡◌}
 use mathlib.Core.List.{◌++◌, map}
-use native.Mathlib.Omega.{arith}
-use borrow.Author.Rules.{rules}
-use lib.IntN.{pos}
-use lib.ListN.{length, get_or, take}
-use Rattle.arith.proofs.Back.{held}
-use Rattle.sample_files.specs.File.{point_size, point_field, point_fields}
+use lib.ListN.{length, take}
+use Rattle.sample_files.specs.File.{point_size, point_fields}
 use Rattle.sample_writer.specs.Write.{sample}
 use Rattle.sample_writer.specs.Refusals.{asked_of}
-use Rattle.sample_writer.proofs.Asked.{from, point}
-use Rattle.sample_writer.proofs.Points.{size-put, round-fields, end-fields}
+use Rattle.sample_writer.proofs.Asked.{from}
 use Rattle.sample_writer.proofs.put_samples.Given as goal
 
 abbrev pub invariant-loop-i : goal.invariant-loop-i
@@ -23,6 +18,3 @@ invariant-loop-i l =
     × ((length l.out ≡ point_size * length l.components)
     × ((length l.initial.out ≡ point_size * length l.components)
     × (take (point_size * l.i) l.out ++ point_fields (map (sample l.message) (from l.components l.north l.east l.i)) ≡ point_fields (map (sample l.message) (asked_of l.components l.north l.east)))))))
-
-abbrev pub decreases-loop-i : goal.decreases-loop-i
-decreases-loop-i l = length l.components - l.i

@@ -6,7 +6,7 @@ use Rattle.table.proofs.checked_marks.Goals as goal
 
 pub returns-then-sound : goal.returns-then-sound
 unfolding checked_marks
-returns-then-sound c = rw (sym c.sound.ensures ∙ c.if-sound.true) c.table_marks-row.ensures
+returns-then-sound c = rw (sym c.sound.ensures ∙ c.if-sound.true, c.table_marks-row.ensures)
 
 pub returns : goal.returns
 unfolding checked_marks

@@ -1,14 +1,18 @@
 -- `table_index_search::agrees` meets its contract: both sizes, then every place.
 -- Assumes nothing.
-use mathlib.Core.Path.{sym, ◌∙◌}
+use mathlib.Core.Path.{sym, ap, ◌∙◌}
+use lib.ListN.{length}
+use Rattle.table_index_search.specs.Agree.{agree}
 use Rattle.table_index_search.proofs.Tests.{agree-marks, agree-size, agree-all}
 use Rattle.table_index_search.proofs.agrees.Goals as goal
 
-pub returns-then-marks-ne-ENTRIES : goal.returns-then-marks-ne-ENTRIES
-returns-then-marks-ne-ENTRIES c = sym (agree-marks _ _ c.if-marks-ne-ENTRIES.true)
+pub returns-in_default : goal.returns-in_default
+returns-in_default c = sym (agree-marks _ _ c.in_default.ensures.1)
 
-pub returns-then-index-ne-INDEX_SIZE : goal.returns-then-index-ne-INDEX_SIZE
-returns-then-index-ne-INDEX_SIZE c = sym (agree-size _ _ c.if-marks-ne-ENTRIES.false c.if-index-ne-INDEX_SIZE.true)
+pub returns-in_default-try_from : goal.returns-in_default-try_from
+returns-in_default-try_from c = sym (agree-size _ _ c.in-Ok.ensures.1.long c.in_default-try_from.ensures.1)
 
 pub returns : goal.returns
-returns c = c.all_agree.ensures ∙ sym (agree-all _ _ c.if-marks-ne-ENTRIES.false c.if-index-ne-INDEX_SIZE.false)
+returns c = let m = c.in-Ok.ensures.1 in
+    let x = c.in-Ok-try_from.ensures.1 in
+    c.all_agree.ensures ∙ sym (agree-all _ _ (ap length m.same ∙ m.long) (ap length x.same ∙ x.long)) ∙ (λ i. agree (m.same i) (x.same i))

@@ -15,8 +15,7 @@ pub returns-then-is_key : goal.returns-then-is_key
 returns-then-is_key c = let l = c.loop-lo in
     let a = c.args in
     let s = c.loop-lo-test.true in
-    c.met.ensures
-    ∙ ap (λ k. met_after k (l.probes + 1)) c.byte_at.ensures
+    ap (λ k. met_after k (l.probes + 1)) c.byte_at.ensures
     ∙ sym (l.invariant.1.1 ∙ round-met a.index.now a.key l.lo l.end l.probes s (omega arith) (sym c.is_key.ensures ∙ c.if-is_key.true))
 
 pub loop-lo-preserved-then-is_below : goal.loop-lo-preserved-then-is_below
@@ -34,4 +33,4 @@ loop-lo-preserved c = let l = c.loop-lo in
 pub returns : goal.returns
 returns c = let l = c.loop-lo in
     let a = c.args in
-    c.missed.ensures ∙ sym (l.invariant.1.1 ∙ probe-none a.index.now a.key (entries - l.probes) l.lo l.end l.probes c.loop-lo-test.false)
+    sym (l.invariant.1.1 ∙ probe-none a.index.now a.key (entries - l.probes) l.lo l.end l.probes c.loop-lo-test.false)

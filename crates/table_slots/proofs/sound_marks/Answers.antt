@@ -1,34 +1,18 @@
--- `table_slots::sound_marks` meets its contract: none of the places passed is flawed.
+-- `table_slots::sound_marks` meets its contract: no place is flawed.
 -- Assumes nothing.
-use native.Mathlib.Omega.{arith}
-use mathlib.Core.Path.{◌≡◌, refl, sym, ap, ◌∙◌}
-use lib.Dec.{eqb}
-use borrow.Author.Tests.{ne_eqb}
+use Rattle.std.proofs.Common.{rules, ◌≡◌, ◌∙◌, ap, not, refl, get_or, arith}
+use borrow.Author.Tests.{tests}
+use Rattle.std.proofs.lemmas.Iterator.{YieldsList-from_range}
+use Rattle.std.proofs.lemmas.Iterator.Search.{any_from_yields_List}
+use Rattle.std.proofs.lemmas.List.FromFn.{length-range_with_len, get_or-range_with_len}
+use Rattle.std.specs.List.{list_any, range_with_len}
 use Rattle.table_slots.specs.Slots.{slots}
 use Rattle.table_slots.specs.Inner.{flawed_mark, sound_marks}
-use Rattle.arith.proofs.Places.{round-hit, round-on, round-end}
+use Rattle.table_slots.proofs.Places.{none-of}
 use Rattle.table_slots.proofs.sound_marks.Goals as goal
-
-pub loop-i-init : goal.loop-i-init
-loop-i-init c = (omega arith, refl)
-
-pub returns-then-flawed_mark : goal.returns-then-flawed_mark
-unfolding sound_marks
-returns-then-flawed_mark c = let i = c.loop-i.i in
-    let l = c.loop-i-test.true in
-    let e = c.loop-i.invariant.1 ∙ round-hit (flawed_mark c.args.row.now) i slots l (sym c.flawed_mark.ensures ∙ c.if-flawed_mark.true) in
-    sym (ne_eqb i slots (λ z. omega arith)) ∙ ap (λ k. eqb k slots) (sym e)
-
-pub loop-i-preserved : goal.loop-i-preserved
-loop-i-preserved c = (
-  omega arith,
-  c.loop-i.invariant.1
-      ∙ round-on (flawed_mark c.args.row.now) _ slots c.loop-i-test.true (sym c.flawed_mark.ensures ∙ c.if-flawed_mark.false),
-)
 
 pub returns : goal.returns
 unfolding sound_marks
-returns c = let i = c.loop-i.i in
-    let s : i ≡ slots = omega arith in
-    let e = c.loop-i.invariant.1 ∙ round-end (flawed_mark c.args.row.now) i slots c.loop-i-test.false ∙ s in
-    ap (λ k. eqb k slots) (sym e)
+returns c = let f = flawed_mark c.args.row.now in
+    let e : c.any.result ≡ list_any f (range_with_len 0 slots) = any_from_yields_List f _ _ c.any.result c.any.ensures.ran (YieldsList-from_range 0 slots slots refl refl) (λ x b q k. search (rules, tests)) in
+    ap not e ∙ none-of f (range_with_len 0 slots) f slots (length-range_with_len 0 slots) (λ i h. let s : get_or (range_with_len 0 slots) i 0 ≡ i = omega (arith, get_or-range_with_len 0 slots i 0 h) in ap f s)

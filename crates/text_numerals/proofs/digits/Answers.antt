@@ -1,30 +1,21 @@
--- `text_numerals::digits` meets its contract. The invariant: the digits that are left stand before those stored; the measure is the place of the next.
--- Assumes nothing.
-use borrow.Author.Rules.{rules}
-use Prim.Native.Nat.{◌+◌, ◌-◌, ◌≤◌}
-use native.Mathlib.Omega.{arith}
-use mathlib.Core.Path.{◌≡◌, refl, sym, ◌∙◌}
-use mathlib.Core.List.{◌++◌}
-use lib.ListN.{length, drop, length-set}
-use Rattle.text_numerals.specs.Inner.{digits_of, decimal}
+-- The digits that are left stand before those stored.
+use Rattle.std.proofs.Common.{◌≡◌, ◌+◌, ◌-◌, ◌++◌, drop, arith, sym, ap, ◌∙◌}
+use Rattle.text_numerals.specs.Inner.{digits_of}
 use Rattle.text_numerals.proofs.Writing.{digits-start, digits_last, digits-on, digits-none}
 use Rattle.text_numerals.proofs.digits.Goals as goal
 
-pub loop-k-init : goal.loop-k-init
-loop-k-init c = (omega arith, (c.requires, digits-start c.args.n c.args.text.now c.requires))
+pub loop-done-init : goal.loop-done-init
+loop-done-init c = digits-start c.args.n c.args.text.now c.requires
 
-pub shape_of-text-then-rest-lt10 : goal.shape_of-text-then-rest-lt10
-shape_of-text-then-rest-lt10 c = simp length-set (c.loop-k.invariant.1.0 ∙ sym c.requires)
+pub returns-then-rest-lt10-clause-output : goal.returns-then-rest-lt10-clause-output
+returns-then-rest-lt10-clause-output c = let l = c.loop-done in
+    sym (l.invariant ∙ digits_last l.text (20 - l.done) (20 - l.done - 1) l.rest (omega arith) (omega (arith, c.requires, l.auto.text)) c.if-rest-lt10.true)
 
-pub returns-then-rest-lt10 : goal.returns-then-rest-lt10
-returns-then-rest-lt10 c = let l = c.loop-k in record { before = omega arith; output = sym (l.invariant.1.1 ∙ digits_last l.text l.k (l.k - 1) l.rest (omega arith) (omega arith) c.if-rest-lt10.true) }
+pub loop-done-preserved : goal.loop-done-preserved
+loop-done-preserved c = let l = c.loop-done in
+    l.invariant ∙ digits-on l.text (20 - l.done) (20 - (l.done + 1)) l.rest (omega arith) (omega (arith, c.requires, l.auto.text)) c.if-rest-lt10.false
 
-pub loop-k-preserved : goal.loop-k-preserved
-loop-k-preserved c = let l = c.loop-k in
-    (omega arith, (simp length-set l.invariant.1.0, l.invariant.1.1 ∙ digits-on l.text l.k (l.k - 1) l.rest (omega arith) (omega arith) c.if-rest-lt10.false))
-
-pub shape_of-text : goal.shape_of-text
-shape_of-text c = c.loop-k.invariant.1.0 ∙ sym c.requires
-
-pub returns : goal.returns
-returns c = let l = c.loop-k in record { before = omega arith; output = sym (l.invariant.1.1 ∙ digits-none l.k l.rest (drop (l.k + 1) l.text) (omega arith)) }
+pub returns-clause-output : goal.returns-clause-output
+returns-clause-output c = let l = c.loop-done in
+    let q : 20 - l.done ≡ 0 = omega arith in
+    sym (l.invariant ∙ ap (λ k. digits_of k l.rest ++ drop (k + 1) l.text) q ∙ digits-none 0 _ _ (omega arith))

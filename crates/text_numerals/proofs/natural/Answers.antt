@@ -1,53 +1,47 @@
--- `text_numerals::natural` meets its contract. The invariant: what is left of the digits spells the whole behind n; the measure is their number.
--- Assumes nothing.
-use borrow.Author.Rules.{rules}
-use Prim.Native.Nat.{◌+◌, ◌-◌, ◌*◌, ◌^◌, ◌<◌}
-use native.Mathlib.Omega.{arith}
-use mathlib.Core.Path.{◌≡◌, refl, sym, ap, ◌∙◌}
-use lib.ListN.{length, get_or, drop}
-use Rattle.text_numerals.specs.Inner.{digits_only, spelled, digit}
-use Rattle.text_numerals.specs.declared.Count.TheVariants.{Is}
+-- What is left of the digits spells the whole behind n; a digit more may make the number too large.
+use Rattle.std.proofs.Common.{rules, ◌≡◌, ◌+◌, ◌*◌, drop, length, arith, sym, ap, ◌∙◌, Some, None}
+use borrow.Author.Tests.{tests}
+use lib.ListN.{get_or}
+use Rattle.text_numerals.specs.Inner.{spelled, digit}
 use Rattle.text_numerals.proofs.Reading.{digits-end, digits-bad, digits-on, spelled-end, spelled-on, spelled-least, natural-none, natural-bad, natural-large, natural-is}
 use Rattle.text_numerals.proofs.natural.Goals as goal
 
-pub returns-then-s-eq0 : goal.returns-then-s-eq0
-returns-then-s-eq0 c = sym (natural-none c.args.s.now c.if-s-eq0.true)
-
-pub loop-k-init : goal.loop-k-init
-loop-k-init c = (omega arith, (refl, refl))
+pub returns-then-is_empty : goal.returns-then-is_empty
+returns-then-is_empty c = let z : length c.args.s.now ≡ 0 = search (rules, tests) in sym (natural-none c.args.s.now z)
 
 pub returns-then-d-gt9 : goal.returns-then-d-gt9
-returns-then-d-gt9 c = let s = c.args.s.now in
-    let l = c.loop-k in
-    sym (natural-bad s (l.invariant.1.1 ∙ digits-bad s l.k (omega arith) (omega (arith, c.digit-d.ensures))))
+returns-then-d-gt9 c = let l = c.loop-b in
+    sym (natural-bad c.args.s.now (l.invariant.digits ∙ digits-bad c.args.s.now l.b-index (omega arith) (omega (arith, c.digit-d.ensures))))
 
--- a digit more makes the number too large
-pub returns-then-n-gt1844674407370955161 : goal.returns-then-n-gt1844674407370955161
-returns-then-n-gt1844674407370955161 c = let s = c.args.s.now in
-    let l = c.loop-k in
-    let d = digit (get_or s l.k 0) in
-    let e = l.invariant.1.0 ∙ spelled-on s l.k (omega arith) l.n in
-    sym (natural-large s (omega (arith, e, spelled-least (l.n * 10 + d) (drop (l.k + 1) s))))
+pub returns-in_err-checked_mul : goal.returns-in_err-checked_mul
+returns-in_err-checked_mul c = let s = c.args.s.now in
+    let l = c.loop-b in
+    let d = digit (get_or s l.b-index 0) in
+    let e = l.invariant.number ∙ spelled-on s l.b-index (omega arith) l.n in
+    let none : c.from_residual.result ≡ None = search rules in
+    none ∙ sym (natural-large s (omega (arith, e, c.in_err-checked_mul.ensures, spelled-least (l.n * 10 + d) (drop (l.b-index + 1) s))))
 
-pub returns-then-n-d : goal.returns-then-n-d
-returns-then-n-d c = let s = c.args.s.now in
-    let l = c.loop-k in
-    let d = digit (get_or s l.k 0) in
-    let e = l.invariant.1.0 ∙ spelled-on s l.k (omega arith) l.n in
-    sym (natural-large s (omega (arith, e, c.digit-d.ensures, spelled-least (l.n * 10 + d) (drop (l.k + 1) s))))
+pub returns-in_err-n : goal.returns-in_err-n
+returns-in_err-n c = let s = c.args.s.now in
+    let l = c.loop-b in
+    let d = digit (get_or s l.b-index 0) in
+    let e = l.invariant.number ∙ spelled-on s l.b-index (omega arith) l.n in
+    let none : c.from_residual-in_err-n.result ≡ None = search rules in
+    none ∙ sym (natural-large s (omega (arith, e, c.digit-d.ensures, c.in_ok-checked_mul.ensures, c.in_err-n.ensures, spelled-least (l.n * 10 + d) (drop (l.b-index + 1) s))))
 
-pub loop-k-preserved : goal.loop-k-preserved
-loop-k-preserved c = let s = c.args.s.now in
-    let l = c.loop-k in (
-      omega arith,
-      (
-        l.invariant.1.0 ∙ spelled-on s l.k (omega arith) l.n ∙ ap (λ x. spelled (l.n * 10 + x) (drop (l.k + 1) s)) (sym c.digit-d.ensures),
-        l.invariant.1.1 ∙ digits-on s l.k (omega arith) (omega (arith, c.digit-d.ensures)),
-      ),
-    )
+pub loop-b-preserved : goal.loop-b-preserved
+loop-b-preserved c = let s = c.args.s.now in
+    let l = c.loop-b in
+    let n : l.n * 10 + digit (get_or s l.b-index 0) ≡ c.in_ok-n.n = omega (arith, c.digit-d.ensures, c.in_ok-checked_mul.ensures, c.in_ok-n.ensures) in
+    record {
+      in_range = omega (arith, c.in_ok-n.ensures);
+      number = l.invariant.number ∙ spelled-on s l.b-index (omega arith) l.n ∙ ap (λ x. spelled x (drop (l.b-index + 1) s)) n;
+      digits = l.invariant.digits ∙ digits-on s l.b-index (omega arith) (omega (arith, c.digit-d.ensures));
+    }
 
 pub returns : goal.returns
 returns c = let s = c.args.s.now in
-    let l = c.loop-k in
-    let e = l.invariant.1.0 ∙ spelled-end s l.k l.n (omega arith) in
-    sym (natural-is s c.if-s-eq0.false (l.invariant.1.1 ∙ digits-end s l.k (omega arith)) (omega (arith, e, l.invariant.0)) ∙ ap Is e)
+    let l = c.loop-b in
+    let e = l.invariant.number ∙ spelled-end s l.b-index l.n (omega arith) in
+    let some : (length s ≡ 0 → ⊥) = λ z. search (rules, tests) in
+    sym (natural-is s some (l.invariant.digits ∙ digits-end s l.b-index (omega arith)) (omega (arith, e, l.invariant.in_range)) ∙ ap Some e)

@@ -1,38 +1,16 @@
--- `text_numerals::pairs` meets its contract. The invariant: all are pairs if what is left is; the measure is the number of bytes that are left.
--- Assumes nothing.
-use borrow.Author.Rules.{rules}
-use Prim.Native.Nat.{◌+◌, ◌-◌, ◌≤◌}
-use native.Mathlib.Omega.{arith}
-use mathlib.Core.Path.{◌≡◌, refl, sym, ◌∙◌}
-use lib.ListN.{length, drop}
-use Rattle.text_numerals.specs.Inner.{pairs}
-use Rattle.text_numerals.proofs.DigitPairs.{pairs_end, pairs-odd, pairs-high, pairs-low, pairs-on}
+use Rattle.std.proofs.Common.{rules, ◌∙◌}
+use lib.Dec.{ltb}
+use borrow.Author.Tests.{tests, ne_eqb}
+use Rattle.std.proofs.lemmas.Iterator.{YieldsList-from_slice}
+use Rattle.std.proofs.lemmas.Iterator.Search.{all_from_yields_List}
+use Rattle.text_numerals.specs.Inner.{digit}
+use Rattle.text_numerals.proofs.DigitPairs.{even_pairs, odd_pairs}
 use Rattle.text_numerals.proofs.pairs.Goals as goal
 
-pub returns-then-s-k-eq1 : goal.returns-then-s-k-eq1
-returns-then-s-k-eq1 c = let s = c.args.s.now in
-    let l = c.loop-k in
-    sym (l.invariant ∙ pairs-odd s l.k (omega arith) (omega arith))
+pub returns-then-s-eq0 : goal.returns-then-s-eq0
+returns-then-s-eq0 c =
+    all_from_yields_List (λ b. ltb (digit b) 16) _ _ c.all.result c.all.ensures.ran (YieldsList-from_slice c.args.s.now cc) (λ x b q k. search (rules, tests))
+    ∙ even_pairs c.args.s.now c.if-s-eq0.true
 
-pub returns-then-digit-ge16 : goal.returns-then-digit-ge16
-returns-then-digit-ge16 c = let s = c.args.s.now in
-    let l = c.loop-k in
-    sym (l.invariant ∙ pairs-high s l.k (omega arith) (omega (arith, c.digit.ensures)))
-
-pub returns-then-digit-ge16-2 : goal.returns-then-digit-ge16-2
-returns-then-digit-ge16-2 c = let s = c.args.s.now in
-    let l = c.loop-k in
-    sym (l.invariant ∙ pairs-low s l.k (omega arith) (omega (arith, c.digit.ensures)) (omega (arith, c.digit-in-loop-k.ensures)))
-
-pub loop-k-preserved : goal.loop-k-preserved
-loop-k-preserved c = let s = c.args.s.now in
-    let l = c.loop-k in
-    l.invariant ∙ pairs-on s l.k (omega arith) (omega (arith, c.digit.ensures)) (omega (arith, c.digit-in-loop-k.ensures))
-
-pub returns : goal.returns
-returns c = let s = c.args.s.now in
-    let l = c.loop-k in
-    sym (l.invariant ∙ pairs_end s l.k (omega arith))
-
-pub loop-k-init : goal.loop-k-init
-loop-k-init c = refl
+pub returns-else-s-eq0 : goal.returns-else-s-eq0
+returns-else-s-eq0 c = ne_eqb _ _ c.if-s-eq0.false ∙ odd_pairs c.args.s.now c.if-s-eq0.false

@@ -1,21 +1,13 @@
--- `text_words::find` meets its contract. The invariant: the place of the first such byte is that many bytes on; the measure is the number of bytes that are left.
--- Assumes nothing.
-use borrow.Author.Rules.{rules}
-use native.Mathlib.Omega.{arith}
-use Rattle.text_words.proofs.Laws.{find-here, find-on, find-end}
+-- What `position` answers is the place of the first such byte.
+use Rattle.std.proofs.Common.{rules, ◌∙◌, ap, nat_eq, length}
+use borrow.Author.Tests.{tests}
+use Rattle.std.specs.Option.{unwrap_or}
+use Rattle.std.proofs.lemmas.Iterator.{YieldsList-from_slice}
+use Rattle.std.proofs.lemmas.Iterator.Search.{position_from_yields_List}
+use Rattle.text_words.proofs.Laws.{found}
 use Rattle.text_words.proofs.find.Goals as goal
 
-pub returns-then-s-k : goal.returns-then-s-k
-returns-then-s-k c = let a = c.args in
-    let k = c.loop-k.k in
-    omega (arith, find-here a.b a.s.now k (search rules) c.if-s-k.true)
-
-pub loop-k-preserved : goal.loop-k-preserved
-loop-k-preserved c = let a = c.args in
-    let k = c.loop-k.k in
-    omega (arith, find-on a.b a.s.now k (search rules) c.if-s-k.false)
-
 pub returns : goal.returns
-returns c = let a = c.args in
-    let k = c.loop-k.k in
-    omega (arith, find-end a.b a.s.now k (omega arith))
+returns c =
+    let e = position_from_yields_List (λ x. nat_eq x c.args.b) _ _ c.position.result c.position.ensures.ran (YieldsList-from_slice c.args.s.now cc) (λ x b q k. search (rules, tests)) in
+    c.unwrap_or.ensures ∙ ap (λ r. unwrap_or r (length c.args.s.now)) e ∙ found c.args.b c.args.s.now

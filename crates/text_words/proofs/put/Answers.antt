@@ -1,20 +1,30 @@
--- `text_words::put` meets its contract: by whether there is room.
--- Assumes nothing.
-use Prim.Native.Nat.{◌+◌}
-use native.Mathlib.Omega.{arith}
-use mathlib.Core.Path.{sym, ap, ◌∙◌}
-use mathlib.Core.List.{◌++◌}
-use lib.ListN.{length, take, drop}
-use lib.Seq.{take-length}
+use Rattle.std.proofs.Common.{arith, append_assoc, sym, ap, ◌∙◌, ◌++◌, length, take, ◌+◌, ◌-◌}
+use borrow.Rule.Slice.PartMut.{Post-is, post_of}
 use Rattle.text_words.proofs.Laws.{put-in, put-not, behind-in, behind-not}
 use Rattle.text_words.proofs.put.Goals as goal
 
-pub returns-then-out-at : goal.returns-then-out-at
-returns-then-out-at c = let a = c.args in record { output = sym (put-not a.out.now a.at a.s.now (omega arith)); answer = sym (behind-not a.out.now a.at a.s.now (omega arith)) }
+pub returns-then-out-at-clause-output : goal.returns-then-out-at-clause-output
+returns-then-out-at-clause-output c = sym (put-not _ _ _ (omega arith))
 
-pub returns-then-out-at-2 : goal.returns-then-out-at-2
-returns-then-out-at-2 c = let a = c.args in record { output = sym (put-not a.out.now a.at a.s.now (omega arith)); answer = sym (behind-not a.out.now a.at a.s.now (omega arith)) }
+pub returns-then-out-at-clause-answer : goal.returns-then-out-at-clause-answer
+returns-then-out-at-clause-answer c = sym (behind-not _ _ _ (omega arith))
 
-pub returns : goal.returns
-returns c = let a = c.args in
-    let end = a.at + length a.s.now in record { output = c.copy.ensures ∙ ap (λ t. take a.at a.out.now ++ t ++ drop end a.out.now) (take-length a.s.now) ∙ sym (put-in a.out.now a.at a.s.now (omega arith)); answer = sym (behind-in a.out.now a.at a.s.now (omega arith)) }
+pub returns-then-out-at-2-clause-output : goal.returns-then-out-at-2-clause-output
+returns-then-out-at-2-clause-output c = sym (put-not _ _ _ (omega arith))
+
+pub returns-then-out-at-2-clause-answer : goal.returns-then-out-at-2-clause-answer
+returns-then-out-at-2-clause-answer c = sym (behind-not _ _ _ (omega arith))
+
+pub returns-clause-output : goal.returns-clause-output
+returns-clause-output c =
+    let out = c.args.out.now in
+    let at = c.args.at in
+    let s = c.args.s.now in
+    let end = at + length s in
+    ap (λ t. take at out ++ (t ++ post_of at (end - at) out)) c.copy_from_slice.ensures.after
+    ∙ sym (append_assoc (take at out) s _)
+    ∙ ap (λ t. take at out ++ s ++ t) (Post-is at end out (omega arith))
+    ∙ sym (put-in out at s (omega arith))
+
+pub returns-clause-answer : goal.returns-clause-answer
+returns-clause-answer c = sym (behind-in _ _ _ (omega arith))

@@ -21,17 +21,8 @@ use Rattle.report_prepared.specs.Private.{Between, CountBetween, Serves, count_i
 use Rattle.report_points.proofs.prepared.count_at.Goals as goal
 
 -- by the message
-pub returns-then-north-p : goal.returns-then-north-p
-returns-then-north-p c = c.count_at.ensures ∙ (λ i. counted_by c.args.message.now c.args.kept c.args.component (is-back c.ranges.north i) (is-back c.ranges.east i))
-
-pub returns-then-p-north : goal.returns-then-p-north
-returns-then-p-north c = c.count_at-then-p-north.ensures ∙ (λ i. counted_by c.args.message.now c.args.kept c.args.component (is-back c.ranges.north i) (is-back c.ranges.east i))
-
-pub returns-then-east-p : goal.returns-then-east-p
-returns-then-east-p c = c.count_at-then-east-p.ensures ∙ (λ i. counted_by c.args.message.now c.args.kept c.args.component (is-back c.ranges.north i) (is-back c.ranges.east i))
-
-pub returns-then-p-east : goal.returns-then-p-east
-returns-then-p-east c = c.count_at-then-p-east.ensures ∙ (λ i. counted_by c.args.message.now c.args.kept c.args.component (is-back c.ranges.north i) (is-back c.ranges.east i))
+pub returns-then-not-is_between : goal.returns-then-not-is_between
+returns-then-not-is_between c = c.count_at.ensures ∙ (λ i. counted_by c.args.message.now c.args.kept c.args.component (is-back c.ranges.north i) (is-back c.ranges.east i))
 
 -- by the numbers
 from_zero : (a b : ℤ) → a ≤ℤ b → lt_z (b -ℤ a) (pos 0) ≡ false
@@ -39,15 +30,7 @@ from_zero a b h =
     subst (λ (z : ℤ). lt_z z (pos 0) ≡ false) (sym (abs-above (order (nat 0) (at b ⊟ at a) (omega (arith, known (at a) (at b) h)))))
     (le-ltb (nat_abs (b -ℤ a)) 0 (omega arith))
 
--- a test in the code that was false
-abbrev Fails : ℤ → ℤ → Type 0
-Fails a b = lt_z (to_z w64 (of_z w64 a)) (to_z w64 (of_z w64 b)) ≡ false
-
--- the edges are numbers of 64 bits
-abbrev Edges : Prepared → Type 0
-Edges p = (mag p.south < 2 ^ 63) × (mag p.north < 2 ^ 63) × (mag p.west < 2 ^ 63) × (mag p.east < 2 ^ 63)
-
--- what is known once the four tests were false
+-- what is known on or between the edges
 record Served (s : List ℕ) (kept : Kept) (k : ℕ) (p : Prepared) (nodes : List ℤ) (n e : ℤ) : Type 0 where
   north : SFits w64 n
   east : SFits w64 e
@@ -56,18 +39,11 @@ record Served (s : List ℕ) (kept : Kept) (k : ℕ) (p : Prepared) (nodes : Lis
   between : Between p n e
   is : CountBetween s kept k p nodes n e
 
-served : {s : List ℕ} {kept : Kept} {k : ℕ} {nodes : List ℤ} {n e : ℤ} (p : Prepared) → Edges p → SFits w64 n → SFits w64 e
-    → Fails n p.south → Fails p.north n → Fails e p.west → Fails p.east e → Serves s kept k p nodes → Served s kept k p nodes n e
-served {n = n} {e = e} p edges north east not-south not-north not-west not-east serves =
-    let fs : SFits w64 p.south = record { sfits = edges.0 } in
-    let fw : SFits w64 p.west = record { sfits = edges.2 } in
-    let between : Between p n e = record {
-      south = not-less (any n north) (any p.south fs) not-south;
-      north = not-less (any p.north (record { sfits = edges.1 })) (any n north) not-north;
-      west = not-less (any e east) (any p.west fw) not-west;
-      east = not-less (any p.east (record { sfits = edges.3 })) (any e east) not-east;
-    } in
-    record { north = north; east = east; south = fs; west = fw; between = between; is = serves n e between }
+served : {s : List ℕ} {kept : Kept} {k : ℕ} {nodes : List ℤ} {n e : ℤ} (p : Prepared) → (mag p.south < 2 ^ 63) × (mag p.west < 2 ^ 63) → SFits w64 n → SFits w64 e
+    → Between p (to_z w64 (of_z w64 n)) (to_z w64 (of_z w64 e)) → Serves s kept k p nodes → Served s kept k p nodes n e
+served {n = n} {e = e} p edges north east between serves =
+    let b : Between p n e = subst (λ (z : ℤ × ℤ). Between p z.0 z.1) (λ i. (is-back north i, is-back east i)) between in
+    record { north = north; east = east; south = record { sfits = edges.0 }; west = record { sfits = edges.1 }; between = b; is = serves n e b }
 
 -- the steps from the southern and from the western edge
 module _ {s : List ℕ} {kept : Kept} {k : ℕ} {p : Prepared} {nodes : List ℤ} {n e : ℤ} (d : Served s kept k p nodes n e) where
@@ -79,30 +55,30 @@ module _ {s : List ℕ} {kept : Kept} {k : ℕ} {p : Prepared} {nodes : List ℤ
 
 pub overflow_cast-y : goal.overflow_cast-y
 overflow_cast-y c =
-    let d = served c.args.p (omega arith) c.ranges.north c.ranges.east c.if-north-p.false c.if-p-north.false c.if-east-p.false c.if-p-east.false c.requires in
+    let d = served c.args.p (omega arith) c.ranges.north c.ranges.east (c.is_between.ensures c.if-not-is_between.false) c.requires in
     let e = cast-natural (y-of d).z (y-of d).fit.sfits (from_zero c.args.p.south c.args.north d.between.south) in
     rw (y-of d).held (e.0, record { fits = e.1 })
 
 pub overflow_cast-x : goal.overflow_cast-x
 overflow_cast-x c =
-    let d = served c.args.p (omega arith) c.ranges.north c.ranges.east c.if-north-p.false c.if-p-north.false c.if-east-p.false c.if-p-east.false c.requires in
+    let d = served c.args.p (omega arith) c.ranges.north c.ranges.east (c.is_between.ensures c.if-not-is_between.false) c.requires in
     let e = cast-natural (x-of d).z (x-of d).fit.sfits (from_zero c.args.p.west c.args.east d.between.west) in
     rw (x-of d).held (e.0, record { fits = e.1 })
 
 pub count_in-requires : goal.count_in-requires
 count_in-requires c =
-    let d = served c.args.p (omega arith) c.ranges.north c.ranges.east c.if-north-p.false c.if-p-north.false c.if-east-p.false c.if-p-east.false c.requires in
+    let d = served c.args.p (omega arith) c.ranges.north c.ranges.east (c.is_between.ensures c.if-not-is_between.false) c.requires in
     (d.is.high.0, d.is.high.1, d.is.wide.0, d.is.wide.1)
 
 pub returns : goal.returns
 returns c =
     let p : Prepared = c.args.p in
-    let d = served c.args.p (omega arith) c.ranges.north c.ranges.east c.if-north-p.false c.if-p-north.false c.if-east-p.false c.if-p-east.false c.requires in
+    let d = served c.args.p (omega arith) c.ranges.north c.ranges.east (c.is_between.ensures c.if-not-is_between.false) c.requires in
     (λ i. record { refusal = 0; count = (held c.count_in.result c.count_in.type_inv ∙ c.count_in.ensures ∙ (λ j. count_in p c.args.nodes.now (nat_abs ((y-of d).held j)) (nat_abs ((x-of d).held j)))) i })
     ∙ sym d.is.count
 
 pub overflow_sub-y : goal.overflow_sub-y
-overflow_sub-y c = fits (y-of (served c.args.p (omega arith) c.ranges.north c.ranges.east c.if-north-p.false c.if-p-north.false c.if-east-p.false c.if-p-east.false c.requires))
+overflow_sub-y c = fits (y-of (served c.args.p (omega arith) c.ranges.north c.ranges.east (c.is_between.ensures c.if-not-is_between.false) c.requires))
 
 pub overflow_sub-x : goal.overflow_sub-x
-overflow_sub-x c = fits (x-of (served c.args.p (omega arith) c.ranges.north c.ranges.east c.if-north-p.false c.if-p-north.false c.if-east-p.false c.if-p-east.false c.requires))
+overflow_sub-x c = fits (x-of (served c.args.p (omega arith) c.ranges.north c.ranges.east (c.is_between.ensures c.if-not-is_between.false) c.requires))

@@ -1,6 +1,0 @@
--- The measure is the number of numbers that are left.
-use Rattle.std.proofs.Common.{◌-◌}
-use Rattle.cases.proofs.tallies.put_refused.Given as goal
-
-abbrev pub decreases-loop-k : goal.decreases-loop-k
-decreases-loop-k l = 15 - l.k

@@ -1,9 +1,0 @@
--- `layout_tables::taken_1024` meets its contract: the table equals its layout by computation.
--- Assumes nothing.
-use borrow.Author.Rules.{rules}
-use Rattle.layout_tables.specs.Layouts.{layout1024}
-use Rattle.layout_tables.proofs.taken_1024.Goals as goal
-
-pub returns : goal.returns
-unfolding layout1024
-returns c = c.row_taken.ensures

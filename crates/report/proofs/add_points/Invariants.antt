@@ -1,5 +1,0 @@
--- The measure is the number of lines that may still be read.
-use Rattle.report.proofs.add_points.Given as goal
-
-abbrev pub decreases-loop-rounds : goal.decreases-loop-rounds
-decreases-loop-rounds g l = l.rounds
