@@ -1,13 +1,10 @@
 -- Bounds of weights, of the weighted sum and of its parts, and the nearest whole number by quotient and rest.
 -- Assumes nothing.
-use mathlib.Core.Path.{◌≡◌, sym, ap, ◌∙◌, subst}
-use Prim.Native.Nat.{ℕ, ◌+◌, ◌*◌, ◌-◌, ◌/◌, ◌≤◌, ◌<◌}
-use native.Mathlib.Nat.{mul-le-mul, mul-le-mul_left, le_trans, mul-pos, div-eq_of_lt-le}
+use mathlib.Core.Path.{◌≡◌, refl, sym, ap, ◌∙◌, subst}
+use Prim.Native.Nat.{ℕ, ◌+◌, ◌*◌, ◌-◌, ◌/◌, ◌%◌, ◌≤◌, ◌<◌}
+use native.Mathlib.Nat.{mul-le-mul, mul-le-mul_left, le_trans, mul-pos, mod-lt, div-add-mod', div-eq_of_lt-le}
 use native.Mathlib.Omega.{arith}
-use Rattle.std.proofs.Common.{zero, suc, min}
-use Rattle.std.specs.Int.{int_signum}
-use Rattle.std.proofs.lemmas.Int.{ints}
-use lib.Signed.{quot_z}
+use borrow.Author.Tests.{le-ltb}
 use lib.IntN.{ℤ, pos, negsuc, neg_ℤ, nat_abs, ◌+ℤ◌, ◌*ℤ◌}
 use Rattle.arith.proofs.Int.{abs-add, abs-mul}
 use Rattle.arith.proofs.Machine.{Num, arg, cast, mul, add, add-within}
@@ -16,7 +13,7 @@ use mir.Val.{Fits, to_z, of_z}
 use Rattle.grid_bilinear.specs.Bilinear.{nearest_whole}
 use Rattle.grid_bilinear.proofs.Bounds.{weighted-bound, nearest-bound}
 use Rattle.grid_cell.specs.Inner.{weights_of, area_of, sum_by, sum_of}
-use Rattle.grid_cell.specs.Private.{Within, Weighed, Most}
+use Rattle.grid_cell.specs.Private.{Within, Weighed, Most, with_sign}
 use Rattle.grid_cell.specs.declared.Corners.{Corners}
 use Rattle.grid_cell.specs.declared.Weights.{Weights}
 
@@ -151,18 +148,21 @@ module _ {h w y x : ℕ} (p : Within h w y x) where
         most = subst (λ (a : ℕ). a ≤ 1676902500000000) (sym whole) area-most;
       }
 
--- ---- the nearest whole number, by a division toward zero
+-- ---- the nearest whole number, by its sign and its size
 
-pub signum-most : (s : ℤ) → nat_abs (int_signum s) ≤ 1
-signum-most (pos n) = omega arith
-signum-most (negsuc n) = omega arith
-
-pub nearest-quot : (s : ℤ) (d : ℕ) → 0 < d → quot_z (pos 2 *ℤ s +ℤ int_signum s *ℤ pos d) (pos 2 *ℤ pos d) ≡ nearest_whole s d
+pub nearest-size : (s : ℤ) (d : ℕ) → nearest_whole s d ≡ with_sign s ((2 * nat_abs s + d) / (2 * d))
 unfolding nearest_whole
-nearest-quot (pos zero) d h = ap pos (sym (div-eq_of_lt-le (2 * d) (omega arith) (omega arith)))
-nearest-quot (pos (suc n)) d h =
-    let e : min (suc n) 1 ≡ 1 = omega arith in
-    rw e (ap (λ (m : ℕ). pos (m / (2 * d))) (omega arith))
-nearest-quot (negsuc n) d h =
-    let e : pos 2 *ℤ negsuc n +ℤ negsuc 0 *ℤ pos d ≡ negsuc (2 * n + 1 + d) = omega (arith, ints) in
-    rw e (ap (λ (m : ℕ). neg_ℤ (pos (m / (2 * d)))) (omega arith))
+nearest-size (pos n) d = rw (le-ltb n 0 (omega arith))
+nearest-size (negsuc n) d = refl
+
+module _ (s d : ℕ) (h : 0 < d) where
+  parts : s / d * d + s % d ≡ s
+  parts = div-add-mod' s d
+
+  -- a rest of half an area or more
+  pub half_up_lem : d ≤ 2 * (s % d) → (2 * s + d) / (2 * d) ≡ s / d + 1
+  half_up_lem l = div-eq_of_lt-le (2 * d) (omega (arith, parts)) (omega (arith, parts, mod-lt s h))
+
+  -- a smaller one
+  pub half_down : 2 * (s % d) < d → (2 * s + d) / (2 * d) ≡ s / d
+  half_down l = div-eq_of_lt-le (2 * d) (omega (arith, parts)) (omega (arith, parts))

@@ -4,7 +4,7 @@
 ghost use Rattle.std.specs.Prelude.{◌≡◌, cond, ◌+◌, ◌*◌, ◌/◌, ◌≤◌, ◌<◌, ◌^◌, pos, nat_abs, ◌+ℤ◌};
 ghost use Rattle.grid_bilinear.specs.Bilinear.{nearest_whole};
 ghost use Rattle.grid_cell.specs.Inner.{weights_of, weights_in, area_of, weighted_by, sum_by, sum_of, place_held, nodes_held, sum_held, sum_in, weights_held, in_bounds, count_by};
-ghost use Rattle.grid_cell.specs.Private.{Within, Weighed, Most};
+ghost use Rattle.grid_cell.specs.Private.{Within, Weighed, Most, with_sign};
 
 // The raw nodes of a cell.
 #[derive(Clone, Copy)]
@@ -48,15 +48,39 @@ fn weighted_sum(k: Weights, n: Corners) -> i64
     k.sw as i64 * n.sw + k.se as i64 * n.se + k.nw as i64 * n.nw + k.ne as i64 * n.ne
 }
 
-// The whole number nearest to sum / area. The division goes toward zero, so half an area with the sign of the sum makes halves go away from it.
+// n, or its opposite where z is negative.
+fn with_sign(z: i64, n: u64) -> i64
+    requires { n ≤ 4611686018427387904 }
+    ensures { result ≡ with_sign z n }
+{
+    if z < 0 {
+        return 0 - n as i64;
+    }
+    n as i64
+}
+
+// The whole number nearest to size / area: half an area or more counts as a whole one.
+fn rounded(size: u64, area: u64) -> u64
+    requires { (size ≤ 2560 * 1676902500000000) × (0 < area) × (area ≤ 1676902500000000) }
+    ensures { (result ≡ (2 * size + area) / (2 * area)) × (result ≤ 4611686018427387904) }
+{
+    let whole = size / area;
+    let rest = size % area;
+    if area <= 2 * rest {
+        return whole + 1;
+    }
+    whole
+}
+
+// The whole number nearest to sum / area. The sign is set apart: so halves go away from zero. Request A4 asks for this form.
 fn nearest_to(sum: i64, area: u64) -> i64
     requires size { nat_abs sum ≤ 2560 * 1676902500000000 }
     requires some { 0 < area }
     requires light { area ≤ 1676902500000000 }
     ensures { result ≡ nearest_whole sum area }
 {
-    let d = area as i64;
-    (2 * sum + sum.signum() * d) / (2 * d)
+    let size = field::magnitude(sum);
+    with_sign(sum, rounded(size, area))
 }
 
 // The weighted sum of a cell's raw nodes, in counts times the cell's area.
