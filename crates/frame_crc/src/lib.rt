@@ -1,7 +1,7 @@
 // CRC-24Q of bytes, four bytes a step.
 #![tactic(auto)]
 
-ghost use Rattle.std.specs.Prelude.{◌≡◌, ◌<◌, ◌^◌};
+ghost use Rattle.std.specs.Prelude.{◌≡◌, ◌<◌, ◌^◌, ◌++◌};
 ghost use Rattle.frame_crc.specs.Crc.{crc_bits, crc_byte, crc_from, crc};
 ghost use Rattle.frame_crc.specs.Private.{parts};
 
@@ -69,13 +69,13 @@ fn crc_end(table: &[u32; 128], start: u32, s: &[u8]) -> u32
     c
 }
 
-// The CRC of s by the table, which stands outside the loop so that it is not made anew at each round.
-fn crc_by(table: &[u32; 128], s: &[u8]) -> u32
-    requires { table.now ≡ parts }
-    ensures { result ≡ crc s.now }
+// The remainder after the bytes of s by the table, which stands outside the loop so that it is not made anew at each round.
+fn crc_by(table: &[u32; 128], start: u32, s: &[u8]) -> u32
+    requires { (table.now ≡ parts) × (start < 2 ^ 24) }
+    ensures { result ≡ crc_from start s.now }
 {
     let (words, end) = s.as_chunks::<4>();
-    let mut c: u32 = 0;
+    let mut c = start;
     for word in words {
         c = crc_four(table, c, word);
     }
@@ -86,5 +86,13 @@ fn crc_by(table: &[u32; 128], s: &[u8]) -> u32
 pub fn crc_of(s: &[u8]) -> u32
     ensures { result ≡ crc s.now }
 {
-    crc_by(&PARTS, s)
+    crc_by(&PARTS, 0, s)
+}
+
+// The CRC of the bytes of a and those of b behind them.
+pub fn crc_of_both(a: &[u8], b: &[u8]) -> u32
+    ensures { result ≡ crc (a.now ++ b.now) }
+{
+    let c = crc_by(&PARTS, 0, a);
+    crc_by(&PARTS, c, b)
 }

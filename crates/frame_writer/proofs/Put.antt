@@ -1,7 +1,7 @@
 -- Lists in which the first bytes are replaced by a frame's.
 -- Assumes nothing.
-use Prim.Native.Nat.{ℕ, ◌+◌, ◌-◌, ◌≤◌, ◌<◌}
-use mathlib.Core.List.{List, ◌++◌, append_assoc, append-nil}
+use Prim.Native.Nat.{ℕ, ◌+◌, ◌-◌, ◌/◌, ◌%◌, ◌≤◌, ◌<◌}
+use mathlib.Core.List.{List, [], ◌∷◌, ◌++◌, append_assoc, append-nil}
 use mathlib.Core.Path.{◌≡◌, sym, ap, ap₂, ◌∙◌}
 use native.Mathlib.Nat.{add_comm}
 use native.Mathlib.Omega.{arith}
@@ -9,7 +9,8 @@ use lib.ListN.{length, take, drop, length-drop, length-append}
 use lib.Seq.{take_at, drop_at, drop-append-add, drop-drop, drop-length}
 use borrow.Author.Tests.{lt-ltb, le-ltb}
 use borrow.Rule.Slice.PartMut.{put_mid, Post-is}
-use Rattle.frame_crc.specs.Crc.{crc}
+use Rattle.frame_crc.specs.Crc.{crc_from, crc}
+use Rattle.frame_crc.proofs.Linear.{low}
 use Rattle.frame.specs.Frames.{head, three, headed, frame}
 use Rattle.frame.proofs.At.{rest}
 use Rattle.frame.proofs.Lengths.{length-headed}
@@ -29,9 +30,14 @@ module _ (m out t z : List ℕ) (first : t ≡ head (length m) ++ drop 3 out) (t
           ∙ ap (λ (k : ℕ). drop k (head (length m) ++ drop 3 out)) (add_comm (length m) 3)
           ∙ drop-append-add (head (length m)) (drop 3 out) (length m) ∙ drop-drop (length m) 3 out ∙ ap (λ (k : ℕ). drop k out) (add_comm 3 (length m))
 
+-- a zero byte before the head leaves the CRC as it is
+pub crc-headed : (m : List ℕ) (z a b c : ℕ) → z ≡ 0 → a ≡ 211 → b ≡ length m / 256 → c ≡ length m % 256 → crc ((z ∷ a ∷ b ∷ c ∷ []) ++ m) ≡ crc (headed m)
+unfolding crc_from crc headed head
+crc-headed m z a b c p q r s = rw (p, q, r, s) (ap (λ (n : ℕ). crc_from n (head (length m) ++ m)) (low 0 (omega arith)))
+
 -- head and message, then the CRC
 module _ (m out t : List ℕ) (room : length m + 6 ≤ length out) (first : t ≡ headed m ++ drop (length m + 3) out) where
-  pub taken : take (length m + 3) t ≡ headed m
+  taken : take (length m + 3) t ≡ headed m
   taken = ap (take (length m + 3)) first ∙ take_at (headed m) (drop (length m + 3) out) (length m + 3) (length-headed m)
 
   left : drop (length m + 3) t ≡ drop (length m + 3) out
@@ -43,13 +49,13 @@ module _ (m out t : List ℕ) (room : length m + 6 ≤ length out) (first : t �
   pub crc-place : 3 ≤ length (take (length t - (length m + 3)) (drop (length m + 3) t))
   crc-place = rw (rest t (length m + 3)) (simp length-drop (omega (arith, long)))
 
-  pub frame-put : (c : ℕ) (z : List ℕ) → c ≡ crc (take (length m + 3) t)
+  pub frame-put : (c : ℕ) (z : List ℕ) → c ≡ crc (headed m)
       → z ≡ three c ++ drop 3 (take (length t - (length m + 3)) (drop (length m + 3) t))
       → put_mid (length m + 3) (length t - (length m + 3)) t z ≡ frame m ++ drop (length m + 6) out
   unfolding frame
   frame-put c z x y =
       ap₂ (λ (p q : List ℕ). p ++ (z ++ q)) taken (Post-is (length m + 3) (length t) t (omega (arith, long)) ∙ drop-length t)
-      ∙ ap (λ (p : List ℕ). headed m ++ p) (append-nil z ∙ y ∙ ap₂ (λ (p q : List ℕ). p ++ q) (ap three (x ∙ ap crc taken)) tail)
+      ∙ ap (λ (p : List ℕ). headed m ++ p) (append-nil z ∙ y ∙ ap₂ (λ (p q : List ℕ). p ++ q) (ap three x) tail)
       ∙ sym (append_assoc (headed m) (three (crc (headed m))) (drop (length m + 6) out))
     where
       e : length m + 3 + 3 ≡ length m + 6

@@ -3,6 +3,7 @@
 
 ghost use Rattle.std.specs.Prelude.{◌≡◌, ◌+◌, ◌≤◌, ◌<◌, ◌^◌, ◌∷◌, ◌++◌, length, drop};
 ghost use Rattle.layout.specs.Layout.{as_written, answered, stored};
+ghost use Rattle.frame_crc.specs.Crc.{crc};
 ghost use Rattle.frame.specs.Frames.{head, three, headed, frame};
 ghost use Rattle.frame_writer.specs.Refusals.{frame_refusal};
 
@@ -37,6 +38,16 @@ fn put_headed(m: &[u8], out: &mut [u8])
     out[3..e].copy_from_slice(m);
 }
 
+// The CRC of head and message, of the message itself and not of the bytes just written, since a word of these would wait for them.
+fn crc_of_headed(m: &[u8]) -> u32
+    requires { length m.now ≤ 1023 }
+    ensures { result ≡ crc (headed m.now) }
+{
+    // The head stands in the low three bytes; a zero byte before it leaves the CRC as it is.
+    let head = 0xd30000 + m.len() as u32;
+    frame_crc::crc_of_both(&head.to_be_bytes(), m)
+}
+
 // The frame of m in the first bytes of out.
 fn put_frame(m: &[u8], out: &mut [u8])
     requires { (length m.now ≤ 1023) × (length m.now + 6 ≤ length out.old) }
@@ -44,8 +55,7 @@ fn put_frame(m: &[u8], out: &mut [u8])
 {
     put_headed(m, out);
     let e = m.len() + 3;
-    let c = frame_crc::crc_of(&out[..e]);
-    put_crc(&mut out[e..], c);
+    put_crc(&mut out[e..], crc_of_headed(m));
 }
 
 // The frame of a message in the first bytes of out, or LENGTH, ROOM.

@@ -7,12 +7,15 @@
 use line_reads::Lines;
 use report_update::Tally;
 use std::io;
-use std::io::{Read, Write};
+use std::io::{Cursor, Read, Write};
 
 type Message = [u8; 400];
 
 // The longest line.
 const LONGEST: usize = 900;
+
+// 21 numbers of at most 20 bytes, with a newline each.
+const LONGEST_ANSWER: usize = 441;
 
 // More lines than any list of points has.
 const LINES: usize = 1099511627776;
@@ -46,10 +49,10 @@ fn answer(
     message: &mut Message,
 ) -> io::Result<()> {
     let Some(n) = message_of(reader, lines, message)? else {
-        return put_bad(writer, 1);
+        return put_outcome(writer, Outcome::BadLine(1));
     };
     let Some(component) = component_of(reader, lines)? else {
-        return put_bad(writer, 2);
+        return put_outcome(writer, Outcome::BadLine(2));
     };
     let outcome = add_points(reader, lines, text_words::before(message, n), component)?;
     put_outcome(writer, outcome)
@@ -160,26 +163,30 @@ fn with_point(state: State, message: &[u8], component: u8, north: i64, east: i64
     }
 }
 
-fn put_bad(writer: &mut impl Write, number: usize) -> io::Result<()> {
-    writeln!(writer, "bad input: line {number}")
+// The whole answer in one write, so that a reader gets all of it or nothing.
+fn put_outcome(writer: &mut impl Write, outcome: Outcome) -> io::Result<()> {
+    let mut out = Cursor::new([0u8; LONGEST_ANSWER]);
+    put_lines(&mut out, outcome)?;
+    let length = out.position() as usize;
+    writer.write_all(text_words::before(out.get_ref(), length))
 }
 
 // The bad line, the refusal, or the numbers.
-fn put_outcome(writer: &mut impl Write, outcome: Outcome) -> io::Result<()> {
+fn put_lines(out: &mut impl Write, outcome: Outcome) -> io::Result<()> {
     match outcome {
-        Outcome::BadLine(number) => put_bad(writer, number),
-        Outcome::Counted(tally, 0) => put_numbers(writer, tally),
-        Outcome::Counted(_, refusal) => writeln!(writer, "refused {refusal}"),
+        Outcome::BadLine(number) => writeln!(out, "bad input: line {number}"),
+        Outcome::Counted(tally, 0) => put_numbers(out, tally),
+        Outcome::Counted(_, refusal) => writeln!(out, "refused {refusal}"),
     }
 }
 
 // Each number on a line.
-fn put_numbers(writer: &mut impl Write, t: Tally) -> io::Result<()> {
-    writeln!(writer, "{}", t.answered)?;
+fn put_numbers(out: &mut impl Write, t: Tally) -> io::Result<()> {
+    writeln!(out, "{}", t.answered)?;
     for n in t.refused {
-        writeln!(writer, "{n}")?;
+        writeln!(out, "{n}")?;
     }
-    writeln!(writer, "{}\n{}", t.smallest, t.greatest)?;
-    writeln!(writer, "{}\n{}", t.smallest_place, t.greatest_place)?;
-    writeln!(writer, "{}", t.sum)
+    writeln!(out, "{}\n{}", t.smallest, t.greatest)?;
+    writeln!(out, "{}\n{}", t.smallest_place, t.greatest_place)?;
+    writeln!(out, "{}", t.sum)
 }

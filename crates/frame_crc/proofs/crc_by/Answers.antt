@@ -1,16 +1,14 @@
--- `frame_crc::crc_by` meets its contract: what is left of the bytes takes the remainder so far to the CRC.
+-- `frame_crc::crc_by` meets its contract: what is left of the bytes takes the remainder so far to the last.
 -- Assumes nothing.
 use mathlib.Core.Path.{◌≡◌, refl, ◌∙◌}
 use Prim.Native.Nat.{◌/◌}
 use native.Mathlib.Omega.{arith}
 use lib.ListN.{length}
-use Rattle.frame_crc.specs.Crc.{crc}
 use Rattle.frame_crc.proofs.Linear.{from-lt, round-chunk}
 use Rattle.frame_crc.proofs.crc_by.Goals as goal
 
 pub loop-word-init : goal.loop-word-init
-unfolding crc
-loop-word-init c = (omega arith, refl)
+loop-word-init c = (c.requires.1, refl)
 
 pub loop-word-preserved : goal.loop-word-preserved
 loop-word-preserved c = let l = c.loop-word in
