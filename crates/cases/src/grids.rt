@@ -87,7 +87,7 @@ fn put_grid_fields(r: Grid, out: &mut Out, at: usize) -> usize {
 
 // REFUSAL : FIELDS of the record that the reader of 1023 and 1024 gives.
 pub(crate) fn put_grid(s: &[u8], out: &mut Out, at: usize) -> usize {
-    let (refusal, r) = super::records::given::<Grid>(s);
+    let (refusal, r) = message_records::read_or_zero::<Grid>(s);
     let to = super::fields::put_refusal(refusal, out, at);
     put_grid_fields(r, out, to)
 }

@@ -47,21 +47,21 @@ fn put_oblique_mercator_fields(r: ObliqueMercator, out: &mut Out, at: usize) -> 
 
 // REFUSAL : FIELDS of the record that the reader of 1025 gives.
 pub(crate) fn put_projection(s: &[u8], out: &mut Out, at: usize) -> usize {
-    let (refusal, r) = super::records::given::<Projection>(s);
+    let (refusal, r) = message_records::read_or_zero::<Projection>(s);
     let to = super::fields::put_refusal(refusal, out, at);
     put_projection_fields(r, out, to)
 }
 
 // The same of 1026.
 pub(crate) fn put_lambert(s: &[u8], out: &mut Out, at: usize) -> usize {
-    let (refusal, r) = super::records::given::<Lambert>(s);
+    let (refusal, r) = message_records::read_or_zero::<Lambert>(s);
     let to = super::fields::put_refusal(refusal, out, at);
     put_lambert_fields(r, out, to)
 }
 
 // The same of 1027.
 pub(crate) fn put_oblique_mercator(s: &[u8], out: &mut Out, at: usize) -> usize {
-    let (refusal, r) = super::records::given::<ObliqueMercator>(s);
+    let (refusal, r) = message_records::read_or_zero::<ObliqueMercator>(s);
     let to = super::fields::put_refusal(refusal, out, at);
     put_oblique_mercator_fields(r, out, to)
 }

@@ -1,15 +1,5 @@
 // `NAME record KIND HEX`: each field of the record that a kind's reader gives, by its DF number.
 use super::output::Out;
-use arith::refusals::number_of;
-use message_records::Record;
-
-// What a kind's reader gives: the refusal number, 0 for none, and the record, which is all zero with a refusal.
-pub(crate) fn given<R: Record>(s: &[u8]) -> (u8, R) {
-    match message_records::read_record::<R>(s) {
-        Ok(r) => (0, r),
-        Err(refusal) => (number_of(refusal), R::of_row(&[0; 96], &[1; 96])),
-    }
-}
 
 pub(crate) fn answer(given: &[u8], out: &mut Out, at: usize) -> usize {
     let Some(kind) = text_numerals::natural(text_words::word(given)) else {

@@ -154,11 +154,11 @@ fn write(kind: usize, side: usize, c: Change, s: &[u8], buffer: &mut [u8]) -> Wr
 }
 
 fn write_helmert(side: usize, c: Change, s: &[u8], buffer: &mut [u8]) -> Written {
-    let (_, r) = super::records::given::<Helmert>(s);
+    let (_, r) = message_records::read_or_zero::<Helmert>(s);
     Written::from(message_records::write_record(helmert_with(r, side, c), buffer))
 }
 
 fn write_molodenski_badekas(side: usize, c: Change, s: &[u8], buffer: &mut [u8]) -> Written {
-    let (_, r) = super::records::given::<MolodenskiBadekas>(s);
+    let (_, r) = message_records::read_or_zero::<MolodenskiBadekas>(s);
     Written::from(message_records::write_record(molodenski_badekas_with(r, side, c), buffer))
 }

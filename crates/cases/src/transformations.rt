@@ -89,14 +89,14 @@ fn put_molodenski_badekas_fields(r: MolodenskiBadekas, out: &mut Out, at: usize)
 
 // REFUSAL : FIELDS of the record that the reader of 1021 gives.
 pub(crate) fn put_helmert(s: &[u8], out: &mut Out, at: usize) -> usize {
-    let (refusal, r) = super::records::given::<Helmert>(s);
+    let (refusal, r) = message_records::read_or_zero::<Helmert>(s);
     let to = super::fields::put_refusal(refusal, out, at);
     put_helmert_fields(r, out, to)
 }
 
 // The same of 1022.
 pub(crate) fn put_molodenski_badekas(s: &[u8], out: &mut Out, at: usize) -> usize {
-    let (refusal, r) = super::records::given::<MolodenskiBadekas>(s);
+    let (refusal, r) = message_records::read_or_zero::<MolodenskiBadekas>(s);
     let to = super::fields::put_refusal(refusal, out, at);
     put_molodenski_badekas_fields(r, out, to)
 }

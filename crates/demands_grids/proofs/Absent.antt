@@ -1,4 +1,4 @@
--- "Not available is not a number" holds: each statement of specs/None.antt, from the laws of layouts, of message rows and of the orders of refusals.
+-- "Not available is not a number" holds: each statement of specs/Absent.antt, from the laws of layouts, of message rows and of the orders of refusals.
 -- Assumes nothing.
 use Rattle.std.proofs.Common.{Option, Some, None}
 use Prim.Native.Nat.{ℕ, zero, suc, ◌+◌, ◌-◌, ◌*◌, ◌/◌, ◌^◌, ◌<◌}

@@ -6,6 +6,7 @@ use native.Mathlib.Omega.{arith}
 use mathlib.Core.Path.{◌≡◌, refl, sym, ap, ◌∙◌}
 use mathlib.Core.Bool.{Bool, true, false}
 use mathlib.Core.List.{List, [], ◌∷◌}
+use borrow.Author.Tests.{ne_eqb}
 use lib.IntN.{ℤ, pos}
 use lib.ListN.{length, take, replicate}
 use lib.Seq.{take-append_seam}
@@ -14,6 +15,7 @@ use Rattle.layout.specs.Layout.{row_of, answered, stored}
 use Rattle.std.specs.Prelude.{unwrap_or, Some, None}
 use Rattle.record_rows.specs.declared.Row.{Row}
 use Rattle.record_rows.specs.Numbers.{says, values_of, present_of}
+use Rattle.record_rows.proofs.Rows.{says-filled}
 use Rattle.record_rows.specs.Inner.{present_padded, buffers, numbers}
 use Rattle.message_rows.specs.Message.{values_read, present_read, kind_refusal, kind_row, kind_write_refusal, write_kind}
 use Rattle.message_records.specs.Kinds.{write_record}
@@ -31,6 +33,12 @@ pub read-record : {A : Type 0} (lo hi : ℕ) (s : List ℕ) (f : (ℕ → Option
     → b ≡ present_read (kind_room_refusal lo hi s 96 96) s (replicate 96 1)
     → f (says (row_of z b)) ≡ f (says (kind_row lo hi s))
 read-record lo hi s f p q = (λ i. f (says (row_of (p i) (q i)))) ∙ (λ i. f (λ k. kind-says lo hi s k i))
+
+-- buffers of 96 values 0 that are present say the row of a refused message, whatever record is made of it
+pub refused-record : {A : Type 0} (lo hi : ℕ) (s : List ℕ) (f : (ℕ → Option ℤ) → A) → (kind_refusal lo hi s ≡ 0 → ⊥)
+    → f (says (row_of (replicate 96 (pos 0)) (replicate 96 1))) ≡ f (says (kind_row lo hi s))
+unfolding kind_row
+refused-record lo hi s f e = rw (ne_eqb (kind_refusal lo hi s) 0 e) (λ i. f (λ k. says-filled [] 96 96 k i))
 
 -- ---- writing
 

@@ -9,9 +9,15 @@ ghost use Rattle.record_rows.specs.Inner.{numbers};
 ghost use Rattle.record_transformations.specs.Transformations.{helmert_of, helmert_row, molodenski_badekas_of, molodenski_badekas_row};
 ghost use Rattle.record_grids.specs.Grids.{grid_of, grid_row};
 ghost use Rattle.record_projections.specs.Projections.{projection_of, projection_row, lambert_of, lambert_row, oblique_mercator_of, oblique_mercator_row};
-ghost use Rattle.message_records.specs.Kinds.{good_names, grid_held, read_record, write_record};
+ghost use Rattle.record_transformations.specs.declared.Helmert.{Helmert};
+ghost use Rattle.record_transformations.specs.declared.MolodenskiBadekas.{MolodenskiBadekas};
+ghost use Rattle.record_grids.specs.declared.Grid.{Grid};
+ghost use Rattle.record_projections.specs.declared.Projection.{Projection};
+ghost use Rattle.record_projections.specs.declared.Lambert.{Lambert};
+ghost use Rattle.record_projections.specs.declared.ObliqueMercator.{ObliqueMercator};
+ghost use Rattle.message_records.specs.Kinds.{good_names, grid_held, read_record, write_record, read_helmert, read_molodenski_badekas, read_grid, read_projection, read_lambert, read_oblique_mercator, write_helmert, write_molodenski_badekas, write_grid, write_projection, write_lambert, write_oblique_mercator};
 
-use arith::refusals::Refusal;
+use arith::refusals::{Refusal, number_of};
 use record_grids::Grid;
 use record_projections::{Lambert, ObliqueMercator, Projection};
 use record_rows::Row;
@@ -200,6 +206,17 @@ pub fn read_record<R: Record>(s: &[u8]) -> Result<R, Refusal>
     Ok(R::of_row(&values, &present))
 }
 
+// The refusal number, 0 for none, and the record; of a refused message the record of zeros, whose signed fields are present.
+pub fn read_or_zero<R: Record>(s: &[u8]) -> (u8, R)
+    ensures refusal { result.0 ≡ (read_record R.FIRST R.LAST R.made s.now).refusal }
+    ensures value { result.1 ≡ (read_record R.FIRST R.LAST R.made s.now).value }
+{
+    match read_record::<R>(s) {
+        Ok(r) => (0, r),
+        Err(refusal) => (number_of(refusal), R::of_row(&[0; 96], &[1; 96])),
+    }
+}
+
 // The message of a record in the first bytes of out; or RANGE, ROOM.
 pub fn write_record<R: Record>(r: R, out: &mut [u8]) -> Result<usize, Refusal>
     ensures answer { as_written result ≡ (write_record R.FIRST R.LAST (R.good r) (R.places r) out.old).answer }
@@ -227,3 +244,19 @@ pub fn grid_held(r: Grid) -> bool
         None => false,
     }
 }
+
+// The numbers, the record, the names and the places that each kind gives are those of its own two definitions.
+pub fn kinds()
+    ensures helmert_read { (s : List ℕ) → read_record ⟦<Helmert as Record>⟧.FIRST ⟦<Helmert as Record>⟧.LAST ⟦<Helmert as Record>⟧.made s ≡ read_helmert s }
+    ensures molodenski_badekas_read { (s : List ℕ) → read_record ⟦<MolodenskiBadekas as Record>⟧.FIRST ⟦<MolodenskiBadekas as Record>⟧.LAST ⟦<MolodenskiBadekas as Record>⟧.made s ≡ read_molodenski_badekas s }
+    ensures grid_read { (s : List ℕ) → read_record ⟦<Grid as Record>⟧.FIRST ⟦<Grid as Record>⟧.LAST ⟦<Grid as Record>⟧.made s ≡ read_grid s }
+    ensures projection_read { (s : List ℕ) → read_record ⟦<Projection as Record>⟧.FIRST ⟦<Projection as Record>⟧.LAST ⟦<Projection as Record>⟧.made s ≡ read_projection s }
+    ensures lambert_read { (s : List ℕ) → read_record ⟦<Lambert as Record>⟧.FIRST ⟦<Lambert as Record>⟧.LAST ⟦<Lambert as Record>⟧.made s ≡ read_lambert s }
+    ensures oblique_mercator_read { (s : List ℕ) → read_record ⟦<ObliqueMercator as Record>⟧.FIRST ⟦<ObliqueMercator as Record>⟧.LAST ⟦<ObliqueMercator as Record>⟧.made s ≡ read_oblique_mercator s }
+    ensures helmert_written { (r : Helmert) (out : List ℕ) → write_record ⟦<Helmert as Record>⟧.FIRST ⟦<Helmert as Record>⟧.LAST (⟦<Helmert as Record>⟧.good r) (⟦<Helmert as Record>⟧.places r) out ≡ write_helmert r out }
+    ensures molodenski_badekas_written { (r : MolodenskiBadekas) (out : List ℕ) → write_record ⟦<MolodenskiBadekas as Record>⟧.FIRST ⟦<MolodenskiBadekas as Record>⟧.LAST (⟦<MolodenskiBadekas as Record>⟧.good r) (⟦<MolodenskiBadekas as Record>⟧.places r) out ≡ write_molodenski_badekas r out }
+    ensures grid_written { (r : Grid) (out : List ℕ) → write_record ⟦<Grid as Record>⟧.FIRST ⟦<Grid as Record>⟧.LAST (⟦<Grid as Record>⟧.good r) (⟦<Grid as Record>⟧.places r) out ≡ write_grid r out }
+    ensures projection_written { (r : Projection) (out : List ℕ) → write_record ⟦<Projection as Record>⟧.FIRST ⟦<Projection as Record>⟧.LAST (⟦<Projection as Record>⟧.good r) (⟦<Projection as Record>⟧.places r) out ≡ write_projection r out }
+    ensures lambert_written { (r : Lambert) (out : List ℕ) → write_record ⟦<Lambert as Record>⟧.FIRST ⟦<Lambert as Record>⟧.LAST (⟦<Lambert as Record>⟧.good r) (⟦<Lambert as Record>⟧.places r) out ≡ write_lambert r out }
+    ensures oblique_mercator_written { (r : ObliqueMercator) (out : List ℕ) → write_record ⟦<ObliqueMercator as Record>⟧.FIRST ⟦<ObliqueMercator as Record>⟧.LAST (⟦<ObliqueMercator as Record>⟧.good r) (⟦<ObliqueMercator as Record>⟧.places r) out ≡ write_oblique_mercator r out }
+{}

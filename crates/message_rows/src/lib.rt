@@ -33,7 +33,7 @@ fn target_of(s: &[u8], number: u64, n: usize) -> usize
     field::field_at(s, 17 + 8 * n, 5) as usize
 }
 
-// SHORT, NUMBER, or LENGTH where a name counter can't be read; else 0.
+// SHORT, NUMBER, or LENGTH where a name counter can't be read.
 fn head_refusal(s: &[u8], number: u64, n: usize) -> Result<(), Refusal>
     requires { (number ≡ field_at s.now 0 12) × (n ≡ source_read s.now number) }
     ensures { outcome_number result ≡ first (head_tests s.now) }
