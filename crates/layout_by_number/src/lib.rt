@@ -10,7 +10,7 @@ ghost use Rattle.layout_tables.specs.Inner.{counter, layout_by};
 ghost use Rattle.layout_by_number.specs.Inner.{checked_refusal, values_checked, present_checked};
 ghost use Rattle.layout_by_number.specs.Private.{Other, named_refusal};
 
-use arith::refusals::Refusal;
+use arith::refusals::{Refusal, outcome_number};
 use layout_tables::{DECLARED, INT};
 
 // A latitude, a longitude or an azimuth of a projection.
@@ -62,31 +62,31 @@ pub fn check_1025(s: &[u8]) -> Result<(), Refusal>
     ensures { outcome_number result ≡ refusal_of layout1025 s.now }
 {
     let r = layout::check_size(s, 196);
-    let r = layout::check_place(r, s, 26, ANGLE_90);
-    layout::check_place(r, s, 60, ANGLE_180)
+    let r = layout::check_place_after(r, s, 26, ANGLE_90);
+    layout::check_place_after(r, s, 60, ANGLE_180)
 }
 
 pub fn check_1026(s: &[u8]) -> Result<(), Refusal>
     ensures { outcome_number result ≡ refusal_of layout1026 s.now }
 {
     let r = layout::check_size(s, 234);
-    let r = layout::check_place(r, s, 26, ANGLE_90);
-    let r = layout::check_place(r, s, 60, ANGLE_180);
-    let r = layout::check_place(r, s, 95, ANGLE_90);
-    layout::check_place(r, s, 129, ANGLE_90)
+    let r = layout::check_place_after(r, s, 26, ANGLE_90);
+    let r = layout::check_place_after(r, s, 60, ANGLE_180);
+    let r = layout::check_place_after(r, s, 95, ANGLE_90);
+    layout::check_place_after(r, s, 129, ANGLE_90)
 }
 
 pub fn check_1027(s: &[u8]) -> Result<(), Refusal>
     ensures { outcome_number result ≡ refusal_of layout1027 s.now }
 {
     let r = layout::check_size(s, 258);
-    let r = layout::check_place(r, s, 27, ANGLE_90);
-    let r = layout::check_place(r, s, 61, ANGLE_180);
-    layout::check_place(r, s, 96, ANGLE_360)
+    let r = layout::check_place_after(r, s, 27, ANGLE_90);
+    let r = layout::check_place_after(r, s, 61, ANGLE_180);
+    layout::check_place_after(r, s, 96, ANGLE_360)
 }
 
 // What the fields of a layout say where a check has passed; or what it refused, or ROOM.
-pub fn decode_checked(
+pub fn decode_after(
     checked: Result<(), Refusal>,
     s: &[u8],
     layout: &[u64],
@@ -106,6 +106,18 @@ pub fn decode_checked(
     }
     layout_reader::read(s, 0, layout, values, present);
     Ok(())
+}
+
+// The same by number: what the fields of a layout say where r, a check's answer, is 0; or r, or 6 ROOM.
+pub fn decode_checked(r: u8, s: &[u8], layout: &[u64], values: &mut [i64], present: &mut [u8]) -> u8
+    ensures answer { result ≡ checked_refusal r (length layout.now) (length values.old) (length present.old) }
+    ensures values { values.new ≡ values_checked r layout.now s.now values.old present.old }
+    ensures present { present.new ≡ present_checked r layout.now s.now values.old present.old }
+{
+    if r != 0 {
+        return r;
+    }
+    outcome_number(decode_after(Ok(()), s, layout, values, present))
 }
 
 // Messages checked, read and written by the layout of their number.
@@ -249,8 +261,8 @@ fn check_named(s: &[u8], bits: usize, n: usize, m: usize) -> Result<(), Refusal>
 {
     let names = 8 * (n + m);
     let r = layout::check_size(s, bits + names);
-    let r = layout::check_place(r, s, 51 + names, LATITUDE);
-    layout::check_place(r, s, 70 + names, LONGITUDE)
+    let r = layout::check_place_after(r, s, 51 + names, LATITUDE);
+    layout::check_place_after(r, s, 70 + names, LONGITUDE)
 }
 
 // Why s is no message of the layout of another number.
@@ -295,7 +307,7 @@ fn decode_other(
     ensures present { present.new ≡ stored (decode_refusal (layout_by number n m) s.now (length values.old) (length present.old)) (map present_in (decode_all (layout_by number n m) 0 s.now)) present.old }
 {
     let plan = other_plan(number, n, m);
-    decode_checked(
+    decode_after(
         check_other(s, number, n, m),
         s,
         plan.layout(),
@@ -321,9 +333,9 @@ pub fn decode_by(
     match number {
         1023 => layout_tables::decode_1023(s, values, present),
         1024 => layout_tables::decode_1024(s, values, present),
-        1025 => decode_checked(check_1025(s), s, &LAYOUT_1025, values, present),
-        1026 => decode_checked(check_1026(s), s, &LAYOUT_1026, values, present),
-        1027 => decode_checked(check_1027(s), s, &LAYOUT_1027, values, present),
+        1025 => decode_after(check_1025(s), s, &LAYOUT_1025, values, present),
+        1026 => decode_after(check_1026(s), s, &LAYOUT_1026, values, present),
+        1027 => decode_after(check_1027(s), s, &LAYOUT_1027, values, present),
         _ => decode_other(s, number, n, m, values, present),
     }
 }

@@ -169,8 +169,8 @@ pub fn check_1023(s: &[u8]) -> Result<(), Refusal>
     ensures { outcome_number result ≡ refusal_of layout1023 s.now }
 {
     let r = layout::check_size(s, 578);
-    let r = layout::check_place(r, s, 22, GRID_LATITUDE);
-    layout::check_place(r, s, 43, GRID_LONGITUDE)
+    let r = layout::check_place_after(r, s, 22, GRID_LATITUDE);
+    layout::check_place_after(r, s, 43, GRID_LONGITUDE)
 }
 
 pub fn check_1024(s: &[u8]) -> Result<(), Refusal>

@@ -148,6 +148,7 @@ fn append_nodes(values: &mut [i64], present: &mut [u8], at: usize, nodes: &[Shif
 }
 
 // What the places of a grid before its nodes say.
+#[tactic(auto, unfolding(record_rows::specs::Numbers::pair_row, crate::specs::Grids::origin_row, crate::specs::Grids::spacing_row, crate::specs::Grids::shifts_row))]
 fn start_row(
     number: i64,
     sin: i64,

@@ -68,6 +68,7 @@ fn append_names(dst: &mut [i64], number: i64, source: Name, target: Name) -> usi
 }
 
 // What the places behind the names that both messages have say.
+#[tactic(auto, unfolding(record_transformations::specs::Transformations::system_row, record_transformations::specs::Transformations::area_row, record_transformations::specs::Transformations::parameters_row))]
 fn shared(s: System, a: Area, p: Parameters) -> [Option<i64>; 16]
     ensures { result ≡ shared s a p }
 {

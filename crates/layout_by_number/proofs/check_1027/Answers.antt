@@ -11,4 +11,4 @@ use Rattle.layout_by_number.proofs.check_1027.Goals as goal
 
 pub returns : goal.returns
 unfolding layout1027 total ranged_at ranged places_refusal
-returns c = rw (c.check_place.ensures, c.check_place-r-2.ensures, c.check_place-r.ensures, c.check_size-r.ensures) (sym (ranged-check layout1027 c.args.s.now (omega (arith, length-1027))))
+returns c = rw (c.check_place_after.ensures, c.check_place_after-r-2.ensures, c.check_place_after-r.ensures, c.check_size-r.ensures) (sym (ranged-check layout1027 c.args.s.now (omega (arith, length-1027))))

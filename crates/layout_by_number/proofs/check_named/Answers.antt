@@ -3,4 +3,4 @@
 use Rattle.layout_by_number.proofs.check_named.Goals as goal
 
 pub returns : goal.returns
-returns c = rw (c.check_place.ensures, c.check_place-r.ensures, c.check_size-r.ensures)
+returns c = rw (c.check_place_after.ensures, c.check_place_after-r.ensures, c.check_size-r.ensures)

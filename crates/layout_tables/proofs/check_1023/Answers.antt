@@ -11,4 +11,4 @@ use Rattle.layout_tables.proofs.check_1023.Goals as goal
 
 pub returns : goal.returns
 unfolding layout1023 total ranged_at ranged places_refusal
-returns c = rw (c.check_place.ensures, c.check_place-r.ensures, c.check_size-r.ensures) (sym (ranged-check layout1023 c.args.s.now (omega (arith, length-1023))))
+returns c = rw (c.check_place_after.ensures, c.check_place_after-r.ensures, c.check_size-r.ensures) (sym (ranged-check layout1023 c.args.s.now (omega (arith, length-1023))))
