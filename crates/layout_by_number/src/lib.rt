@@ -109,6 +109,7 @@ pub fn decode_after(
 }
 
 // The same by number: what the fields of a layout say where r, a check's answer, is 0; or r, or 6 ROOM.
+#[tactic(auto, unfolding(crate::specs::Inner::checked_refusal, crate::specs::Inner::values_checked, crate::specs::Inner::present_checked))]
 pub fn decode_checked(r: u8, s: &[u8], layout: &[u64], values: &mut [i64], present: &mut [u8]) -> u8
     ensures answer { result ≡ checked_refusal r (length layout.now) (length values.old) (length present.old) }
     ensures values { values.new ≡ values_checked r layout.now s.now values.old present.old }
