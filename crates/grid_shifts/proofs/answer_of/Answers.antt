@@ -29,7 +29,7 @@ returns-then-component-lt2 c = ap Seconds (parts 100000 c.ranges.count per-secon
 
 pub returns : goal.returns
 unfolding answer_of
-returns c = ap Metres (parts 10000 c.ranges.count per-metre) ∙ grind (arith, tests, same-yes, same-no, fits-literal)
+returns c = ap Metres (parts 10000 c.ranges.count (grind (arith, per-metre))) ∙ grind (arith, tests, same-yes, same-no, fits-literal)
 
 pub int_to_float-result : goal.int_to_float-result
 int_to_float-result c = casts c.ranges.count c.requires
