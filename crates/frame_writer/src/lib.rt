@@ -27,6 +27,16 @@ fn put_crc(out: &mut [u8], c: u32)
     out[..3].copy_from_slice(&c.to_be_bytes()[1..]);
 }
 
+// The bytes of m in as many bytes of out. A loop over both, since `copy_from_slice` here asks the archive's caller for memmove.
+fn copy(out: &mut [u8], m: &[u8])
+    requires { length out.old ≡ length m.now }
+    ensures { out.new ≡ m.now }
+{
+    for i in 0..m.len() {
+        out[i] = m[i];
+    }
+}
+
 // Head and message in the first bytes of out.
 #[tactic(auto, using(crate::proofs::Put::headed_put))]
 fn put_headed(m: &[u8], out: &mut [u8])
@@ -35,7 +45,7 @@ fn put_headed(m: &[u8], out: &mut [u8])
 {
     put_head(out, m.len());
     let e = m.len() + 3;
-    out[3..e].copy_from_slice(m);
+    copy(&mut out[3..e], m);
 }
 
 // The CRC of head and message, of the message itself and not of the bytes just written, since a word of these would wait for them.

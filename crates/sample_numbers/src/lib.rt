@@ -71,12 +71,22 @@ pub fn put_whole(out: &mut [u8], a: usize, z: i64)
     put_at(out, a, 8, z.cast_unsigned());
 }
 
+// The bytes of s in as many bytes of out. A loop over both, since `copy_from_slice` here asks the archive's caller for memmove.
+fn copy(out: &mut [u8], s: &[u8])
+    requires { length out.old ≡ length s.now }
+    ensures { out.new ≡ s.now }
+{
+    for i in 0..s.len() {
+        out[i] = s[i];
+    }
+}
+
 // out with the bytes of s from byte a on; out as it is where they reach past its end.
 #[tactic(auto, unfolding(crate::specs::Number::put_bytes))]
 pub fn put_bytes(out: &mut [u8], a: usize, s: &[u8])
     ensures { out.new ≡ put_bytes out.old a s.now }
 {
     if within(out.len(), a, s.len()) {
-        out[a..a + s.len()].copy_from_slice(s);
+        copy(&mut out[a..a + s.len()], s);
     }
 }
