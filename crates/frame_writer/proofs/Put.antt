@@ -37,7 +37,7 @@ crc-headed m z a b c p q r s = rw (p, q, r, s) (ap (λ (n : ℕ). crc_from n (he
 
 -- head and message, then the CRC
 module _ (m out t : List ℕ) (room : length m + 6 ≤ length out) (first : t ≡ headed m ++ drop (length m + 3) out) where
-  taken : take (length m + 3) t ≡ headed m
+  pub taken : take (length m + 3) t ≡ headed m
   taken = ap (take (length m + 3)) first ∙ take_at (headed m) (drop (length m + 3) out) (length m + 3) (length-headed m)
 
   left : drop (length m + 3) t ≡ drop (length m + 3) out

@@ -60,7 +60,7 @@ fn count_of(mean: i64, p: Quotient, area: u64) -> i64
     mean + nearest(p.whole, p.rest, area)
 }
 
-// Fills a row with the counts of a sum that grows by the same from place to place. It stands alone, since within its caller the loop is short of registers and slower by a fifth.
+// Fills a row with the counts of a sum that grows by the same from place to place. It stands alone, since within its caller the loop is short of registers and slower by a quarter.
 #[inline(never)]
 pub(crate) fn fill(row: &mut [i64], mean: i64, first: Quotient, by: Quotient, area: u64)
     requires { Fillable mean first by area (length row.old) }
